@@ -1,0 +1,11 @@
+pub mod Options
+pub mod Faults
+pub mod Devices
+pub mod NumberFront
+pub mod Cut
+pub mod Filling
+pub mod BytesLeft
+pub mod Turns
+pub mod NumberLaws
+pub mod Frames
+pub mod StreamLaws

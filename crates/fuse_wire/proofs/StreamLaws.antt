@@ -1,0 +1,242 @@
+-- How the stream behind a sink stands, at the start, after a frame and after a write that failed.
+use Rattle.std.proofs.Common.{◌≡◌, ℕ, ◌+◌, ◌<◌, ◌≤◌, Bool, true, false, Option, None, Some, List, [], ◌∷◌, ◌++◌, length, take, drop, refl, ap, sym, ◌∙◌, subst, arith, append_assoc, length-append}
+use Rattle.std.specs.Prelude.{option_map}
+use Rattle.std.specs.List.{concat, AllByRecursion}
+use Rattle.std.proofs.lemmas.List.{drop_at, append-nil, length-take-le, take-append-drop, take-append-le}
+use Rattle.std.proofs.lemmas.List.Folds.{concat-append}
+use Rattle.std.proofs.Math.Seq.{take-add, take-append-add}
+use Rattle.std.proofs.Math.Logic.{∥∥₁_map, ∥∥₁_elim}
+use Rattle.std.proofs.Props.{props}
+use Rattle.fuse_wire.specs.Faults.{Rose, counted, last_count}
+use Rattle.fuse_wire.specs.Numbers.{number}
+use Rattle.fuse_wire.specs.Sink.{Appends, Refuses}
+use Rattle.fuse_wire.specs.Frames.{IsFrame, frames, frame_length}
+use Rattle.fuse_wire.specs.ByteSink.{ByteSinkState, PutsBytes}
+use Rattle.fuse_wire.specs.StreamSink.{IsTorn, Stands, WritesAll, frames_since, stream_told}
+use Rattle.fuse_wire.proofs.NumberLaws.{number-append}
+use Rattle.fuse_wire.proofs.Frames.{IsTorn-nil, frames-concat_torn}
+
+-- appending nothing to what is told
+pub option-append_nil : {A : Type 0} (told : Option (List A)) → told ≡ option_map (λ held. held ++ []) told
+option-append_nil None = refl
+option-append_nil (Some held) = ap Some (sym (append-nil held))
+
+-- appending twice to what is told
+pub option-append_twice : {A : Type 0} (before middle after : Option (List A)) (first second : List A) → middle ≡ option_map (λ held. held ++ first) before → after ≡ option_map (λ held. held ++ second) middle → after ≡ option_map (λ held. held ++ (first ++ second)) before
+option-append_twice None middle after first second e f = f ∙ ap (option_map (λ held. held ++ second)) e
+option-append_twice (Some held) middle after first second e f = f ∙ ap (option_map (λ held. held ++ second)) e ∙ ap Some (append_assoc held first second)
+
+-- nothing was put
+pub PutsBytes-nil : (state : ByteSinkState) → PutsBytes [] state state
+PutsBytes-nil state = record { bytes = option-append_nil state.bytes; faults = omega arith }
+
+-- one piece was put after another
+pub PutsBytes-append : (first second : List ℕ) (before middle after : ByteSinkState) → PutsBytes first before middle → PutsBytes second middle after → PutsBytes (first ++ second) before after
+PutsBytes-append first second before middle after p q = record {
+  bytes = option-append_twice before.bytes middle.bytes after.bytes first second p.bytes q.bytes;
+  faults = omega arith;
+}
+
+-- the frames told of a stream that stands so
+pub frames_since-concat : (first now : Option (List ℕ)) (sent : List (List ℕ)) (torn : List ℕ) → AllByRecursion IsFrame sent → IsTorn torn → now ≡ option_map (λ held. held ++ (concat sent ++ torn)) first → frames_since first now ≡ option_map (λ held. sent) first
+frames_since-concat None now sent torn each part e = refl
+frames_since-concat (Some held) now sent torn each part e =
+    ap (frames_since (Some held)) e
+    ∙ ap (λ left. Some (frames left)) (drop_at held (concat sent ++ torn) (length held) refl)
+    ∙ ap Some (frames-concat_torn sent torn each part)
+
+-- how a stream stands to which nothing was written, and of which no send was refused
+pub Stands-new : (stream : ByteSinkState) → Stands (stream_told stream stream 0) stream false
+Stands-new stream =
+    let bytes : stream.bytes ≡ option_map (λ held. held ++ (concat [] ++ [])) stream.bytes = option-append_nil stream.bytes in
+    record {
+      sent = [];
+      torn = [];
+      each = tt;
+      told = frames_since-concat stream.bytes stream.bytes [] [] tt IsTorn-nil bytes;
+      bytes = bytes;
+      whole = λ _. refl;
+      part = IsTorn-nil;
+      cause = λ (e : false ≡ true). cc;
+      faults = omega arith;
+      counts = λ _. omega arith;
+    }
+
+-- a piece is written behind one that was
+pub WritesAll-append : (done : Bool) (first second : List ℕ) (before middle after : ByteSinkState) → PutsBytes first before middle → WritesAll done second middle after → WritesAll done (first ++ second) before after
+WritesAll-append true first second before middle after p q = PutsBytes-append first second before middle after p q
+WritesAll-append false first second before middle after p q =
+    let within : q.0 < length second = q.1 in
+    let grown : before.faults ≤ middle.faults = p.faults in
+    let rose : Rose middle.faults after.faults = q.3 in
+    let put : PutsBytes (first ++ take q.0 second) before after = PutsBytes-append first (take q.0 second) before middle after p q.2 in (
+      length first + q.0,
+      omega (arith, length-append first second, within),
+      subst (λ piece. PutsBytes piece before after) (sym (take-append-add first second q.0)) put,
+      λ (last : after.faults < last_count). omega (arith, grown, rose last),
+    )
+
+-- a write that failed in the first of two pieces
+pub WritesAll-front : (first second : List ℕ) (before after : ByteSinkState) → WritesAll false first before after → WritesAll false (first ++ second) before after
+WritesAll-front first second before after q =
+    let within : q.0 < length first = q.1 in (
+      q.0,
+      omega (arith, length-append first second, within),
+      subst (λ piece. PutsBytes piece before after) (sym (take-append-le q.0 first second (omega arith))) q.2,
+      q.3,
+    )
+
+-- one more element behind all that hold
+pub AllByRecursion-push : {X : Type 0} (P : X → Type 0) (xs : List X) (x : X) → AllByRecursion P xs → P x → AllByRecursion P (xs ++ x ∷ [])
+AllByRecursion-push P [] x each here = (here, tt)
+AllByRecursion-push P (y ∷ xs) x each here = (each.0, AllByRecursion-push P xs x each.1 here)
+
+-- what a write that failed left of a frame
+pub IsTorn-take : (frame : List ℕ) (count : ℕ) → IsFrame frame → count < length frame → IsTorn (take count frame)
+IsTorn-take frame count is_frame within =
+    let some : length (take count frame) ≡ count = length-take-le count frame (omega arith) in
+    let parts : take count frame ++ drop count frame ≡ frame = take-append-drop count frame in
+    let total : length (take count frame ++ drop count frame) ≡ length (take count frame) + length (drop count frame) = length-append (take count frame) (drop count frame) in
+    record { more = drop count frame; whole = subst IsFrame (sym parts) is_frame; part = omega (arith, some, ap length parts, total, within) }
+
+-- bytes put behind whole frames
+pub bytes_behind : (first before after : Option (List ℕ)) (sent : List (List ℕ)) (torn more : List ℕ) → torn ≡ [] → before ≡ option_map (λ held. held ++ (concat sent ++ torn)) first → after ≡ option_map (λ held. held ++ more) before → after ≡ option_map (λ held. held ++ (concat sent ++ more)) first
+bytes_behind first before after sent torn more none e f =
+    option-append_twice first before after (concat sent) more
+    (e ∙ ap (λ rest. option_map (λ held. held ++ rest) first) (ap (λ rest. concat sent ++ rest) none ∙ append-nil (concat sent)))
+    f
+
+-- how the stream stands after one more frame
+pub Stands-more : (frame : List ℕ) (origin before after : ByteSinkState) (refused : ℕ) → IsFrame frame → PutsBytes frame before after → Stands (stream_told origin before refused) before false → Stands (stream_told origin after refused) after false
+Stands-more frame origin before after refused is_frame put s =
+    let grown : before.faults ≤ after.faults = put.faults in
+    let since : origin.faults ≤ before.faults = s.faults in
+    let uncounted : counted before.faults refused ≤ before.faults = s.counts refl in
+    let each : AllByRecursion IsFrame (s.sent ++ frame ∷ []) = AllByRecursion-push IsFrame s.sent frame s.each is_frame in
+    let joined : concat s.sent ++ frame ≡ concat (s.sent ++ frame ∷ []) ++ [] =
+    sym (append-nil (concat (s.sent ++ frame ∷ [])) ∙ concat-append s.sent (frame ∷ []) ∙ ap (λ rest. concat s.sent ++ rest) (append-nil frame)) in
+    let bytes : after.bytes ≡ option_map (λ held. held ++ (concat (s.sent ++ frame ∷ []) ++ [])) origin.bytes =
+    bytes_behind origin.bytes before.bytes after.bytes s.sent s.torn frame (s.whole refl) s.bytes put.bytes
+    ∙ ap (λ rest. option_map (λ held. held ++ rest) origin.bytes) joined in
+    record {
+      sent = s.sent ++ frame ∷ [];
+      torn = [];
+      each = each;
+      told = frames_since-concat origin.bytes after.bytes (s.sent ++ frame ∷ []) [] each IsTorn-nil bytes;
+      bytes = bytes;
+      whole = λ _. refl;
+      part = IsTorn-nil;
+      cause = λ (e : false ≡ true). cc;
+      faults = omega arith;
+      counts = λ _. omega (arith, grown, uncounted);
+    }
+
+-- how the stream stands after a write that failed
+pub Stands-torn : (frame : List ℕ) (origin before after : ByteSinkState) (refused : ℕ) → IsFrame frame → WritesAll false frame before after → Stands (stream_told origin before refused) before false → Stands (stream_told origin after refused) after true
+Stands-torn frame origin before after refused is_frame wrote s =
+    let put : PutsBytes (take wrote.0 frame) before after = wrote.2 in
+    let rose : Rose before.faults after.faults = wrote.3 in
+    let grown : before.faults ≤ after.faults = put.faults in
+    let since : origin.faults ≤ before.faults = s.faults in
+    let part : IsTorn (take wrote.0 frame) = IsTorn-take frame wrote.0 is_frame wrote.1 in
+    let bytes : after.bytes ≡ option_map (λ held. held ++ (concat s.sent ++ take wrote.0 frame)) origin.bytes =
+    bytes_behind origin.bytes before.bytes after.bytes s.sent s.torn (take wrote.0 frame) (s.whole refl) s.bytes put.bytes in
+    record {
+      sent = s.sent;
+      torn = take wrote.0 frame;
+      each = s.each;
+      told = frames_since-concat origin.bytes after.bytes s.sent (take wrote.0 frame) s.each part bytes;
+      bytes = bytes;
+      whole = λ (e : true ≡ false). cc;
+      part = part;
+      cause = λ _. λ (last : after.faults < last_count). omega (arith, since, rose last);
+      faults = omega arith;
+      counts = λ (e : true ≡ false). cc;
+    }
+
+-- a send that is refused after a write has failed leaves the stream as it stands
+pub Stands-refused : (origin now : ByteSinkState) (refused more : ℕ) (broken : Bool) → broken ≡ true → Stands (stream_told origin now refused) now broken → Stands (stream_told origin now more) now broken
+Stands-refused origin now refused more broken failed s = record {
+  sent = s.sent;
+  torn = s.torn;
+  each = s.each;
+  told = s.told;
+  bytes = s.bytes;
+  whole = s.whole;
+  part = s.part;
+  cause = s.cause;
+  faults = s.faults;
+  counts = λ (whole : broken ≡ false). cc;
+}
+
+-- more frames told, at the end of those that were
+pub told_more : (first : Option (List ℕ)) (before after : Option (List (List ℕ))) (sent more : List (List ℕ)) → before ≡ option_map (λ held. sent) first → after ≡ option_map (λ held. sent ++ more) first → after ≡ option_map (λ held. held ++ more) before
+told_more None before after sent more e f = f ∙ sym (ap (option_map (λ held. held ++ more)) e)
+told_more (Some held) before after sent more e f = f ∙ sym (ap (option_map (λ frames. frames ++ more)) e)
+
+-- what a stream tells after one more frame
+pub framed_more : (frame : List ℕ) (origin before after : ByteSinkState) (refused : ℕ) → IsFrame frame → PutsBytes frame before after → Stands (stream_told origin before refused) before false → frames_since origin.bytes after.bytes ≡ option_map (λ held. held ++ frame ∷ []) (frames_since origin.bytes before.bytes)
+unfolding Stands-more
+framed_more frame origin before after refused is_frame put s =
+    told_more origin.bytes _ _ s.sent (frame ∷ []) s.told (Stands-more frame origin before after refused is_frame put s).told
+
+-- what a stream tells after a write that failed
+pub framed_torn : (frame : List ℕ) (origin before after : ByteSinkState) (refused : ℕ) → IsFrame frame → WritesAll false frame before after → Stands (stream_told origin before refused) before false → frames_since origin.bytes after.bytes ≡ option_map (λ held. held ++ []) (frames_since origin.bytes before.bytes)
+unfolding Stands-torn
+framed_torn frame origin before after refused is_frame wrote s =
+    (Stands-torn frame origin before after refused is_frame wrote s).told ∙ sym s.told ∙ option-append_nil (frames_since origin.bytes before.bytes)
+
+-- header and payload are one frame
+pub IsFrame-joined : (header payload : List ℕ) → length header ≡ 16 → number header 0 4 ≡ 16 + length payload → IsFrame (header ++ payload)
+IsFrame-joined header payload size field =
+    let total : length (header ++ payload) ≡ length header + length payload = length-append header payload in
+    let same : frame_length (header ++ payload) ≡ number header 0 4 = number-append header payload 0 4 (omega arith) in
+    record { header = omega (arith, total, size); length_field = omega (arith, total, size, same, field) }
+
+-- a sink that is whole stays so after one more frame
+pub kept_more : (frame : List ℕ) (origin before after : ByteSinkState) (refused : ℕ) (broken : Bool) → broken ≡ false → IsFrame frame → PutsBytes frame before after → ∥ Stands (stream_told origin before refused) before broken ∥₁ → ∥ Stands (stream_told origin after refused) after broken ∥₁
+kept_more frame origin before after refused true whole is_frame put s = cc
+kept_more frame origin before after refused false whole is_frame put s = ∥∥₁_map s (Stands-more frame origin before after refused is_frame put)
+
+-- a sink is broken after a write that failed
+pub kept_torn : (frame : List ℕ) (origin before after : ByteSinkState) (refused : ℕ) (broken : Bool) → broken ≡ false → IsFrame frame → WritesAll false frame before after → ∥ Stands (stream_told origin before refused) before broken ∥₁ → ∥ Stands (stream_told origin after refused) after true ∥₁
+kept_torn frame origin before after refused true whole is_frame wrote s = cc
+kept_torn frame origin before after refused false whole is_frame wrote s = ∥∥₁_map s (Stands-torn frame origin before after refused is_frame wrote)
+
+-- a send that is refused after a write has failed keeps what was told
+pub kept_refused : (origin now : ByteSinkState) (refused more : ℕ) (broken : Bool) → broken ≡ true → ∥ Stands (stream_told origin now refused) now broken ∥₁ → ∥ Stands (stream_told origin now more) now broken ∥₁
+kept_refused origin now refused more broken failed s = ∥∥₁_map s (Stands-refused origin now refused more broken failed)
+
+-- one more frame is told after it was written
+pub Appends-more : (frame : List ℕ) (origin before after : ByteSinkState) (refused : ℕ) (broken : Bool) → broken ≡ false → IsFrame frame → PutsBytes frame before after → ∥ Stands (stream_told origin before refused) before broken ∥₁ → Appends (frame ∷ []) [] (stream_told origin before refused) (stream_told origin after refused)
+Appends-more frame origin before after refused true whole is_frame put s = cc
+Appends-more frame origin before after refused false whole is_frame put s =
+    let grown : before.faults ≤ after.faults = put.faults in
+    record {
+      framed = ∥∥₁_elim s (hlevel props) (framed_more frame origin before after refused is_frame put);
+      noted = refl;
+      faults = omega arith;
+      origin = refl;
+    }
+
+-- nothing is told of a frame whose write failed, and a fault is counted
+pub Refuses-torn : (frame : List ℕ) (origin before after : ByteSinkState) (refused : ℕ) (broken : Bool) → broken ≡ false → IsFrame frame → WritesAll false frame before after → ∥ Stands (stream_told origin before refused) before broken ∥₁ → Refuses (stream_told origin before refused) (stream_told origin after refused)
+Refuses-torn frame origin before after refused true whole is_frame wrote s = cc
+Refuses-torn frame origin before after refused false whole is_frame wrote s =
+    let put : PutsBytes (take wrote.0 frame) before after = wrote.2 in
+    let grown : before.faults ≤ after.faults = put.faults in
+    let rose : after.faults < last_count → before.faults < after.faults = wrote.3 in
+    let told : Appends [] [] (stream_told origin before refused) (stream_told origin after refused) = record {
+      framed = ∥∥₁_elim s (hlevel props) (framed_torn frame origin before after refused is_frame wrote);
+      noted = refl;
+      faults = omega arith;
+      origin = refl;
+    } in
+    (told, λ (last : counted after.faults refused < last_count). omega (arith, grown, rose))
+
+-- the front that is written grows by what one more write took of the rest
+pub PutsBytes-take : (piece rest : List ℕ) (count more : ℕ) (before middle after : ByteSinkState) → rest ≡ drop count piece → PutsBytes (take count piece) before middle → PutsBytes (take more rest) middle after → PutsBytes (take (count + more) piece) before after
+PutsBytes-take piece rest count more before middle after left p q =
+    let parts : take count piece ++ take more rest ≡ take (count + more) piece =
+    ap (λ behind. take count piece ++ take more behind) left ∙ sym (take-add count more piece) in
+    subst (λ put. PutsBytes put before after) parts (PutsBytes-append (take count piece) (take more rest) before middle after p q)

@@ -1,0 +1,20 @@
+-- Streams of bytes to read: what one call of `read` does.
+use Rattle.std.specs.Prelude.{◌≡◌, ◌≤◌, ◌++◌, ℕ, [], List, Option, IfSome, option_map, length, take}
+use Rattle.fuse_wire.specs.Faults.{Rose}
+use Rattle.fuse_wire.specs.declared.byte_source.ByteRead.{ByteRead}
+use Rattle.fuse_wire.specs.declared.byte_source.ByteRead.TheVariants.{Got, End, Failed}
+
+-- the bytes left, where the device tells them, and how often it has failed
+pub record ByteSourceState : Type 0 where
+  pub bytes : Option (List ℕ)
+  pub faults : ℕ
+
+-- these bytes were taken from the front
+pub record TakesBytes (taken : List ℕ) (before after : ByteSourceState) : Type 0 where
+  pub bytes : before.bytes ≡ option_map (λ left. taken ++ left) after.bytes
+  pub faults : before.faults ≤ after.faults
+
+abbrev pub Reads : ByteRead → ByteSourceState → ByteSourceState → List ℕ → Type 0
+Reads (Got n) before after piece = (1 ≤ n) × (n ≤ length piece) × TakesBytes (take n piece) before after
+Reads End before after piece = IfSome before.bytes (λ left. left ≡ []) × TakesBytes [] before after
+Reads Failed before after piece = (before.faults ≤ after.faults) × Rose before.faults after.faults

@@ -1,0 +1,16 @@
+pub mod Numbers
+pub mod Errno
+pub mod Faults
+pub mod Frames
+pub mod Cut
+pub mod ByteSource
+pub mod ByteSink
+pub mod Source
+pub mod Sink
+pub mod Turns
+pub mod MemorySink
+pub mod StreamSource
+pub mod StreamSink
+pub mod HeldSink
+pub mod InitFlags
+pub mod Times

@@ -1,0 +1,11 @@
+-- Points in time, as the protocol has them: `atime` and `atimensec` of `struct fuse_attr`, and the like.
+use Rattle.std.specs.Prelude.{ℕ, ℤ, pos, negsuc, ◌-◌, ◌^◌, ◌/◌, ◌%◌, nat_le, if◌then◌else◌}
+
+-- the seconds and nanoseconds of a time in nanoseconds: the seconds are rounded down, so that the nanoseconds are above them;
+-- past the last second of an i64 its last moment, and before the first second that one
+abbrev pub time_out : ℤ → ℤ × ℕ
+time_out (pos n) =
+    if nat_le (2 ^ 63) (n / 1000000000) then (pos (2 ^ 63 - 1), 999999999) else (pos (n / 1000000000), n % 1000000000)
+time_out (negsuc n) =
+    if nat_le (2 ^ 63) (n / 1000000000) then (negsuc (2 ^ 63 - 1), 0)
+    else (negsuc (n / 1000000000), 999999999 - n % 1000000000)

@@ -1,0 +1,41 @@
+// Spans of time.
+ghost use Rattle.std.specs.Prelude.{◌≡◌, ◌+◌, ◌*◌, ◌<◌, ◌^◌};
+
+use std::marker::Model;
+
+/// A span of time, in whole nanoseconds. A contract sees their number.
+#[derive(Clone, Copy, Debug, PartialEq, Eq, PartialOrd, Ord, Hash)]
+pub struct Duration {
+    secs: u64,
+    nanos: u32,
+}
+
+impl Model for Duration {
+    ghost use Rattle.std.specs.Prelude.{ℕ, ◌<◌, ◌^◌, ◌+◌, ◌*◌, ◌/◌, ◌%◌};
+    ghost use Rattle.std.proofs.Common.{arith};
+
+    ghost Value = { ℕ };
+
+    ghost view = { λ d. d.secs * 1000000000 + d.nanos };
+
+    ghost invariant = { λ d. d.nanos < 1000000000 };
+
+    ghost inverse = { λ n. record { secs = n / 1000000000; nanos = n % 1000000000 } };
+}
+
+impl Duration {
+    /// So many seconds, and nanoseconds below 10^9.
+    pub fn new(secs: u64, nanos: u32) -> Duration
+        requires { nanos < 1000000000 }
+        ensures { result ≡ secs * 1000000000 + nanos }
+    {
+        Duration { secs, nanos }
+    }
+
+    /// All of it in nanoseconds.
+    pub fn as_nanos(&self) -> u128
+        ensures { result ≡ self.now }
+    {
+        self.secs as u128 * 1000000000 + self.nanos as u128
+    }
+}

@@ -1,0 +1,52 @@
+//! Numbers, names and devices of the FUSE protocol, ABI 7.40, little-endian.
+//! The layers above rely on this: a number in a message is the sum of its bytes at a fixed offset, and a
+//! device that fails counts it, so that each fault has a cause that can be seen.
+#![tactic(auto)]
+
+mod byte_sink;
+mod byte_source;
+pub mod consts;
+mod duration;
+mod errno;
+mod file_attr;
+mod init_flags;
+mod items;
+mod memory_bytes;
+mod memory_out;
+mod memory_sink;
+mod memory_source;
+mod newtypes;
+mod numbers;
+mod open_flags;
+mod pieces;
+mod sink;
+mod source;
+#[cfg(test)]
+mod source_tests;
+mod std_sink;
+mod std_source;
+mod stream_sink;
+mod stream_source;
+mod time;
+
+pub use byte_sink::{ByteSink, ByteWrite};
+pub use byte_source::{ByteRead, ByteSource};
+pub use duration::Duration;
+pub use errno::Errno;
+pub use file_attr::{FileAttr, FileType};
+pub use init_flags::InitFlags;
+pub use items::Items;
+pub use memory_bytes::MemoryBytes;
+pub use memory_out::MemoryOut;
+pub use memory_sink::MemorySink;
+pub use memory_source::{MemorySource, Turn};
+pub use newtypes::{FileHandle, Generation, INodeNo, LockOwner, RequestId, Version};
+pub use numbers::{i32_at, u32_at, u32_or_zero_at, u64_at};
+pub use open_flags::OpenFlags;
+pub use sink::{Noting, Sending, Sink};
+pub use source::{Received, Source};
+pub use std_sink::StdSink;
+pub use std_source::StdSource;
+pub use stream_sink::StreamSink;
+pub use stream_source::StreamSource;
+pub use time::{SystemTime, time_from_system_time};

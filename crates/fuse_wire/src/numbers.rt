@@ -1,0 +1,59 @@
+// Reading a little-endian number at an offset.
+ghost use Rattle.std.specs.Prelude.{◌≡◌, ◌+◌, ◌≤◌, ◌<◌, ◌^◌, length, slice_index};
+ghost use Rattle.std.specs.Int.{w32};
+ghost use Rattle.fuse_wire.specs.Numbers.{number, signed};
+
+/// The `u32` at an offset.
+#[tactic(auto, unfolding(crate::specs::Numbers::number))]
+pub fn u32_at(bytes: &[u8], at: usize) -> u32
+    requires { at + 4 ≤ length bytes.now }
+    ensures { result ≡ number bytes.now at 4 }
+{
+    u32::from_le_bytes([bytes[at], bytes[at + 1], bytes[at + 2], bytes[at + 3]])
+}
+
+/// The `u64` at an offset.
+#[tactic(auto, unfolding(crate::specs::Numbers::number))]
+pub fn u64_at(bytes: &[u8], at: usize) -> u64
+    requires { at + 8 ≤ length bytes.now }
+    ensures { result ≡ number bytes.now at 8 }
+{
+    u64::from_le_bytes([
+        bytes[at],
+        bytes[at + 1],
+        bytes[at + 2],
+        bytes[at + 3],
+        bytes[at + 4],
+        bytes[at + 5],
+        bytes[at + 6],
+        bytes[at + 7],
+    ])
+}
+
+/// The `i32` at an offset.
+pub fn i32_at(bytes: &[u8], at: usize) -> i32
+    requires { at + 4 ≤ length bytes.now }
+    ensures { result ≡ signed w32 bytes.now at }
+{
+    u32_at(bytes, at).cast_signed()
+}
+
+/// The `u32` at an offset, where a byte that is not there counts as 0.
+#[tactic(auto, unfolding(crate::specs::Numbers::number))]
+pub fn u32_or_zero_at(bytes: &[u8], at: usize) -> u32
+    requires { at + 4 < 2 ^ 64 }
+    ensures { result ≡ number bytes.now at 4 }
+{
+    u32::from_le_bytes([
+        byte_or_zero_at(bytes, at),
+        byte_or_zero_at(bytes, at + 1),
+        byte_or_zero_at(bytes, at + 2),
+        byte_or_zero_at(bytes, at + 3),
+    ])
+}
+
+fn byte_or_zero_at(bytes: &[u8], at: usize) -> u8
+    ensures { result ≡ slice_index bytes.now at }
+{
+    bytes.get(at).copied().unwrap_or(0)
+}

@@ -1,0 +1,69 @@
+// Messages cut from a stream of bytes.
+ghost use Rattle.std.specs.Prelude.{◌≡◌, ◌≤◌, length};
+ghost use Rattle.fuse_wire.specs.Numbers.{number};
+ghost use Rattle.fuse_wire.specs.StreamSource.{held, Fills, stream_told};
+
+use crate::consts::BUFFER_SIZE;
+use crate::{ByteRead, ByteSource, Received, Source, u32_at};
+
+/// How long a request header is: `struct fuse_in_header`.
+const HEADER_SIZE: usize = 40;
+
+/// A source that cuts a stream of bytes into messages, by their length fields.
+#[derive(Debug)]
+pub struct StreamSource<I> {
+    inner: I,
+}
+
+impl<I> StreamSource<I> {
+    /// Cuts the bytes of this stream.
+    pub fn new(inner: I) -> StreamSource<I>
+        ensures { held result ≡ inner }
+    {
+        StreamSource { inner }
+    }
+
+    /// The stream, at the byte behind the last message that was taken.
+    pub fn into_inner(self) -> I
+        ensures { result ≡ held self }
+    {
+        let StreamSource { inner } = self;
+        inner
+    }
+}
+
+/// Reads until the piece is full or no byte is left, and says how many bytes came. None is a fault.
+fn fill<I: ByteSource>(inner: &mut I, piece: &mut [u8]) -> Option<usize>
+    ensures { Fills result (length piece.old) (I.told inner.old) (I.told inner.new) piece.new }
+{
+    let mut count = 0;
+    while count < piece.len() {
+        match inner.read(&mut piece[count..]) {
+            ByteRead::Got(more) => count += more,
+            ByteRead::End => return Some(count),
+            ByteRead::Failed => return None,
+        }
+    }
+    Some(count)
+}
+
+impl<I: ByteSource> Source for StreamSource<I> {
+    ghost told = { λ s. stream_told (I.told s.inner) };
+
+    fn receive(&mut self, buffer: &mut [u8]) -> Received {
+        let Some(count) = fill(&mut self.inner, &mut buffer[..HEADER_SIZE]) else {
+            return Received::Failed;
+        };
+        if count == 0 {
+            return Received::Gone;
+        }
+        if count < HEADER_SIZE {
+            return Received::Message(count);
+        }
+        let end = (u32_at(buffer, 0) as usize).clamp(HEADER_SIZE, BUFFER_SIZE);
+        match fill(&mut self.inner, &mut buffer[HEADER_SIZE..end]) {
+            Some(more) => Received::Message(HEADER_SIZE + more),
+            None => Received::Failed,
+        }
+    }
+}
