@@ -1,0 +1,4 @@
+pub mod Asker
+pub mod InitOperation
+pub mod Header
+pub mod Operation

@@ -1,0 +1,143 @@
+// A message taken apart.
+ghost use Rattle.std.specs.Prelude.{◌≡◌, ◌≤◌, length};
+ghost use Rattle.fuse_request.specs.Header.{Decodes, header_fields, body_of, header_of, request_of};
+ghost use Rattle.fuse_request.specs.Operation.{Is, operation};
+
+use crate::{Destroy, Init, Operation, Request, RequestError};
+use fuse_args::ArgumentIterator;
+use fuse_wire::{INodeNo, RequestId, u32_at, u64_at};
+
+/// How long a header is.
+const HEADER_SIZE: usize = 40;
+
+/// What stands in front of every message: `struct fuse_in_header`.
+#[derive(Clone, Copy, Debug, PartialEq, Eq)]
+pub struct Header {
+    /// What is asked.
+    pub opcode: u32,
+    /// The number of the request.
+    pub unique: RequestId,
+    /// The inode that it is about.
+    pub nodeid: INodeNo,
+    /// The user on whose behalf it is made.
+    pub uid: u32,
+    /// That user's group.
+    pub gid: u32,
+    /// The process that makes it.
+    pub pid: u32,
+}
+
+/// A message with a good header, whose body is borrowed from it.
+#[derive(Clone, Copy, Debug)]
+pub struct AnyRequest<'a> {
+    header: Header,
+    body: &'a [u8],
+}
+
+/// The header's fields.
+fn header_at(message: &[u8]) -> Header
+    requires { 40 ≤ length message.now }
+    ensures { result ≡ header_fields message.now }
+{
+    Header {
+        opcode: u32_at(message, 4),
+        unique: RequestId(u64_at(message, 8)),
+        nodeid: INodeNo(u64_at(message, 16)),
+        uid: u32_at(message, 24),
+        gid: u32_at(message, 28),
+        pid: u32_at(message, 32),
+    }
+}
+
+impl<'a> AnyRequest<'a> {
+    /// Takes a message apart. What follows the bytes that its header counts is ignored.
+    pub fn try_from(message: &'a [u8]) -> Result<AnyRequest<'a>, RequestError>
+        ensures { Decodes result message.now }
+    {
+        if message.len() < HEADER_SIZE {
+            return Err(RequestError::ShortReadHeader(message.len()));
+        }
+        let len = u32_at(message, 0) as usize;
+        if message.len() < len {
+            return Err(RequestError::ShortRead(message.len(), len));
+        }
+        if len < HEADER_SIZE {
+            return Err(RequestError::InsufficientData);
+        }
+        Ok(AnyRequest {
+            header: header_at(message),
+            body: &message[HEADER_SIZE..len],
+        })
+    }
+
+    /// The number of the request.
+    pub fn unique(&self) -> RequestId
+        ensures { result ≡ (header_of self.now).unique }
+    {
+        self.header.unique
+    }
+
+    /// The inode that it is about.
+    pub fn nodeid(&self) -> INodeNo
+        ensures { result ≡ (header_of self.now).nodeid }
+    {
+        self.header.nodeid
+    }
+
+    /// The user on whose behalf it is made.
+    pub fn uid(&self) -> u32
+        ensures { result ≡ (header_of self.now).uid }
+    {
+        self.header.uid
+    }
+
+    /// That user's group.
+    pub fn gid(&self) -> u32
+        ensures { result ≡ (header_of self.now).gid }
+    {
+        self.header.gid
+    }
+
+    /// The process that makes it.
+    pub fn pid(&self) -> u32
+        ensures { result ≡ (header_of self.now).pid }
+    {
+        self.header.pid
+    }
+
+    /// The number of the operation.
+    pub fn opcode(&self) -> u32
+        ensures { result ≡ (header_of self.now).opcode }
+    {
+        self.header.opcode
+    }
+
+    /// Who asks.
+    pub fn request(&self) -> Request
+        ensures { result ≡ request_of (header_of self.now) }
+    {
+        Request {
+            unique: self.header.unique,
+            uid: self.header.uid,
+            gid: self.header.gid,
+            pid: self.header.pid,
+        }
+    }
+
+    /// What is asked.
+    pub fn operation(&self) -> Result<Operation, RequestError>
+        ensures { Is result (operation (header_of self.now).opcode (body_of self.now)) }
+    {
+        match self.header.opcode {
+            26 => {
+                let mut arguments = ArgumentIterator::new(self.body);
+                match arguments.fetch_init() {
+                    Some(init) => Ok(Operation::Init(Init::new(init))),
+                    None => Err(RequestError::InsufficientData),
+                }
+            }
+            38 => Ok(Operation::Destroy(Destroy)),
+            opcode => Err(RequestError::UnknownOperation(opcode)),
+        }
+    }
+}
