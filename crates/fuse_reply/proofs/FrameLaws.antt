@@ -1,0 +1,53 @@
+-- Frames: what their fields read, and which of them are replies.
+use Rattle.std.proofs.Common.{◌≡◌, ◌≤◌, ◌<◌, ◌+◌, ◌-◌, ◌^◌, ◌++◌, ◌&&◌, ℕ, ℤ, pos, zero, suc, List, [], false, length, ap, sym, ◌∙◌, arith, negsuc, nat_lt}
+use Rattle.std.proofs.Math.Bool.{and-false}
+use Rattle.std.proofs.lemmas.Bool.{le-ltb}
+use Rattle.std.specs.Int.{w32, w64, to_le_bytes, cast_unsigned}
+use Rattle.fuse_wire.specs.Numbers.{number}
+use Rattle.fuse_wire.specs.Frames.{IsFrame}
+use Rattle.fuse_wire.proofs.NumberLaws.{number-to_le_bytes_4, number-append_right}
+use Rattle.fuse_reply.specs.Answer.{Answer, IsAnswer}
+use Rattle.fuse_reply.specs.Answer.Answer.{Error, Empty}
+use Rattle.fuse_reply.specs.Frame.{frame, reply, is_set_aside}
+
+-- a frame is its header and its payload
+pub length-frame : (id : ℕ) (status : ℤ) (p : List ℕ) → length (frame id status p) ≡ 16 + length p
+unfolding frame
+length-frame id status p = omega arith
+
+-- a frame begins with its own length
+pub number-frame_length : (id : ℕ) (status : ℤ) (p : List ℕ) → length p ≤ 2 ^ 32 - 17 → number (frame id status p) 0 4 ≡ length (frame id status p)
+unfolding frame
+number-frame_length id status p fits =
+    let read : number (frame id status p) 0 4 ≡ 16 + length p =
+    number-to_le_bytes_4 (16 + length p) (to_le_bytes w32 (cast_unsigned w32 status) ++ to_le_bytes w64 id ++ p) (omega (arith, fits)) in
+    read ∙ sym (length-frame id status p)
+
+-- a frame is one frame on a stream
+pub is_frame-frame : (id : ℕ) (status : ℤ) (p : List ℕ) → length p ≤ 2 ^ 32 - 17 → IsFrame (frame id status p)
+unfolding frame
+is_frame-frame id status p fits = record { header = omega (arith, length-frame id status p); length_field = number-frame_length id status p fits }
+
+-- behind the length stands the status, in two's complement
+pub number-frame_status : (id : ℕ) (status : ℤ) (p : List ℕ) → cast_unsigned w32 status < 2 ^ 32 → number (frame id status p) 4 4 ≡ cast_unsigned w32 status
+unfolding frame
+number-frame_status id status p fits =
+    number-append_right (to_le_bytes w32 (16 + length p)) (to_le_bytes w32 (cast_unsigned w32 status) ++ to_le_bytes w64 id ++ p) 0 4
+    ∙ number-to_le_bytes_4 (cast_unsigned w32 status) (to_le_bytes w64 id ++ p) fits
+
+-- a frame whose status is zero is a reply
+pub not_set_aside-frame_zero : (id : ℕ) (p : List ℕ) → is_set_aside (frame id (pos 0) p) ≡ false
+not_set_aside-frame_zero id p = ap (λ n. nat_lt 0 n && nat_lt n (2 ^ 31)) (number-frame_status id (pos 0) p (omega arith))
+
+-- nor is a frame set aside whose status is an error's number below zero
+pub not_set_aside-frame_error : (id errno : ℕ) (p : List ℕ) → suc errno < 2 ^ 31 → is_set_aside (frame id (negsuc errno) p) ≡ false
+not_set_aside-frame_error id errno p small =
+    let read : number (frame id (negsuc errno) p) 4 4 ≡ 2 ^ 32 - suc errno = number-frame_status id (negsuc errno) p (omega arith) in
+    let high : nat_lt (2 ^ 32 - suc errno) (2 ^ 31) ≡ false = le-ltb (2 ^ 32 - suc errno) (2 ^ 31) (omega (arith, small)) in
+    ap (λ n. nat_lt 0 n && nat_lt n (2 ^ 31)) read ∙ ap (λ b. nat_lt 0 (2 ^ 32 - suc errno) && b) high ∙ and-false _
+
+-- no reply is set aside
+pub not_set_aside-reply : (id : ℕ) (a : Answer) → IsAnswer a → is_set_aside (reply id a) ≡ false
+not_set_aside-reply id (Error zero) valid = not_set_aside-frame_zero id []
+not_set_aside-reply id (Error (suc errno)) valid = not_set_aside-frame_error id errno [] valid.1
+not_set_aside-reply id Empty valid = not_set_aside-frame_zero id []

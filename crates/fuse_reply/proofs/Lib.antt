@@ -1,0 +1,2 @@
+pub mod FrameLength
+pub mod FrameLaws

@@ -1,0 +1,22 @@
+-- What becomes of what goes out.
+use Rattle.std.specs.Prelude.{◌≡◌, [], ◌∷◌}
+use Rattle.fuse_wire.specs.Sink.{SinkState, Appends, Refuses}
+use Rattle.fuse_reply.specs.declared.out.Out.{Out}
+use Rattle.fuse_reply.specs.declared.out.Out.TheVariants.{Frame, Note, Deferred}
+use Rattle.fuse_reply.specs.declared.out.OutEnd.{OutEnd}
+use Rattle.fuse_reply.specs.declared.out.OutEnd.TheVariants.{Written, Noted, Lost, Marked}
+
+-- a frame is put at the end, or refused; a note likewise; nothing is sent for what is deferred
+abbrev pub Delivers : OutEnd → Out → SinkState → SinkState → Type 0
+Delivers Written (Frame f) before after = Appends (f ∷ []) [] before after
+Delivers Lost (Frame f) before after = Refuses before after
+Delivers Noted (Frame f) before after = ⊥
+Delivers Marked (Frame f) before after = ⊥
+Delivers Noted (Note id mark) before after = Appends [] ((id.0, mark) ∷ []) before after
+Delivers Lost (Note id mark) before after = Refuses before after
+Delivers Written (Note id mark) before after = ⊥
+Delivers Marked (Note id mark) before after = ⊥
+Delivers Marked (Deferred seq id) before after = after ≡ before
+Delivers Written (Deferred seq id) before after = ⊥
+Delivers Noted (Deferred seq id) before after = ⊥
+Delivers Lost (Deferred seq id) before after = ⊥

@@ -1,0 +1,32 @@
+-- Frames: a header (`struct fuse_out_header` of `fuse.h`) and a payload.
+use Rattle.std.specs.Prelude.{ℕ, ◌+◌, ◌^◌, ◌++◌, ◌&&◌, List, [], Bool, length, nat_lt, ℤ, pos}
+use Rattle.std.specs.Int.{w32, w64, to_le_bytes, cast_unsigned}
+use Rattle.std.specs.Prelude.{neg_ℤ}
+use Rattle.fuse_wire.specs.Numbers.{number}
+use Rattle.fuse_reply.specs.Answer.{Answer}
+use Rattle.fuse_reply.specs.Answer.Answer.{Error, Empty}
+
+-- len4 error4 unique8, where the length counts the header too
+abbrev pub out_header : (id : ℕ) (status : ℤ) (payload_length : ℕ) → List ℕ
+out_header id status size = to_le_bytes w32 (16 + size) ++ to_le_bytes w32 (cast_unsigned w32 status) ++ to_le_bytes w64 id
+
+unfoldable pub frame : (id : ℕ) (status : ℤ) (payload : List ℕ) → List ℕ
+frame id status payload = out_header id status (length payload) ++ payload
+
+-- the payload of an answer
+abbrev pub payload : Answer → List ℕ
+payload (Error errno) = []
+payload Empty = []
+
+-- the status of an answer: zero, or an error's number below zero
+abbrev pub status : Answer → ℤ
+status (Error errno) = neg_ℤ (pos errno)
+status Empty = pos 0
+
+-- the frame that carries an answer to the request of that id
+abbrev pub reply : (id : ℕ) → Answer → List ℕ
+reply id answer = frame id (status answer) (payload answer)
+
+-- A frame is set aside, and is no reply, where its status is positive.
+abbrev pub is_set_aside : List ℕ → Bool
+is_set_aside f = nat_lt 0 (number f 4 4) && nat_lt (number f 4 4) (2 ^ 31)

@@ -1,0 +1,4 @@
+pub mod Answer
+pub mod Frame
+pub mod Deliver
+pub mod Notice

@@ -1,0 +1,17 @@
+//! Replies: each is made for one request, is spent once into what goes out, and goes out as one frame.
+//! The layers above rely on this: what goes out is the frame of that request's id and of the answer given.
+#![tactic(auto)]
+
+mod empty;
+mod no_memory;
+mod out;
+mod packed;
+mod replied;
+#[cfg(test)]
+mod tests;
+
+pub use empty::ReplyEmpty;
+pub use no_memory::NoMemory;
+pub use out::{Out, OutEnd};
+pub use packed::Packed;
+pub use replied::Replied;

@@ -1,0 +1,56 @@
+// What goes out for a message.
+ghost use Rattle.std.specs.Prelude.{◌≡◌};
+ghost use Rattle.fuse_reply.specs.Deliver.{Delivers};
+
+use crate::Packed;
+use fuse_wire::{Noting, RequestId, Sending, Sink};
+
+/// What goes out for a message.
+#[derive(Debug, Drop)]
+pub enum Out {
+    /// A frame.
+    Frame(Packed),
+    /// A note in place of a frame: a forget's request, and the mark that its filesystem gave.
+    Note(RequestId, u64),
+    /// Nothing yet: the reply of the message with this number and request comes later.
+    Deferred(u64, RequestId),
+}
+
+/// What became of it.
+#[derive(Clone, Copy, Debug, PartialEq, Eq)]
+pub enum OutEnd {
+    /// The frame was taken.
+    Written,
+    /// The note was taken.
+    Noted,
+    /// The frame or note was not taken, and the sink counted it.
+    Lost,
+    /// Nothing was to be sent.
+    Marked,
+}
+
+impl Out {
+    /// A note in place of a frame.
+    pub fn note(id: RequestId, mark: u64) -> Out
+        ensures { result ≡ Out.Note id mark }
+    {
+        Out::Note(id, mark)
+    }
+
+    /// Hands it to a sink, once.
+    pub fn send<K: Sink>(self, sink: &mut K) -> OutEnd
+        ensures { Delivers result self (K.told sink.old) (K.told sink.new) }
+    {
+        match self {
+            Out::Frame(packed) => match packed.send(sink) {
+                Sending::Sent => OutEnd::Written,
+                Sending::Absent | Sending::Failed => OutEnd::Lost,
+            },
+            Out::Note(id, mark) => match sink.note(id, mark) {
+                Noting::Sent => OutEnd::Noted,
+                Noting::Failed => OutEnd::Lost,
+            },
+            Out::Deferred(_, _) => OutEnd::Marked,
+        }
+    }
+}
