@@ -1,0 +1,200 @@
+// What INIT negotiates.
+ghost use Rattle.std.specs.Prelude.{◌≡◌, ◌≤◌, ◌<◌, length, take};
+ghost use Rattle.std.specs.Int.RustNames.{bit_and};
+ghost use Rattle.fuse_config.specs.Configuration.{start, known_without_ext, threshold_of, max_pages_of, granted_of, init_layout, init_payload, init_payload_length, version_payload};
+
+use bitflags::Flags;
+use fuse_wire::{Duration, InitFlags, Version};
+use std::marker::Model;
+
+/// How many requests the kernel may have waiting in the background, if nothing else is set.
+const DEFAULT_MAX_BACKGROUND: u16 = 16;
+
+/// The most bytes that a WRITE may carry, if nothing else is set.
+const DEFAULT_MAX_WRITE: u32 = 16777216;
+
+/// The first minor version whose INIT reply has all its fields.
+const LONG_REPLY_MINOR: u32 = 23;
+
+/// What the kernel offers, and what the filesystem wants of it. A contract sees the record of its values.
+#[derive(Debug, Drop)]
+pub struct KernelConfig {
+    offered: InitFlags,
+    kernel_abi: Version,
+    kernel_readahead: u32,
+    requested: InitFlags,
+    max_readahead: u32,
+    max_background: u16,
+    congestion_threshold: Option<u16>,
+    max_write: u32,
+    time_granularity: Duration,
+    max_stack_depth: u32,
+}
+
+impl Model for KernelConfig {
+    ghost use Rattle.std.specs.Prelude.{◌≤◌};
+    ghost use Rattle.fuse_config.specs.Values.{Configuration};
+
+    ghost Value = { Configuration };
+
+    ghost view = { λ c. record {
+      offered = c.offered.0;
+      kernel_abi = c.kernel_abi;
+      kernel_readahead = c.kernel_readahead;
+      requested = c.requested.0;
+      max_readahead = c.max_readahead;
+      max_background = c.max_background;
+      congestion_threshold = c.congestion_threshold;
+      max_write = c.max_write;
+      time_granularity = c.time_granularity;
+      max_stack_depth = c.max_stack_depth;
+    } };
+
+    ghost invariant = { λ c. c.time_granularity ≤ 1000000000 };
+}
+
+impl KernelConfig {
+    /// What is negotiated with a kernel that offers these capabilities and this readahead, and speaks this version,
+    /// before the filesystem has its say.
+    pub fn new(capabilities: InitFlags, max_readahead: u32, version: Version) -> KernelConfig
+        ensures { result ≡ start capabilities.0 max_readahead version }
+    {
+        let always = InitFlags::FUSE_ASYNC_READ.union(InitFlags::FUSE_BIG_WRITES);
+        let pages = capabilities.intersection(InitFlags::FUSE_MAX_PAGES);
+        KernelConfig {
+            offered: capabilities,
+            kernel_abi: version,
+            kernel_readahead: max_readahead,
+            requested: always.union(pages),
+            max_readahead,
+            max_background: DEFAULT_MAX_BACKGROUND,
+            congestion_threshold: None,
+            max_write: DEFAULT_MAX_WRITE,
+            time_granularity: Duration::new(0, 1),
+            max_stack_depth: 0,
+        }
+    }
+
+    /// The capabilities that the kernel offers and this library knows, but for the one that says that there are more.
+    pub fn capabilities(&self) -> InitFlags
+        ensures { result.0 ≡ bit_and self.now.offered known_without_ext }
+    {
+        InitFlags::from_bits_retain(self.offered.bits() & 0x7ff_bfff_ffff)
+    }
+
+    /// The kernel's version.
+    pub fn kernel_abi(&self) -> Version
+        ensures { result ≡ self.now.kernel_abi }
+    {
+        self.kernel_abi
+    }
+
+    /// How many requests may wait before the kernel calls the filesystem congested.
+    fn threshold(&self) -> u16
+        ensures { result ≡ threshold_of self.now }
+    {
+        match self.congestion_threshold {
+            Some(threshold) => threshold.min(self.max_background),
+            None => (self.max_background as u32 * 3 / 4) as u16,
+        }
+    }
+
+    /// How many pages one request may carry.
+    fn max_pages(&self, page: u32) -> u16
+        requires { 0 < page }
+        ensures { result ≡ max_pages_of self.now page }
+    {
+        let bytes = self.max_write.max(self.max_readahead);
+        let pages = bytes.saturating_sub(1) / page;
+        if pages >= 65535 {
+            65535
+        } else {
+            pages as u16 + 1
+        }
+    }
+
+    /// The payload of the INIT reply to a kernel that offered these capabilities and speaks this minor version, where a
+    /// page has so many bytes. The number is how many bytes of it are sent. (`struct fuse_init_out` of `fuse.h`.)
+    #[tactic(auto, unfolding(crate::specs::Configuration::init_payload))]
+    pub fn init_reply(&self, capabilities: InitFlags, minor: u32, page: u32) -> ([u8; 64], usize)
+        requires minor { 6 ≤ minor }
+        requires page { 0 < page }
+        ensures payload { take result.1 result.0 ≡ init_payload self.now capabilities.0 minor page }
+        ensures length { result.1 ≡ init_payload_length minor }
+    {
+        let granted = self.granted(capabilities);
+        let (flags, flags2) = granted.pair();
+        let depth = if granted.contains(InitFlags::FUSE_PASSTHROUGH) {
+            self.max_stack_depth
+        } else {
+            0
+        };
+        let payload = init_bytes(&InitReply {
+            max_readahead: self.max_readahead,
+            flags,
+            max_background: self.max_background,
+            congestion_threshold: self.threshold(),
+            max_write: self.max_write,
+            time_gran: self.time_granularity.as_nanos() as u32,
+            max_pages: self.max_pages(page),
+            flags2,
+            max_stack_depth: depth,
+        });
+        (payload, if minor < LONG_REPLY_MINOR { 24 } else { 64 })
+    }
+
+    /// What is granted of the capabilities offered: what was requested, and the word that there are more.
+    fn granted(&self, offered: InitFlags) -> InitFlags
+        ensures { result.0 ≡ granted_of self.now offered.0 }
+    {
+        self.requested
+            .union(InitFlags::FUSE_INIT_EXT)
+            .intersection(offered)
+    }
+}
+
+/// The fields of the INIT reply behind the version.
+#[derive(Drop)]
+struct InitReply {
+    max_readahead: u32,
+    flags: u32,
+    max_background: u16,
+    congestion_threshold: u16,
+    max_write: u32,
+    time_gran: u32,
+    max_pages: u16,
+    flags2: u32,
+    max_stack_depth: u32,
+}
+
+/// The whole payload of the INIT reply.
+fn init_bytes(reply: &InitReply) -> [u8; 64]
+    ensures { result ≡ init_layout (reply.now.max_readahead) reply.now.flags reply.now.max_background
+        reply.now.congestion_threshold reply.now.max_write reply.now.time_gran reply.now.max_pages reply.now.flags2
+        reply.now.max_stack_depth }
+{
+    let [r0, r1, r2, r3] = reply.max_readahead.to_le_bytes();
+    let [f0, f1, f2, f3] = reply.flags.to_le_bytes();
+    let [b0, b1] = reply.max_background.to_le_bytes();
+    let [t0, t1] = reply.congestion_threshold.to_le_bytes();
+    let [w0, w1, w2, w3] = reply.max_write.to_le_bytes();
+    let [g0, g1, g2, g3] = reply.time_gran.to_le_bytes();
+    let [p0, p1] = reply.max_pages.to_le_bytes();
+    let [h0, h1, h2, h3] = reply.flags2.to_le_bytes();
+    let [d0, d1, d2, d3] = reply.max_stack_depth.to_le_bytes();
+    [
+        7, 0, 0, 0, 40, 0, 0, 0, r0, r1, r2, r3, f0, f1, f2, f3, b0, b1, t0, t1, w0, w1, w2, w3,
+        g0, g1, g2, g3, p0, p1, 0, 0, h0, h1, h2, h3, d0, d1, d2, d3, 0, 0, 0, 0, 0, 0, 0, 0, 0, 0,
+        0, 0, 0, 0, 0, 0, 0, 0, 0, 0, 0, 0, 0, 0,
+    ]
+}
+
+/// The payload of the reply to a kernel that speaks a later major version: the version spoken here, and zeros.
+pub fn version_reply() -> [u8; 64]
+    ensures { result ≡ version_payload }
+{
+    let mut payload = [0; 64];
+    payload[0] = 7;
+    payload[4] = 40;
+    payload
+}
