@@ -1,0 +1,248 @@
+-- A session that ends well, as one whole.
+use Rattle.std.proofs.Common.{◌≡◌, ◌+◌, ◌≤◌, ◌<◌, ◌++◌, ℕ, zero, suc, List, [], ◌∷◌, sym, ◌∙◌, ap, subst, arith, refl, length, map, Option, None, Some, Result, Ok, Err, inl, inr, pos, Bool, true, false, not, nat_lt, cond, lit<, append-nil}
+use Rattle.std.specs.Prelude.{◌⊎◌, filter, if◌then◌else◌}
+use Rattle.std.specs.List.{AllByRecursion}
+use Rattle.fuse_wire.specs.Faults.{last_count}
+use Rattle.fuse_wire.specs.Source.{SourceState, Takes, message}
+use Rattle.fuse_wire.specs.Sink.{SinkState, Note, Appends}
+use Rattle.fuse_wire.proofs.Devices.{Takes-then, Appends-then}
+use Rattle.fuse_config.specs.declared.session_acl.SessionACL.{SessionACL}
+use Rattle.fuse_config.specs.Configuration.{init_payload, version_payload}
+use Rattle.fuse_request.specs.declared.error.RequestError.{RequestError}
+use Rattle.fuse_request.specs.declared.any_request.Header.{Header}
+use Rattle.fuse_request.specs.Header.{header, body}
+use Rattle.fuse_request.specs.InitOperation.{offered}
+use Rattle.fuse_request.specs.Operation.{Op, operation}
+use Rattle.fuse_request.specs.Operation.Op.{Init, Destroy}
+use Rattle.fuse_args.specs.declared.fixed.InitArguments.{InitArguments}
+use Rattle.fuse_reply.specs.Answer.{IsAnswer}
+use Rattle.fuse_reply.specs.Answer.Answer.{Empty, Error}
+use Rattle.fuse_reply.specs.Frame.{frame, reply, is_set_aside}
+use Rattle.fuse_reply.proofs.FrameLaws.{not_set_aside-frame_zero, not_set_aside-reply}
+use Rattle.fuse_reply.specs.declared.out.Out.{Out}
+use Rattle.fuse_reply.specs.declared.out.Out.TheVariants.{Frame}
+use Rattle.fuse_session.specs.Verdict.{Verdict, verdict, judged, asked, admitted, id_of}
+use Rattle.fuse_session.specs.Verdict.Verdict.{Broken, Ends, Fixed}
+use Rattle.fuse_session.specs.Owed.{Owed, OwedBy, IsBroken, GoesOn, GoesOnBy}
+use Rattle.fuse_session.specs.OneEach.{InOrder, number_of}
+use Rattle.fuse_session.specs.Handshake.{Inits, Greeting, greeting, Greets, Replies, HandshakeEnd, Handshake, LeavesOut, Negotiates}
+use Rattle.fuse_session.specs.Handshake.Greeting.{Refused, Answered, Newer, Offered}
+use Rattle.fuse_session.specs.Handshake.HandshakeEnd.{Open, Accepted, Failed}
+use Rattle.fuse_session.specs.Moves.{NothingLeft}
+use Rattle.fuse_session.specs.Serves.{Serves, RunEnds, AllGoOn}
+use Rattle.fuse_session.specs.Shakes.{Shakes}
+use Rattle.fuse_session.specs.Headline.{Headline, Quiet, replies, NoticeOrReply, EndsBehind, EndsWell}
+use Rattle.fuse_session.specs.Counts.{nothing_yet}
+use Rattle.fuse_session.specs.Converses.{Session, Converses, GoesOnAs, Runs, RunsTo, outcome_of}
+use Rattle.fuse_session.specs.declared.transcript.Transcript.{Transcript}
+use Rattle.fuse_session.specs.declared.error.SessionError.{SessionError}
+use Rattle.fuse_session.specs.declared.serving.End.{End}
+use Rattle.fuse_session.specs.declared.serving.End.TheVariants.{Gone, Destroyed, Broken as RunBroken, Failed as RunFailed}
+use Rattle.fuse_session.proofs.Order.{OneEach-from_order}
+
+-- a frame that is a reply
+abbrev pub IsReply : List ℕ → Type 0
+IsReply f = is_set_aside f ≡ false
+
+-- what holds of each of two lists holds of each of both
+pub IsReply-append : (xs ys : List (List ℕ)) → AllByRecursion IsReply xs → AllByRecursion IsReply ys → AllByRecursion IsReply (xs ++ ys)
+IsReply-append [] ys first second = second
+IsReply-append (x ∷ xs) ys first second = (first.0, IsReply-append xs ys first.1 second)
+
+-- where each frame is a reply, none is left out
+pub replies-all : (xs : List (List ℕ)) → AllByRecursion IsReply xs → replies xs ≡ xs
+replies-all [] all = refl
+replies-all (x ∷ xs) all =
+    ap (λ (b : Bool). cond (not b) (x ∷ replies xs) (replies xs)) all.0 ∙ ap (λ (ys : List (List ℕ)). x ∷ ys) (replies-all xs all.1)
+
+-- and none is set aside
+pub set_aside-none : (xs : List (List ℕ)) → AllByRecursion IsReply xs → AllByRecursion NoticeOrReply xs
+set_aside-none [] all = tt
+set_aside-none (x ∷ xs) all = ((λ aside. absurd (let is = all.0 in let no : ⊥ = cc in no)), set_aside-none xs all.1)
+
+-- the error that a verdict fixes is one
+abbrev Fits : Verdict → Type 0
+Fits (Broken e) = Unit {0}
+Fits Ends = Unit {0}
+Fits (Fixed errno) = IsAnswer (Error errno)
+
+fits-cond : (b : Bool) → Fits (if b then Fixed 5 else Fixed 13)
+fits-cond true = (lit< tt, lit< tt)
+fits-cond false = (lit< tt, lit< tt)
+
+fits-asked : (acl : SessionACL) (owner : ℕ) (h : Header) (o : Result Op RequestError) → Fits (asked acl owner h o)
+fits-asked acl owner h (Err e) = (lit< tt, lit< tt)
+fits-asked acl owner h (Ok Destroy) = tt
+fits-asked acl owner h (Ok (Init i)) = fits-cond (admitted acl owner h.uid h.opcode)
+
+fits-judged : (acl : SessionACL) (owner : ℕ) (r : Result Header RequestError) (rest : List ℕ) → Fits (judged acl owner r rest)
+fits-judged acl owner (Err e) rest = tt
+fits-judged acl owner (Ok h) rest = fits-asked acl owner h (operation h.opcode rest)
+
+frame-same : (f g : List ℕ) → Frame f ≡ Frame g → f ≡ g
+frame-same f g h = cc
+
+owed-reply : (v : Verdict) (id : ℕ) (f : List ℕ) → Fits v → OwedBy v id (Frame f) → IsReply f
+owed-reply (Broken e) id f fits owed = absurd owed
+owed-reply Ends id f fits owed =
+    subst IsReply (sym (frame-same f (reply id Empty) owed)) (not_set_aside-reply id Empty tt)
+owed-reply (Fixed errno) id f fits owed =
+    subst IsReply (sym (frame-same f (reply id (Error errno)) owed)) (not_set_aside-reply id (Error errno) fits)
+
+-- each frame that a message is owed is a reply
+pub IsReply-owed : (acl : SessionACL) (owner seq : ℕ) (m f : List ℕ) → Owed acl owner seq m (Frame f) → IsReply f
+IsReply-owed acl owner seq m f owed = owed-reply (verdict acl owner m) (id_of m) f (fits-judged acl owner (header m) (body m)) owed
+
+-- each frame of a run is a reply
+pub IsReply-order : (acl : SessionACL) (owner place : ℕ) (ms frames : List (List ℕ)) (notes : List Note) (lost : ℕ)
+    → InOrder (Owed acl owner) (IsBroken acl owner) place ms frames notes lost → AllByRecursion IsReply frames
+IsReply-order acl owner place [] frames notes lost done = subst (AllByRecursion IsReply) (sym done.0) tt
+IsReply-order acl owner place (m ∷ ms) frames notes lost (inl p) =
+    subst (AllByRecursion IsReply) (sym p.2)
+    (IsReply-owed acl owner (number_of place) m p.0 p.3, IsReply-order acl owner (suc place) ms p.1 notes lost p.4)
+IsReply-order acl owner place (m ∷ ms) frames notes lost (inr (inl p)) = IsReply-order acl owner (suc place) ms frames p.1 lost p.4
+IsReply-order acl owner place (m ∷ ms) frames notes lost (inr (inr p)) = IsReply-order acl owner (suc place) ms frames notes p.0 p.3
+
+-- the frame of an answer of `init` that accepts
+IsReply-negotiated : (id : ℕ) (i : InitArguments) (page : ℕ) (config : _) (r : Result (Unit {0}) ℕ) (frames : List (List ℕ)) (end : HandshakeEnd)
+    → Replies id i page config r frames end → end ≡ Accepted → AllByRecursion IsReply frames
+IsReply-negotiated id i page config (Err e) frames end p accepted = absurd (let h = p.1 in let no : ⊥ = cc in no)
+IsReply-negotiated id i page config (Ok u) frames end p accepted =
+    subst (AllByRecursion IsReply) (sym p.0) (not_set_aside-frame_zero id (init_payload config (offered i) i.minor page), tt)
+
+IsReply-greeted : {F : Type 0} (may_init : Inits F) (page : ℕ) (fs fs1 : F) (m : List ℕ) (g : Greeting) (others frames : List (List ℕ)) (end : HandshakeEnd)
+    (later : List (List ℕ) → Type 0) → ((rest : List (List ℕ)) → later rest → AllByRecursion IsReply rest)
+    → Greets may_init page fs m g others frames fs1 end later → end ≡ Accepted → AllByRecursion IsReply frames
+IsReply-greeted may_init page fs fs1 m (Refused e) others frames end later more p accepted = absurd (let h = p.3 in let no : ⊥ = cc in no)
+IsReply-greeted may_init page fs fs1 m (Answered errno e) others frames end later more p accepted = absurd (let h = p.3 in let no : ⊥ = cc in no)
+IsReply-greeted may_init page fs fs1 m Newer others frames end later more p accepted =
+    subst (AllByRecursion IsReply) (sym p.1) (not_set_aside-frame_zero (id_of m) version_payload, more p.0 p.2)
+IsReply-greeted may_init page fs fs1 m (Offered i) others frames end later more p accepted =
+    IsReply-negotiated (id_of m) i page p.1.config p.1.result frames end p.1.replies accepted
+
+-- each frame of a handshake that is accepted is a reply
+pub IsReply-handshake : {F : Type 0} (may_init : Inits F) (page : ℕ) (fs fs1 : F) (ms frames : List (List ℕ)) (end : HandshakeEnd)
+    → Handshake may_init page fs ms frames fs1 end → end ≡ Accepted → AllByRecursion IsReply frames
+IsReply-handshake may_init page fs fs1 [] frames end p accepted = absurd (let h = p.2 in let no : ⊥ = cc in no)
+IsReply-handshake may_init page fs fs1 (m ∷ ms) frames end p accepted =
+    IsReply-greeted may_init page fs fs1 m (greeting m) ms frames end (λ rest. Handshake may_init page fs ms rest fs1 end)
+    (λ rest h. IsReply-handshake may_init page fs fs1 ms rest end h accepted) p accepted
+
+-- where nothing was lost, nothing was left out
+pub LeavesOut-none : (frames written : List (List ℕ)) → LeavesOut 0 frames written → written ≡ frames
+LeavesOut-none [] written p = p.0
+LeavesOut-none (f ∷ fs) written (inl p) = p.1 ∙ ap (λ (ys : List (List ℕ)). f ∷ ys) (LeavesOut-none fs p.0 p.2)
+LeavesOut-none (f ∷ fs) written (inr p) = absurd (let h : 0 ≡ suc p.0 = p.1 in omega arith)
+
+goes-behind : (v : Verdict) (more : List (List ℕ)) (rest : Type 0) → GoesOnBy v → rest → EndsBehind v more rest
+goes-behind (Broken e) more rest goes r = absurd goes
+goes-behind Ends more rest goes r = absurd goes
+goes-behind (Fixed errno) more rest goes r = r
+
+-- turns behind which the run goes on, and then others
+pub EndsWell-after : (acl : SessionACL) (owner : ℕ) (front turns : List (List ℕ)) (s : SourceState)
+    → AllGoOn acl owner front → EndsWell acl owner (map message turns) s → EndsWell acl owner (map message (front ++ turns)) s
+EndsWell-after acl owner [] turns s go ends = ends
+EndsWell-after acl owner (x ∷ xs) turns s go ends =
+    goes-behind (verdict acl owner (message x)) (map message (xs ++ turns)) (EndsWell acl owner (map message (xs ++ turns)) s) go.0
+    (EndsWell-after acl owner xs turns s go.1 ends)
+
+-- DESTROY alone
+pub EndsWell-last : (acl : SessionACL) (owner : ℕ) (last : List ℕ) (s : SourceState) → verdict acl owner (message last) ≡ Ends
+    → EndsWell acl owner (map message (last ∷ [])) s
+EndsWell-last acl owner last s ends =
+    subst (λ (v : Verdict). EndsBehind v [] (EndsWell acl owner [] s)) (sym ends) refl
+
+-- The parts of a session that ended well, put together.
+put-together : {F : Type 0} (may_init : Inits F) (page : ℕ) (acl : SessionACL) (owner : ℕ) (fs fs1 : F) (ok : Unit {0}) (end : End)
+    (a b c : SourceState) (k l m : SinkState) (t u v : Transcript)
+    (shakes : Shakes (Ok ok) may_init page fs fs1 a b k l t u) (serves : Serves 0 end acl owner b c l m u v)
+    → Quiet k m → serves.turns ≡ serves.answered → Takes serves.turns b c → EndsWell acl owner (map message serves.answered) c
+    → Headline may_init page acl owner fs a c k m
+put-together {F} may_init page acl owner fs fs1 ok end a b c k l m t u v shakes serves quiet all_answered takes ends = record {
+  hs = shakes.turns;
+  ls = serves.answered;
+  handshake_replies = shakes.frames;
+  later_replies = serves.frames;
+  appended = shakes.written ++ serves.frames;
+  notes = serves.notes;
+  fs1 = fs1;
+  taken = Takes-then shakes.turns serves.answered a b c shakes.ended.1 (subst (λ (x : List (List ℕ)). Takes x b c) all_answered takes);
+  handshake = subst (λ (e : HandshakeEnd). Handshake may_init page fs (map message shakes.turns) shakes.frames fs1 e) shakes.ended.0 shakes.shaken;
+  written = Appends-then shakes.written serves.frames [] serves.notes k l m shakes.moved.appended serves.moved.appended;
+  replied = replies-all (shakes.written ++ serves.frames) each ∙ ap (λ (w : List (List ℕ)). w ++ serves.frames) whole;
+  set_aside = set_aside-none (shakes.written ++ serves.frames) each;
+  one_each = OneEach-from_order (Owed acl owner) (IsBroken acl owner) 0 (map message serves.answered) serves.frames serves.notes 0
+      (subst (λ (n : ℕ). InOrder (Owed acl owner) (IsBroken acl owner) 0 (map message serves.answered) serves.frames serves.notes n) none_lost serves.order);
+  ended = ends;
+} where
+  rises : l.faults ≤ m.faults
+  rises = serves.moved.appended.faults
+
+  below : l.faults < last_count
+  below = let q = quiet.counts in omega (arith, rises)
+
+  left_none : shakes.lost ≡ 0
+  left_none =
+      let cause : shakes.lost + k.faults ≤ l.faults = shakes.moved.cause below in
+      let same : m.faults ≡ k.faults = quiet.same in omega (arith, rises)
+
+  none_lost : serves.lost ≡ 0
+  none_lost =
+      let cause : serves.lost + l.faults ≤ m.faults = serves.moved.cause quiet.counts in
+      let first : k.faults ≤ l.faults = shakes.moved.appended.faults in
+      let same : m.faults ≡ k.faults = quiet.same in omega arith
+
+  whole : shakes.written ≡ shakes.frames
+  whole = LeavesOut-none shakes.frames shakes.written (subst (λ (n : ℕ). LeavesOut n shakes.frames shakes.written) left_none shakes.left_out)
+
+  each : AllByRecursion IsReply (shakes.written ++ serves.frames)
+  each = IsReply-append shakes.written serves.frames
+      (subst (AllByRecursion IsReply) (sym whole)
+      (IsReply-handshake may_init page fs fs1 (map message shakes.turns) shakes.frames shakes.end shakes.shaken shakes.ended.0))
+      (IsReply-order acl owner 0 (map message serves.answered) serves.frames serves.notes serves.lost serves.order)
+
+-- a run whose outcome is Ok ended with the source or at DESTROY
+by-end : {F : Type 0} (may_init : Inits F) (page : ℕ) (acl : SessionACL) (owner : ℕ) (fs fs1 : F) (ok : Unit {0}) (end : End)
+    (a b c : SourceState) (k l m : SinkState) (t u v : Transcript)
+    → Shakes (Ok ok) may_init page fs fs1 a b k l t u → Serves 0 end acl owner b c l m u v
+    → outcome_of end ≡ Ok tt → Quiet k m → Headline may_init page acl owner fs a c k m
+by-end may_init page acl owner fs fs1 ok Gone a b c k l m t u v shakes serves is quiet =
+    let e = serves.ended in
+    put-together may_init page acl owner fs fs1 ok Gone a b c k l m t u v shakes serves quiet e.0 e.2
+    (subst (λ (x : List (List ℕ)). EndsWell acl owner (map message x) c) (append-nil serves.answered)
+    (EndsWell-after acl owner serves.answered [] c e.1 e.3))
+by-end may_init page acl owner fs fs1 ok Destroyed a b c k l m t u v shakes serves is quiet =
+    let e = serves.ended in
+    put-together may_init page acl owner fs fs1 ok Destroyed a b c k l m t u v shakes serves quiet e.0 e.2
+    (subst (λ (x : List (List ℕ)). EndsWell acl owner (map message x) c) (sym e.1.2)
+    (EndsWell-after acl owner e.1.0 (e.1.1 ∷ []) c e.1.3 (EndsWell-last acl owner e.1.1 c e.1.4)))
+by-end may_init page acl owner fs fs1 ok (RunBroken r) a b c k l m t u v shakes serves is quiet = absurd (let no : ⊥ = cc in no)
+by-end may_init page acl owner fs fs1 ok RunFailed a b c k l m t u v shakes serves is quiet = absurd (let no : ⊥ = cc in no)
+
+by-threads : {F : Type 0} (may_init : Inits F) (page : ℕ) (threads : Option ℕ) (acl : SessionACL) (owner : ℕ) (fs fs1 : F) (ok : Unit {0}) (outcome : Result (Unit {0}) SessionError)
+    (a b c : SourceState) (k l m : SinkState) (t u v : Transcript)
+    → Shakes (Ok ok) may_init page fs fs1 a b k l t u → Runs threads acl owner outcome b c l m u v
+    → outcome ≡ Ok tt → Quiet k m → Headline may_init page acl owner fs a c k m
+by-threads may_init page (Some zero) acl owner fs fs1 ok outcome a b c k l m t u v shakes runs is quiet = absurd (let h = runs.0 in let no : ⊥ = cc in no)
+by-threads may_init page (Some (suc n)) acl owner fs fs1 ok outcome a b c k l m t u v shakes runs is quiet =
+    by-end may_init page acl owner fs fs1 ok runs.end a b c k l m t u v shakes runs.serves (sym runs.outcome_is ∙ is) quiet
+by-threads may_init page None acl owner fs fs1 ok outcome a b c k l m t u v shakes runs is quiet =
+    by-end may_init page acl owner fs fs1 ok runs.end a b c k l m t u v shakes runs.serves (sym runs.outcome_is ∙ is) quiet
+
+by-handshake : {F : Type 0} (may_init : Inits F) (page : ℕ) (threads : Option ℕ) (acl : SessionACL) (owner : ℕ) (fs fs1 : F) (shook outcome : Result (Unit {0}) SessionError)
+    (a b c : SourceState) (k l m : SinkState) (t u v : Transcript)
+    → Shakes shook may_init page fs fs1 a b k l t u → GoesOnAs shook threads acl owner outcome b c l m u v
+    → outcome ≡ Ok tt → Quiet k m → Headline may_init page acl owner fs a c k m
+by-handshake may_init page threads acl owner fs fs1 (Ok ok) outcome a b c k l m t u v shakes behind is quiet =
+    by-threads may_init page threads acl owner fs fs1 ok outcome a b c k l m t u v shakes behind is quiet
+by-handshake may_init page threads acl owner fs fs1 (Err e) outcome a b c k l m t u v shakes behind is quiet =
+    absurd (let h = behind.0 in let no : ⊥ = cc in no)
+
+-- A session that ended well: each message that it took has the one reply that it is owed.
+pub Headline-from_session : {F : Type 0} (may_init : Inits F) (may_destroy : F → F → Type 0) (page : ℕ) (threads : Option ℕ) (acl : SessionACL) (owner : ℕ) (fs fs' : F)
+    (outcome : Result (Unit {0}) SessionError) (a c : SourceState) (k m : SinkState) (v : Transcript)
+    → Session may_init may_destroy page threads acl owner fs fs' outcome a c k m v → outcome ≡ Ok tt → Quiet k m → Headline may_init page acl owner fs a c k m
+Headline-from_session may_init may_destroy page threads acl owner fs fs' outcome a c k m v session is quiet =
+    let s = session.converses in
+    by-handshake may_init page threads acl owner fs session.fs1 s.shook outcome a s.source1 c k s.sink1 m nothing_yet s.counts1 v s.shakes s.behind is quiet

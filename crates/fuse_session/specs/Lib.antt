@@ -1,0 +1,12 @@
+pub mod Counts
+pub mod Verdict
+pub mod Owed
+pub mod OneEach
+pub mod Handshake
+pub mod Turn
+pub mod Moves
+pub mod Serves
+pub mod Shakes
+pub mod Converses
+pub mod Headline
+pub mod Causes

@@ -1,0 +1,19 @@
+//! Sessions: the handshake with a kernel, the verdict on each message, and the loop that answers them.
+//! The layers above rely on this: when `mount` answers Ok, every message that it took has the one frame that it is owed.
+#![tactic(auto)]
+
+mod channel;
+mod error;
+mod filesystem;
+mod handshake;
+mod serving;
+mod session;
+#[cfg(test)]
+mod tests;
+mod transcript;
+mod verdict;
+
+pub use error::{InvalidData, SessionError};
+pub use filesystem::Filesystem;
+pub use session::{Ended, mount};
+pub use transcript::Transcript;

@@ -1,0 +1,75 @@
+// The loop behind the handshake.
+ghost use Rattle.std.specs.Prelude.{◌≡◌, length};
+ghost use Rattle.fuse_session.specs.Serves.{Serves, OneTurn};
+
+use crate::Transcript;
+use crate::channel::{Taken, deliver, take_message};
+use crate::verdict::{Access, Turn, turn_of};
+use fuse_request::RequestError;
+use fuse_wire::consts::BUFFER_SIZE;
+use fuse_wire::{Sink, Source};
+use std::sync::Wait;
+
+/// How a run ended.
+#[derive(Clone, Copy, Debug, PartialEq, Eq)]
+pub(crate) enum End {
+    /// No message is left.
+    Gone,
+    /// The last message was DESTROY.
+    Destroyed,
+    /// The last message has no good header.
+    Broken(RequestError),
+    /// The source failed.
+    Failed,
+}
+
+/// Takes a message and answers it. None is that the run goes on.
+fn take_turn<R: Wait + AllocGlobal, S: Source, K: Sink>(
+    rt: &R,
+    access: Access,
+    source: &mut S,
+    sink: &mut K,
+    buffer: &mut [u8],
+    transcript: &mut Transcript,
+) -> Option<End>
+    requires { length buffer.old ≡ BUFFER_SIZE }
+    ensures { OneTurn result access.acl access.owner (S.told source.old) (S.told source.new) (K.told sink.old) (K.told sink.new) transcript.old transcript.new }
+{
+    let count = match take_message(rt, source, buffer, transcript) {
+        Taken::Message(count) => count,
+        Taken::Gone => return Some(End::Gone),
+        Taken::Failed => return Some(End::Failed),
+    };
+    match turn_of(rt.alloc(), access, &buffer[..count]) {
+        Turn::Broken(error) => Some(End::Broken(error)),
+        Turn::Last(out) => {
+            deliver(out, sink, transcript);
+            Some(End::Destroyed)
+        }
+        Turn::Next(out) => {
+            deliver(out, sink, transcript);
+            None
+        }
+    }
+}
+
+/// Answers messages until the source has none left, or one ends the run.
+pub(crate) fn run_inline<R: Wait + AllocGlobal, S: Source, K: Sink>(
+    rt: &R,
+    access: Access,
+    source: &mut S,
+    sink: &mut K,
+    buffer: &mut [u8],
+    transcript: &mut Transcript,
+) -> End
+    requires { length buffer.old ≡ BUFFER_SIZE }
+    ensures { Serves 0 result access.acl access.owner (S.told source.old) (S.told source.new) (K.told sink.old) (K.told sink.new) transcript.old transcript.new }
+{
+    for _ in rt.forever() {
+        match take_turn(rt, access, source, sink, buffer, transcript) {
+            Some(end) => return end,
+            None => {}
+        }
+    }
+    unreachable!()
+}

@@ -1,0 +1,34 @@
+// What a session did, in numbers.
+ghost use Rattle.std.specs.Prelude.{◌≡◌};
+
+/// What a session did, in numbers. Each stays at its last value.
+#[derive(Clone, Copy, Debug, PartialEq, Eq, Default)]
+pub struct Transcript {
+    /// The messages taken.
+    pub received: u64,
+    /// The reply frames that the sink took.
+    pub frames: u64,
+    /// The notes that the sink took.
+    pub notes: u64,
+    /// The reply frames and notes that the sink did not take.
+    pub lost: u64,
+    /// The marks and late frames that could not be kept.
+    pub unrecorded: u64,
+}
+
+impl Transcript {
+    ghost use Rattle.fuse_session.specs.Counts.{nothing_yet};
+
+    /// Nothing was done yet.
+    pub(crate) fn new() -> Transcript
+        ensures { result ≡ nothing_yet }
+    {
+        Transcript {
+            received: 0,
+            frames: 0,
+            notes: 0,
+            lost: 0,
+            unrecorded: 0,
+        }
+    }
+}
