@@ -1,0 +1,21 @@
+-- The exit status of a session's outcome.
+use Rattle.std.specs.Prelude.{◌≡◌, ◌<◌, ℕ, Bool, true, false, Result, Ok, Err, nat_lt, ◌||◌, if◌then◌else◌}
+use Rattle.fuse_session.specs.declared.error.SessionError.{SessionError}
+use Rattle.fuse_session.specs.declared.error.SessionError.TheVariants.{Memory, NotConnected, InvalidData, Unsupported, Init, Threads, Receive}
+
+abbrev pub failure_status : SessionError → ℕ
+failure_status Memory = 9
+failure_status NotConnected = 3
+failure_status (InvalidData d) = 4
+failure_status (Unsupported v) = 5
+failure_status (Init e) = 4
+failure_status Threads = 10
+failure_status Receive = 7
+
+-- 0 where all went well and nothing was lost, 8 where something was, and else the number of the error
+abbrev pub status : Result (Unit {0}) SessionError → (lost : ℕ) → (broken : Bool) → ℕ
+status (Ok u) lost broken = if nat_lt 0 lost || broken then 8 else 0
+status (Err e) lost broken = failure_status e
+
+abbrev pub IsStatus : ℕ → Result (Unit {0}) SessionError → (lost : ℕ) → (broken : Bool) → Type 0
+IsStatus n outcome lost broken = n ≡ status outcome lost broken

@@ -1,0 +1,102 @@
+// What the program does with its words, its input and its output.
+ghost use Rattle.std.specs.Prelude.{◌≡◌, ◌≢◌, ◌↔◌, ◌<◌, map, None, IfSome};
+ghost use Rattle.fuse_serve.specs.Words.{form_of};
+ghost use Rattle.fuse_serve.specs.Status.{IsStatus};
+ghost use Rattle.fuse_serve.specs.Tree.{ServesTree};
+
+use crate::hello::Hello;
+use crate::words::{ServeForm, serve_form};
+use fuse_config::Config;
+use fuse_session::{Ended, SessionError, mount};
+use fuse_wire::{ByteSink, ByteSource, StreamSink, StreamSource};
+use std::sync::Wait;
+
+/// How the program ended. It hands back its input and its output.
+#[derive(Debug, Drop)]
+pub struct Served<I, O> {
+    /// The exit status: 0, or why not.
+    pub status: u8,
+    /// The input, behind what was read.
+    pub input: I,
+    /// The output, behind what was written.
+    pub output: O,
+}
+
+/// The status of an outcome, where so many frames were lost, or a write failed.
+fn status_of(outcome: &Result<(), SessionError>, lost: u64, broken: bool) -> u8
+    ensures { IsStatus result outcome.now lost broken }
+{
+    match outcome {
+        Ok(()) if lost > 0 || broken => 8,
+        Ok(()) => 0,
+        Err(SessionError::NotConnected) => 3,
+        // The tree never refuses an INIT.
+        Err(SessionError::InvalidData(_) | SessionError::Init(_)) => 4,
+        Err(SessionError::Unsupported(_)) => 5,
+        Err(SessionError::Receive) => 7,
+        Err(SessionError::Memory) => 9,
+        Err(SessionError::Threads) => 10,
+    }
+}
+
+/// Serves the tree.
+fn serve_tree<R: Wait + AllocGlobal, I: ByteSource, O: ByteSink + Send>(
+    rt: &R,
+    form: ServeForm,
+    input: I,
+    output: O,
+) -> Served<I, O>
+    requires { 0 < form.page }
+    ensures other { result.status ≢ 2 }
+    ensures served { ServesTree form (I.told input) (I.told result.input) (O.told output) (O.told result.output) result.status }
+{
+    let config = Config {
+        acl: form.acl,
+        n_threads: Some(form.threads),
+    };
+    let Ended {
+        filesystem: _,
+        source,
+        sink,
+        outcome,
+        transcript,
+    } = mount(
+        rt,
+        Hello,
+        StreamSource::new(input),
+        StreamSink::new(output),
+        form.owner,
+        form.page,
+        &config,
+    );
+    let broken = sink.broken();
+    Served {
+        status: status_of(&outcome, transcript.lost, broken),
+        input: source.into_inner(),
+        output: sink.into_inner(),
+    }
+}
+
+/// Does what the words say, which stand behind the program's own name: `serve THREADS ACL OWNER PAGE` serves the tree.
+pub fn serve<R: Wait + AllocGlobal, I: ByteSource, O: ByteSink + Send>(
+    rt: &R,
+    words: &[&[u8]],
+    input: I,
+    output: O,
+) -> Served<I, O>
+    // The status 2 comes exactly where the words are no form, and then nothing is read or written.
+    ensures form { (result.status ≡ 2) ↔ (form_of (map (λ w. w.now) words.now) ≡ None) }
+    // In a form's words the tree is served as it says.
+    ensures served { IfSome (form_of (map (λ w. w.now) words.now)) (λ form.
+        ServesTree form (I.told input) (I.told result.input) (O.told output) (O.told result.output) result.status) }
+    ensures untouched { result.status ≡ 2 → (result.input ≡ input) × (result.output ≡ output) }
+{
+    match serve_form(words) {
+        Some(form) => serve_tree(rt, form, input, output),
+        None => Served {
+            status: 2,
+            input,
+            output,
+        },
+    }
+}

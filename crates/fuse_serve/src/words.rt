@@ -1,0 +1,128 @@
+// The words that start the program: `serve THREADS ACL OWNER PAGE`.
+
+ghost use Rattle.std.specs.Prelude.{◌≡◌, ◌≤◌, ◌<◌, map, IfSome};
+ghost use Rattle.fuse_serve.specs.Words.{acl_of, decimal_of, form_of, number_of};
+
+use fuse_config::SessionACL;
+
+/// What the program is told to serve.
+#[derive(Clone, Copy, Debug, PartialEq, Eq)]
+pub struct ServeForm {
+    /// How many threads are asked for, at most 1024.
+    pub threads: usize,
+    /// Whose requests are served.
+    pub acl: SessionACL,
+    /// The user who owns the session.
+    pub owner: u32,
+    /// The bytes in a page of memory, at least 1.
+    pub page: u32,
+}
+
+/// The form that the words are, which stand behind the program's own name.
+pub fn serve_form(words: &[&[u8]]) -> Option<ServeForm>
+    ensures form { result ≡ form_of (map (λ w. w.now) words.now) }
+    ensures page { IfSome result (λ f. 0 < f.page) }
+{
+    let [command, threads, acl, owner, page] = words else {
+        return None;
+    };
+    if *command != b"serve".as_slice() {
+        return None;
+    }
+    Some(ServeForm {
+        threads: number(threads, 0, 1024)? as usize,
+        acl: acl_named(acl)?,
+        owner: number(owner, 0, u32::MAX)?,
+        page: number(page, 1, u32::MAX)?,
+    })
+}
+
+/// Whose requests the word names.
+fn acl_named(word: &[u8]) -> Option<SessionACL>
+    ensures { result ≡ acl_of word.now }
+{
+    if word == b"all".as_slice() {
+        Some(SessionACL::All)
+    } else if word == b"root".as_slice() {
+        Some(SessionACL::RootAndOwner)
+    } else if word == b"owner".as_slice() {
+        Some(SessionACL::Owner)
+    } else {
+        None
+    }
+}
+
+/// The number that the word writes, where it is within these limits.
+fn number(word: &[u8], least: u32, most: u32) -> Option<u32>
+    ensures { result ≡ number_of least most word.now }
+{
+    let value = decimal(word)?;
+    if value < u64::from(least) || value > u64::from(most) {
+        return None;
+    }
+    Some(value as u32)
+}
+
+/// The number that one to ten digits write.
+fn decimal(word: &[u8]) -> Option<u64>
+    ensures { result ≡ decimal_of word.now }
+{
+    if word.is_empty() || word.len() > 10 {
+        return None;
+    }
+    let mut value: u64 = 0;
+    for byte in word {
+        if !byte.is_ascii_digit() {
+            return None;
+        }
+        value = 10 * value + u64::from(*byte - b'0');
+    }
+    Some(value)
+}
+
+#[cfg(test)]
+mod tests {
+    use super::*;
+
+    fn form(threads: usize, acl: SessionACL, owner: u32, page: u32) -> Option<ServeForm> {
+        Some(ServeForm {
+            threads,
+            acl,
+            owner,
+            page,
+        })
+    }
+
+    #[test]
+    fn forms(rt: HostRuntime) {
+        let cases: [(&[&[u8]], Option<ServeForm>); 15] = [
+            (
+                &[b"serve", b"1", b"all", b"0", b"4096"],
+                form(1, SessionACL::All, 0, 4096),
+            ),
+            (
+                &[b"serve", b"1024", b"owner", b"4294967295", b"4294967295"],
+                form(1024, SessionACL::Owner, u32::MAX, u32::MAX),
+            ),
+            (
+                &[b"serve", b"0000000001", b"root", b"7", b"1"],
+                form(1, SessionACL::RootAndOwner, 7, 1),
+            ),
+            (&[b"serve", b"1", b"all", b"0", b"0"], None),
+            (&[b"serve", b"x", b"all", b"0", b"1"], None),
+            (&[], None),
+            (&[b"serve", b"1025", b"all", b"0", b"1"], None),
+            (&[b"serve", b"1", b"all", b"4294967296", b"1"], None),
+            (&[b"serve", b"1", b"some", b"0", b"1"], None),
+            (&[b"serve", b"1", b"all", b"0", b"4096", b"x"], None),
+            (&[b"serve", b"00000000001", b"all", b"0", b"1"], None),
+            (&[b"serve", b"", b"all", b"0", b"1"], None),
+            (&[b""], None),
+            (&[b"--help"], None),
+            (&[b"serve", b"1", b"all", b"0", b"\xff"], None),
+        ];
+        for (words, expected) in cases {
+            assert_eq!(rt; serve_form(words), expected);
+        }
+    }
+}
