@@ -9,7 +9,7 @@ use Rattle.fuse_config.specs.Values.{Configuration}
 use Rattle.fuse_request.specs.declared.request.Request.{Request}
 use Rattle.fuse_session.specs.Handshake.{Inits}
 use Rattle.fuse_session.specs.Converses.{Session}
-use Rattle.fuse_session.specs.Headline.{Headline, Quiet}
+use Rattle.fuse_session.specs.Headline.{Headline}
 use Rattle.fuse_session.specs.declared.transcript.Transcript.{Transcript}
 use Rattle.fuse_session.specs.declared.error.SessionError.{SessionError}
 use Rattle.fuse_session.specs.declared.error.SessionError.TheVariants.{Memory}
@@ -36,7 +36,8 @@ pub record ServesTree (form : ServeForm) (input input' : ByteSourceState) (outpu
   pub exit_is : exit ≡ status outcome transcript.lost broken
   pub session : outcome ≢ Err Memory → Session tree_may_init tree_may_destroy form.page (Some form.threads) form.acl form.owner tree tree' outcome
       (stream_told input) (stream_told input') (sink_told output output 0) sink transcript
-  pub headline : outcome ≡ Ok tt → Quiet (sink_told output output 0) sink
-      → Headline tree_may_init form.page form.acl form.owner tree (stream_told input) (stream_told input') (sink_told output output 0) sink
+  -- the status 0 alone says that nothing was lost
+  pub headline : exit ≡ 0 →
+      Headline tree_may_init form.page form.acl form.owner tree (stream_told input) (stream_told input') (sink_told output output 0) sink
   pub memory : outcome ≡ Err Memory → (stream_told input' ≡ stream_told input) × (sink ≡ sink_told output output 0)
   pub stands : ∥ Stands sink output' broken ∥₁

@@ -1,5 +1,5 @@
 -- A session that ends well, as one whole.
-use Rattle.std.proofs.Common.{◌≡◌, ◌+◌, ◌≤◌, ◌<◌, ◌++◌, ℕ, zero, suc, List, [], ◌∷◌, sym, ◌∙◌, ap, subst, arith, refl, length, map, Option, None, Some, Result, Ok, Err, inl, inr, pos, Bool, true, false, not, nat_lt, cond, lit<, append-nil}
+use Rattle.std.proofs.Common.{◌≡◌, ◌+◌, ◌≤◌, ◌<◌, ◌++◌, ℕ, zero, suc, List, [], ◌∷◌, sym, ◌∙◌, ap, subst, arith, refl, length, map, Option, None, Some, Result, Ok, Err, inl, inr, pos, Bool, true, false, not, nat_lt, cond, lit<, append-nil, min}
 use Rattle.std.specs.Prelude.{◌⊎◌, filter, if◌then◌else◌}
 use Rattle.std.specs.List.{AllByRecursion}
 use Rattle.fuse_wire.specs.Faults.{last_count}
@@ -28,10 +28,10 @@ use Rattle.fuse_session.specs.OneEach.{InOrder, number_of}
 use Rattle.fuse_session.specs.Handshake.{Inits, Greeting, greeting, Greets, Replies, HandshakeEnd, Handshake, LeavesOut, Negotiates}
 use Rattle.fuse_session.specs.Handshake.Greeting.{Refused, Answered, Newer, Offered}
 use Rattle.fuse_session.specs.Handshake.HandshakeEnd.{Open, Accepted, Failed}
-use Rattle.fuse_session.specs.Moves.{NothingLeft}
+use Rattle.fuse_session.specs.Moves.{NothingLeft, Moves}
 use Rattle.fuse_session.specs.Serves.{Serves, RunEnds, AllGoOn}
 use Rattle.fuse_session.specs.Shakes.{Shakes}
-use Rattle.fuse_session.specs.Headline.{Headline, Quiet, replies, NoticeOrReply, EndsBehind, EndsWell}
+use Rattle.fuse_session.specs.Headline.{Headline, Quiet, Lossless, replies, NoticeOrReply, EndsBehind, EndsWell}
 use Rattle.fuse_session.specs.Counts.{nothing_yet}
 use Rattle.fuse_session.specs.Converses.{Session, Converses, GoesOnAs, Runs, RunsTo, outcome_of}
 use Rattle.fuse_session.specs.declared.transcript.Transcript.{Transcript}
@@ -153,13 +153,31 @@ pub EndsWell-last : (acl : SessionACL) (owner : ℕ) (last : List ℕ) (s : Sour
 EndsWell-last acl owner last s ends =
     subst (λ (v : Verdict). EndsBehind v [] (EndsWell acl owner [] s)) (sym ends) refl
 
+-- Nothing was lost where the sink's count did not rise, or the transcript says so.
+nothing-lost : (xs ys fs gs : List (List ℕ)) (ns : List Note) (i j : ℕ) (k l m : SinkState) (t u v : Transcript)
+    → Moves (length xs) fs [] i k l t u → Moves (length ys) gs ns j l m u v → t ≡ nothing_yet → Lossless k m v → (i ≡ 0) × (j ≡ 0)
+nothing-lost xs ys fs gs ns i j k l m t u v first second start (inl quiet) =
+    let rises : l.faults ≤ m.faults = second.appended.faults in
+    let low : m.faults < last_count = quiet.counts in
+    let below : l.faults < last_count = omega arith in
+    let same : m.faults ≡ k.faults = quiet.same in
+    let cause : i + k.faults ≤ l.faults = first.cause below in
+    let later : j + l.faults ≤ m.faults = second.cause low in
+    let climbs : k.faults ≤ l.faults = first.appended.faults in
+    (omega arith, omega arith)
+nothing-lost xs ys fs gs ns i j k l m t u v first second start (inr none) =
+    let at_mid = first.counts 0 0 0 0 start in
+    let at_end = second.counts (0 + length xs) (0 + length fs) (0 + 0) (0 + i) at_mid in
+    let lost_is : v.lost ≡ min ((0 + i) + j) last_count = ap (λ (w : Transcript). w.lost) at_end in
+    (omega arith, omega arith)
+
 -- The parts of a session that ended well, put together.
 put-together : {F : Type 0} (may_init : Inits F) (page : ℕ) (acl : SessionACL) (owner : ℕ) (fs fs1 : F) (ok : Unit {0}) (end : End)
     (a b c : SourceState) (k l m : SinkState) (t u v : Transcript)
     (shakes : Shakes (Ok ok) may_init page fs fs1 a b k l t u) (serves : Serves 0 end acl owner b c l m u v)
-    → Quiet k m → serves.turns ≡ serves.answered → Takes serves.turns b c → EndsWell acl owner (map message serves.answered) c
+    → t ≡ nothing_yet → Lossless k m v → serves.turns ≡ serves.answered → Takes serves.turns b c → EndsWell acl owner (map message serves.answered) c
     → Headline may_init page acl owner fs a c k m
-put-together {F} may_init page acl owner fs fs1 ok end a b c k l m t u v shakes serves quiet all_answered takes ends = record {
+put-together {F} may_init page acl owner fs fs1 ok end a b c k l m t u v shakes serves start lossless all_answered takes ends = record {
   hs = shakes.turns;
   ls = serves.answered;
   handshake_replies = shakes.frames;
@@ -176,22 +194,14 @@ put-together {F} may_init page acl owner fs fs1 ok end a b c k l m t u v shakes 
       (subst (λ (n : ℕ). InOrder (Owed acl owner) (IsBroken acl owner) 0 (map message serves.answered) serves.frames serves.notes n) none_lost serves.order);
   ended = ends;
 } where
-  rises : l.faults ≤ m.faults
-  rises = serves.moved.appended.faults
-
-  below : l.faults < last_count
-  below = let q = quiet.counts in omega (arith, rises)
+  none : (shakes.lost ≡ 0) × (serves.lost ≡ 0)
+  none = nothing-lost shakes.turns serves.turns shakes.written serves.frames serves.notes shakes.lost serves.lost k l m t u v shakes.moved serves.moved start lossless
 
   left_none : shakes.lost ≡ 0
-  left_none =
-      let cause : shakes.lost + k.faults ≤ l.faults = shakes.moved.cause below in
-      let same : m.faults ≡ k.faults = quiet.same in omega (arith, rises)
+  left_none = none.0
 
   none_lost : serves.lost ≡ 0
-  none_lost =
-      let cause : serves.lost + l.faults ≤ m.faults = serves.moved.cause quiet.counts in
-      let first : k.faults ≤ l.faults = shakes.moved.appended.faults in
-      let same : m.faults ≡ k.faults = quiet.same in omega arith
+  none_lost = none.1
 
   whole : shakes.written ≡ shakes.frames
   whole = LeavesOut-none shakes.frames shakes.written (subst (λ (n : ℕ). LeavesOut n shakes.frames shakes.written) left_none shakes.left_out)
@@ -206,43 +216,43 @@ put-together {F} may_init page acl owner fs fs1 ok end a b c k l m t u v shakes 
 by-end : {F : Type 0} (may_init : Inits F) (page : ℕ) (acl : SessionACL) (owner : ℕ) (fs fs1 : F) (ok : Unit {0}) (end : End)
     (a b c : SourceState) (k l m : SinkState) (t u v : Transcript)
     → Shakes (Ok ok) may_init page fs fs1 a b k l t u → Serves 0 end acl owner b c l m u v
-    → outcome_of end ≡ Ok tt → Quiet k m → Headline may_init page acl owner fs a c k m
-by-end may_init page acl owner fs fs1 ok Gone a b c k l m t u v shakes serves is quiet =
+    → outcome_of end ≡ Ok tt → t ≡ nothing_yet → Lossless k m v → Headline may_init page acl owner fs a c k m
+by-end may_init page acl owner fs fs1 ok Gone a b c k l m t u v shakes serves is start lossless =
     let e = serves.ended in
-    put-together may_init page acl owner fs fs1 ok Gone a b c k l m t u v shakes serves quiet e.0 e.2
+    put-together may_init page acl owner fs fs1 ok Gone a b c k l m t u v shakes serves start lossless e.0 e.2
     (subst (λ (x : List (List ℕ)). EndsWell acl owner (map message x) c) (append-nil serves.answered)
     (EndsWell-after acl owner serves.answered [] c e.1 e.3))
-by-end may_init page acl owner fs fs1 ok Destroyed a b c k l m t u v shakes serves is quiet =
+by-end may_init page acl owner fs fs1 ok Destroyed a b c k l m t u v shakes serves is start lossless =
     let e = serves.ended in
-    put-together may_init page acl owner fs fs1 ok Destroyed a b c k l m t u v shakes serves quiet e.0 e.2
+    put-together may_init page acl owner fs fs1 ok Destroyed a b c k l m t u v shakes serves start lossless e.0 e.2
     (subst (λ (x : List (List ℕ)). EndsWell acl owner (map message x) c) (sym e.1.2)
     (EndsWell-after acl owner e.1.0 (e.1.1 ∷ []) c e.1.3 (EndsWell-last acl owner e.1.1 c e.1.4)))
-by-end may_init page acl owner fs fs1 ok (RunBroken r) a b c k l m t u v shakes serves is quiet = absurd (let no : ⊥ = cc in no)
-by-end may_init page acl owner fs fs1 ok RunFailed a b c k l m t u v shakes serves is quiet = absurd (let no : ⊥ = cc in no)
+by-end may_init page acl owner fs fs1 ok (RunBroken r) a b c k l m t u v shakes serves is start lossless = absurd (let no : ⊥ = cc in no)
+by-end may_init page acl owner fs fs1 ok RunFailed a b c k l m t u v shakes serves is start lossless = absurd (let no : ⊥ = cc in no)
 
 by-threads : {F : Type 0} (may_init : Inits F) (page : ℕ) (threads : Option ℕ) (acl : SessionACL) (owner : ℕ) (fs fs1 : F) (ok : Unit {0}) (outcome : Result (Unit {0}) SessionError)
     (a b c : SourceState) (k l m : SinkState) (t u v : Transcript)
     → Shakes (Ok ok) may_init page fs fs1 a b k l t u → Runs threads acl owner outcome b c l m u v
-    → outcome ≡ Ok tt → Quiet k m → Headline may_init page acl owner fs a c k m
-by-threads may_init page (Some zero) acl owner fs fs1 ok outcome a b c k l m t u v shakes runs is quiet = absurd (let h = runs.0 in let no : ⊥ = cc in no)
-by-threads may_init page (Some (suc n)) acl owner fs fs1 ok outcome a b c k l m t u v shakes runs is quiet =
-    by-end may_init page acl owner fs fs1 ok runs.end a b c k l m t u v shakes runs.serves (sym runs.outcome_is ∙ is) quiet
-by-threads may_init page None acl owner fs fs1 ok outcome a b c k l m t u v shakes runs is quiet =
-    by-end may_init page acl owner fs fs1 ok runs.end a b c k l m t u v shakes runs.serves (sym runs.outcome_is ∙ is) quiet
+    → outcome ≡ Ok tt → t ≡ nothing_yet → Lossless k m v → Headline may_init page acl owner fs a c k m
+by-threads may_init page (Some zero) acl owner fs fs1 ok outcome a b c k l m t u v shakes runs is start lossless = absurd (let h = runs.0 in let no : ⊥ = cc in no)
+by-threads may_init page (Some (suc n)) acl owner fs fs1 ok outcome a b c k l m t u v shakes runs is start lossless =
+    by-end may_init page acl owner fs fs1 ok runs.end a b c k l m t u v shakes runs.serves (sym runs.outcome_is ∙ is) start lossless
+by-threads may_init page None acl owner fs fs1 ok outcome a b c k l m t u v shakes runs is start lossless =
+    by-end may_init page acl owner fs fs1 ok runs.end a b c k l m t u v shakes runs.serves (sym runs.outcome_is ∙ is) start lossless
 
 by-handshake : {F : Type 0} (may_init : Inits F) (page : ℕ) (threads : Option ℕ) (acl : SessionACL) (owner : ℕ) (fs fs1 : F) (shook outcome : Result (Unit {0}) SessionError)
     (a b c : SourceState) (k l m : SinkState) (t u v : Transcript)
     → Shakes shook may_init page fs fs1 a b k l t u → GoesOnAs shook threads acl owner outcome b c l m u v
-    → outcome ≡ Ok tt → Quiet k m → Headline may_init page acl owner fs a c k m
-by-handshake may_init page threads acl owner fs fs1 (Ok ok) outcome a b c k l m t u v shakes behind is quiet =
-    by-threads may_init page threads acl owner fs fs1 ok outcome a b c k l m t u v shakes behind is quiet
-by-handshake may_init page threads acl owner fs fs1 (Err e) outcome a b c k l m t u v shakes behind is quiet =
+    → outcome ≡ Ok tt → t ≡ nothing_yet → Lossless k m v → Headline may_init page acl owner fs a c k m
+by-handshake may_init page threads acl owner fs fs1 (Ok ok) outcome a b c k l m t u v shakes behind is start lossless =
+    by-threads may_init page threads acl owner fs fs1 ok outcome a b c k l m t u v shakes behind is start lossless
+by-handshake may_init page threads acl owner fs fs1 (Err e) outcome a b c k l m t u v shakes behind is start lossless =
     absurd (let h = behind.0 in let no : ⊥ = cc in no)
 
 -- A session that ended well: each message that it took has the one reply that it is owed.
 pub Headline-from_session : {F : Type 0} (may_init : Inits F) (may_destroy : F → F → Type 0) (page : ℕ) (threads : Option ℕ) (acl : SessionACL) (owner : ℕ) (fs fs' : F)
     (outcome : Result (Unit {0}) SessionError) (a c : SourceState) (k m : SinkState) (v : Transcript)
-    → Session may_init may_destroy page threads acl owner fs fs' outcome a c k m v → outcome ≡ Ok tt → Quiet k m → Headline may_init page acl owner fs a c k m
-Headline-from_session may_init may_destroy page threads acl owner fs fs' outcome a c k m v session is quiet =
+    → Session may_init may_destroy page threads acl owner fs fs' outcome a c k m v → outcome ≡ Ok tt → Lossless k m v → Headline may_init page acl owner fs a c k m
+Headline-from_session may_init may_destroy page threads acl owner fs fs' outcome a c k m v session is lossless =
     let s = session.converses in
-    by-handshake may_init page threads acl owner fs session.fs1 s.shook outcome a s.source1 c k s.sink1 m nothing_yet s.counts1 v s.shakes s.behind is quiet
+    by-handshake may_init page threads acl owner fs session.fs1 s.shook outcome a s.source1 c k s.sink1 m nothing_yet s.counts1 v s.shakes s.behind is refl lossless

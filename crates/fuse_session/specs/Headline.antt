@@ -1,5 +1,5 @@
 -- When a session ends well: each message that it took has the one reply that it is owed.
-use Rattle.std.specs.Prelude.{◌≡◌, ◌++◌, ◌<◌, ℕ, Bool, true, false, not, List, [], ◌∷◌, map, filter}
+use Rattle.std.specs.Prelude.{◌≡◌, ◌⊎◌, ◌++◌, ◌<◌, ℕ, Bool, true, false, not, List, [], ◌∷◌, map, filter}
 use Rattle.std.specs.List.{AllByRecursion}
 use Rattle.fuse_wire.specs.Faults.{last_count}
 use Rattle.fuse_wire.specs.Source.{SourceState, Takes, message}
@@ -14,6 +14,7 @@ use Rattle.fuse_session.specs.OneEach.{OneEach}
 use Rattle.fuse_session.specs.Handshake.{Inits, Handshake}
 use Rattle.fuse_session.specs.Handshake.HandshakeEnd.{Accepted}
 use Rattle.fuse_session.specs.Moves.{NothingLeft}
+use Rattle.fuse_session.specs.declared.transcript.Transcript.{Transcript}
 
 -- the frames that are replies
 abbrev pub replies : List (List ℕ) → List (List ℕ)
@@ -37,6 +38,10 @@ EndsWell acl owner (m ∷ ms) after = EndsBehind (verdict acl owner m) ms (EndsW
 pub record Quiet (sink sink' : SinkState) : Type 0 where
   pub same : sink'.faults ≡ sink.faults
   pub counts : sink'.faults < last_count
+
+-- nothing was lost: the sink shows it, or the transcript
+abbrev pub Lossless : SinkState → SinkState → Transcript → Type 0
+Lossless sink sink' t' = Quiet sink sink' ⊎ (t'.lost ≡ 0)
 
 pub record Headline {F : Type 0} (may_init : Inits F) (page : ℕ) (acl : SessionACL) (owner : ℕ) (fs : F) (before after : SourceState) (sink sink' : SinkState) : Type 0 where
   -- the turns of the handshake, and the later ones

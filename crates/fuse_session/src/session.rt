@@ -3,7 +3,7 @@ ghost use Rattle.std.specs.Prelude.{◌≡◌, ◌≢◌, ◌≤◌, ◌<◌, Ok
 ghost use Rattle.fuse_session.specs.Counts.{nothing_yet};
 ghost use Rattle.fuse_session.specs.Causes.{Caused};
 ghost use Rattle.fuse_session.specs.Converses.{Runs, Converses, Session};
-ghost use Rattle.fuse_session.specs.Headline.{Headline, Quiet};
+ghost use Rattle.fuse_session.specs.Headline.{Headline, Lossless};
 
 use crate::handshake::handshake;
 use crate::serving::{End, run_inline};
@@ -146,7 +146,7 @@ pub fn mount<R: Wait + AllocGlobal, FS: Filesystem, S: Source, K: Sink + Send>(
     requires { 0 < page_size }
 
     // One reply for each message: see `Headline`.
-    ensures headline { result.outcome ≡ Ok tt → Quiet (K.told sink) (K.told result.sink) →
+    ensures headline { result.outcome ≡ Ok tt → Lossless (K.told sink) (K.told result.sink) result.transcript →
         Headline FS.may_init page_size config.now.acl owner filesystem (S.told source) (S.told result.source) (K.told sink) (K.told result.sink) }
 
     // What was taken, sent and lost on every end, with its cause, and that `destroy` was called once.

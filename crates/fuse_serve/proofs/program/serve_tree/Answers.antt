@@ -1,12 +1,13 @@
-use Rattle.std.proofs.Common.{◌≡◌, ◌∙◌, subst, sym, refl, ap, Some, Bool, ℕ, Ok, Err}
+use Rattle.std.proofs.Common.{◌≡◌, ◌∙◌, subst, sym, refl, ap, Some, Bool, ℕ, Ok, Err, inr}
 use Rattle.fuse_wire.specs.Source.{SourceState}
 use Rattle.fuse_wire.specs.Sink.{SinkState}
 use Rattle.fuse_wire.specs.StreamSource.{stream_told}
 use Rattle.fuse_wire.specs.StreamSink.{Stands, stream_told as sink_told}
 use Rattle.fuse_session.specs.Converses.{Session}
-use Rattle.fuse_session.specs.Headline.{Headline, Quiet}
+use Rattle.fuse_session.specs.Headline.{Headline, Lossless}
 use Rattle.fuse_serve.specs.Status.{status}
 use Rattle.fuse_serve.specs.Tree.{tree_may_init, tree_may_destroy}
+use Rattle.fuse_serve.proofs.Statuses.{zero-status}
 use Rattle.fuse_serve.proofs.Streams.{source-same, sink-same, carried}
 use Rattle.fuse_serve.proofs.program.serve_tree.Goals as goal
 
@@ -32,8 +33,11 @@ returns-clause-served g c =
       exit_is = subst (λ (b : Bool). c.status_of.result ≡ status m.outcome m.transcript.lost b) c.broken-broken.ensures c.status_of.ensures;
       session = λ memory. carried (λ a b k. Session tree_may_init tree_may_destroy c.args.form.page (Some c.args.form.threads) c.args.form.acl c.args.form.owner
           _ m.filesystem m.outcome a b k sink m.transcript) _ _ _ _ _ _ at_first at_last sink_first (c.mount-source.ensures.session memory);
-      headline = λ ok. carried (λ a b k. Quiet k sink → Headline tree_may_init c.args.form.page c.args.form.acl c.args.form.owner _ a b k sink)
-          _ _ _ _ _ _ at_first at_last sink_first (c.mount-source.ensures.headline ok);
+      headline = λ well.
+          let said = zero-status m.outcome m.transcript.lost m.sink.broken
+          (sym (subst (λ (b : Bool). c.status_of.result ≡ status m.outcome m.transcript.lost b) c.broken-broken.ensures c.status_of.ensures) ∙ well) in
+          carried (λ a b k. Lossless k sink m.transcript → Headline tree_may_init c.args.form.page c.args.form.acl c.args.form.owner _ a b k sink)
+          _ _ _ _ _ _ at_first at_last sink_first (c.mount-source.ensures.headline said.0) (inr said.1);
       memory = λ memory. carried (λ a b k. (b ≡ a) × (sink ≡ k)) _ _ _ _ _ _ at_first at_last sink_first
           ((c.mount-source.ensures.memory memory).1, (c.mount-source.ensures.memory memory).2);
       stands = subst (λ (k : SinkState). ∥ Stands k (told_out c.into_inner-2.result) m.sink.broken ∥₁) sink_last c.into_inner-2.ensures.stands;
