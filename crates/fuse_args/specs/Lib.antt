@@ -1,1 +1,4 @@
 pub mod Arguments
+pub mod DeviceParts
+pub mod FileParts
+pub mod NodeParts

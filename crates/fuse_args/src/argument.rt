@@ -1,9 +1,14 @@
 // The cursor over a body.
-ghost use Rattle.std.specs.Prelude.{◌≡◌, drop, length};
-ghost use Rattle.fuse_args.specs.Arguments.{Fetches, init_at};
+ghost use Rattle.std.specs.Prelude.{◌≡◌, ◌==◌, [], drop, length, position};
+ghost use Rattle.fuse_args.specs.Arguments.{Fetches, FetchesSlice, cuse_init_at, fixed, init_at, name_at, rows_at, u64_first};
+
+mod devices;
+mod files;
+mod nodes;
 
 use crate::InitArguments;
-use fuse_wire::{u32_at, u32_or_zero_at};
+use fuse_wire::{u32_at, u32_or_zero_at, u64_at};
+use memchr::memchr;
 use std::marker::Model;
 
 /// A reader of the bytes of a body. A contract sees the bytes that are left.
@@ -52,6 +57,75 @@ impl<'a> ArgumentIterator<'a> {
             flags2: u32_or_zero_at(all, 16),
         })
     }
+
+    /// A name: the bytes up to the first zero byte, which is passed too. None where no byte is zero.
+    pub fn fetch_str(&mut self) -> Option<&'a [u8]>
+        ensures { FetchesSlice result self.old self.new (name_at self.old) }
+    {
+        let all = self.rest;
+        let end = first_zero(all)?;
+        self.rest = &all[end + 1..];
+        Some(&all[..end])
+    }
+
+    /// All bytes that are left. Nothing is left behind them.
+    pub fn fetch_all(&mut self) -> &'a [u8]
+        ensures result { result.now ≡ self.old }
+        ensures left { self.new ≡ [] }
+    {
+        let all = self.rest;
+        self.rest = &[];
+        all
+    }
+
+    /// So many rows of 16 bytes, as BATCH_FORGET has them. None where fewer are left.
+    pub fn fetch_slice(&mut self, count: usize) -> Option<&'a [u8]>
+        ensures { FetchesSlice result self.old self.new (rows_at count self.old) }
+    {
+        let all = self.rest;
+        if all.len() / 16 < count {
+            return None;
+        }
+        let size = 16 * count;
+        self.rest = &all[size..];
+        Some(&all[..size])
+    }
+
+    /// A number of 8 bytes: the part of FORGET, RENAME, LINK and INTERRUPT.
+    pub fn fetch_u64(&mut self) -> Option<u64>
+        ensures { Fetches result self.old self.new (u64_first self.old) }
+    {
+        let all = self.fixed(8)?;
+        Some(u64_at(all, 0))
+    }
+
+    /// The part of CUSE_INIT, of 64 bytes. No field of it is read.
+    pub fn fetch_cuse_init(&mut self) -> Option<()>
+        ensures { Fetches result self.old self.new (cuse_init_at self.old) }
+    {
+        self.fixed(64)?;
+        Some(())
+    }
+
+    /// All bytes that were left, where a part of this size is there, and moves behind that part.
+    fn fixed(&mut self, size: usize) -> Option<&'a [u8]>
+        ensures { FetchesSlice result self.old self.new (fixed size (λ bytes. bytes) self.old) }
+    {
+        let all = self.rest;
+        if all.len() < size {
+            return None;
+        }
+        self.rest = &all[size..];
+        Some(all)
+    }
+}
+
+/// The place of the first zero byte.
+#[tactic(auto, using(crate::proofs::Names::position_is_first))]
+fn first_zero(bytes: &[u8]) -> Option<usize>
+    ensures { result ≡ position (λ byte. byte == 0) bytes.now }
+{
+    memchr(0, bytes)
 }
 
 /// What lies behind so many bytes, or nothing.

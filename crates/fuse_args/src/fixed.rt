@@ -1,5 +1,19 @@
 // The parts of fixed size in front of a body, each a struct of `fuse.h`.
 
+mod devices;
+mod files;
+mod nodes;
+
+pub use devices::{BMapArguments, GetLkArguments, IoCtlArguments, PollArguments};
+pub use files::{
+    CopyFileRangeArguments, CreateArguments, FAllocateArguments, FSyncArguments, FlushArguments,
+    LseekArguments, OpenArguments, ReadArguments, ReleaseArguments, WriteArguments,
+};
+pub use nodes::{
+    AccessArguments, BatchForgetArguments, GetAttrArguments, GetXAttrArguments, MkDirArguments,
+    MkNodArguments, Rename2Arguments, SetAttrArguments, SetXAttrArguments,
+};
+
 /// The arguments of INIT: `struct fuse_init_in`. What a message is too short for is zero.
 #[derive(Clone, Copy, Debug, PartialEq, Eq)]
 pub struct InitArguments {

@@ -5,7 +5,15 @@
 mod argument;
 mod fixed;
 #[cfg(test)]
+mod part_tests;
+#[cfg(test)]
 mod tests;
 
 pub use argument::ArgumentIterator;
-pub use fixed::InitArguments;
+pub use fixed::{
+    AccessArguments, BMapArguments, BatchForgetArguments, CopyFileRangeArguments, CreateArguments,
+    FAllocateArguments, FSyncArguments, FlushArguments, GetAttrArguments, GetLkArguments,
+    GetXAttrArguments, InitArguments, IoCtlArguments, LseekArguments, MkDirArguments,
+    MkNodArguments, OpenArguments, PollArguments, ReadArguments, ReleaseArguments,
+    Rename2Arguments, SetAttrArguments, SetXAttrArguments, WriteArguments,
+};

@@ -1,4 +1,4 @@
-// The arguments of INIT, as kernels of several ages send them.
+// What is fetched from bodies of several lengths: INIT as kernels of several ages send it, names, and rows.
 use crate::{ArgumentIterator, InitArguments};
 use std::test::Fail;
 
@@ -26,5 +26,101 @@ fn fetches_init_of_each_length(rt: HostRuntime) -> Result<(), Fail> {
     let mut arguments = ArgumentIterator::new(BYTES.get(..15).unwrap_or(&[]));
     assert_eq!(rt; arguments.fetch_init(), None);
     assert_eq!(rt; arguments.len(), 15);
+    Ok(())
+}
+
+#[test]
+fn fetches_numbers_below_zero(rt: HostRuntime) -> Result<(), Fail> {
+    let mut bytes = [0xff; 48];
+    bytes[8] = 0xfe;
+    bytes[32] = 0xfd;
+    let write = ArgumentIterator::new(&bytes).fetch_write();
+    assert_eq!(rt;
+        write.map(|write| (write.offset, write.flags)),
+        Some((-2, -3))
+    );
+    let lseek = ArgumentIterator::new(&bytes).fetch_lseek();
+    assert_eq!(rt;
+        lseek.map(|lseek| (lseek.offset, lseek.whence)),
+        Some((-2, -1))
+    );
+    let lock = ArgumentIterator::new(&bytes).fetch_getlk();
+    assert_eq!(rt; lock.map(|lock| lock.typ), Some(-3));
+    Ok(())
+}
+
+#[test]
+fn fetches_rows(rt: HostRuntime) -> Result<(), Fail> {
+    let bytes = [7; 35];
+    let cases = [
+        (0, Some(0), 35),
+        (1, Some(16), 19),
+        (2, Some(32), 3),
+        (3, None, 35),
+        (0x1000_0000_0000_0000, None, 35),
+        (usize::MAX, None, 35),
+    ];
+    for (count, size, left) in cases {
+        let mut arguments = ArgumentIterator::new(&bytes);
+        let rows = arguments.fetch_slice(count);
+        assert_eq!(rt; rows.map(|rows| rows.len()), size, "of {count}");
+        assert_eq!(rt; arguments.len(), left, "of {count}");
+    }
+    let mut arguments = ArgumentIterator::new(b"0123456789abcdef0123456789ABCDEF*");
+    assert!(rt; arguments.fetch_slice(1).is_some());
+    let second: &[u8] = b"0123456789ABCDEF";
+    assert_eq!(rt; arguments.fetch_slice(1), Some(second));
+    Ok(())
+}
+
+/// What a fetch of a name from these bytes gives, and how many bytes it leaves.
+fn name_and_left(bytes: &[u8]) -> (Option<&[u8]>, usize) {
+    let mut arguments = ArgumentIterator::new(bytes);
+    let name = arguments.fetch_str();
+    (name, arguments.len())
+}
+
+#[test]
+fn fetches_names(rt: HostRuntime) -> Result<(), Fail> {
+    let cases: [(&[u8], Option<&[u8]>, usize); 6] = [
+        (b"bar\0ba", Some(b"bar"), 2),
+        (b"bar\0", Some(b"bar"), 0),
+        (b"\0ba", Some(b""), 2),
+        (b"\0\0", Some(b""), 1),
+        (b"bar", None, 3),
+        (b"", None, 0),
+    ];
+    for (bytes, name, left) in cases {
+        assert_eq!(rt; name_and_left(bytes), (name, left));
+    }
+    Ok(())
+}
+
+#[test]
+fn fetches_one_after_another(rt: HostRuntime) -> Result<(), Fail> {
+    let bytes = b"foo\0bar\0ba";
+    let names: [&[u8]; 2] = [b"foo", b"bar"];
+    let mut arguments = ArgumentIterator::new(bytes);
+    for name in names {
+        assert_eq!(rt; arguments.fetch_str(), Some(name));
+    }
+    assert_eq!(rt; arguments.len(), 2);
+
+    let mut arguments = ArgumentIterator::new(bytes);
+    assert!(rt; arguments.fetch_u64().is_some());
+    assert_eq!(rt; arguments.fetch_u64(), None);
+    assert_eq!(rt; arguments.fetch_access(), None);
+    assert_eq!(rt; arguments.fetch_str(), None);
+    assert_eq!(rt; arguments.len(), 2);
+    let end: &[u8] = b"ba";
+    assert_eq!(rt; arguments.fetch_all(), end);
+    assert_eq!(rt; arguments.len(), 0);
+
+    let mut arguments = ArgumentIterator::new(bytes);
+    assert!(rt; arguments.fetch_str().is_some());
+    let end: &[u8] = b"bar\0ba";
+    assert_eq!(rt; arguments.fetch_all(), end);
+    let none: &[u8] = b"";
+    assert_eq!(rt; arguments.fetch_all(), none);
     Ok(())
 }

@@ -1,5 +1,5 @@
 -- Frames: what their fields read, and which of them are replies.
-use Rattle.std.proofs.Common.{◌≡◌, ◌≤◌, ◌<◌, ◌+◌, ◌-◌, ◌^◌, ◌++◌, ◌&&◌, ℕ, ℤ, pos, zero, suc, List, [], false, length, ap, sym, ◌∙◌, arith, negsuc, nat_lt}
+use Rattle.std.proofs.Common.{◌≡◌, ◌≤◌, ◌<◌, ◌+◌, ◌-◌, ◌^◌, ◌++◌, ◌&&◌, ℕ, ℤ, pos, zero, suc, List, [], false, length, ap, sym, ◌∙◌, arith, negsuc, nat_lt, lit<, inl, inr, subst}
 use Rattle.std.proofs.Math.Bool.{and-false}
 use Rattle.std.proofs.lemmas.Bool.{le-ltb}
 use Rattle.std.specs.Int.{w32, w64, to_le_bytes, cast_unsigned}
@@ -7,8 +7,12 @@ use Rattle.fuse_wire.specs.Numbers.{number}
 use Rattle.fuse_wire.specs.Frames.{IsFrame}
 use Rattle.fuse_wire.proofs.NumberLaws.{number-to_le_bytes_4, number-append_right}
 use Rattle.fuse_reply.specs.Answer.{Answer, IsAnswer}
-use Rattle.fuse_reply.specs.Answer.Answer.{Error, Empty}
-use Rattle.fuse_reply.specs.Frame.{frame, reply, is_set_aside}
+use Rattle.fuse_reply.specs.Answer.Answer.{Error, Empty, Data, Entry, Attr}
+use Rattle.fuse_reply.specs.Frame.{frame, reply, payload, status, is_set_aside}
+use Rattle.fuse_reply.specs.Attributes.{entry_payload, attr_payload}
+use Rattle.fuse_reply.specs.Reply.{Replies}
+use Rattle.fuse_reply.specs.declared.out.Out.TheVariants.{Frame}
+use Rattle.fuse_reply.proofs.PayloadLength.{payload-fits}
 
 -- a frame is its header and its payload
 pub length-frame : (id : ℕ) (status : ℤ) (p : List ℕ) → length (frame id status p) ≡ 16 + length p
@@ -51,3 +55,26 @@ pub not_set_aside-reply : (id : ℕ) (a : Answer) → IsAnswer a → is_set_asid
 not_set_aside-reply id (Error zero) valid = not_set_aside-frame_zero id []
 not_set_aside-reply id (Error (suc errno)) valid = not_set_aside-frame_error id errno [] valid.1
 not_set_aside-reply id Empty valid = not_set_aside-frame_zero id []
+not_set_aside-reply id (Data bytes) valid = not_set_aside-frame_zero id bytes
+not_set_aside-reply id (Entry entry_valid attr_valid generation attr) valid =
+    not_set_aside-frame_zero id (entry_payload entry_valid attr_valid generation attr)
+not_set_aside-reply id (Attr valid attr) fits = not_set_aside-frame_zero id (attr_payload valid attr)
+
+-- a reply is one frame on a stream
+pub is_frame-reply : (id : ℕ) (a : Answer) → IsAnswer a → IsFrame (reply id a)
+is_frame-reply id a valid = is_frame-frame id (status a) (payload a) (payload-fits a valid)
+
+same_frame : (f g : List ℕ) → Frame f ≡ Frame g → f ≡ g
+same_frame f g same = cc
+
+-- what a reply came to is no notice
+pub not_set_aside-replies : (id : ℕ) (a : Answer) (f : List ℕ) → IsAnswer a → Replies id a (Frame f) → is_set_aside f ≡ false
+not_set_aside-replies id a f valid (inl same) = ap is_set_aside (same_frame f (reply id a) same) ∙ not_set_aside-reply id a valid
+not_set_aside-replies id a f valid (inr (long, same)) =
+    ap is_set_aside (same_frame f (reply id (Error 12)) same) ∙ not_set_aside-reply id (Error 12) (lit< tt, lit< tt)
+
+-- and it is one frame on a stream
+pub is_frame-replies : (id : ℕ) (a : Answer) (f : List ℕ) → IsAnswer a → Replies id a (Frame f) → IsFrame f
+is_frame-replies id a f valid (inl same) = subst IsFrame (sym (same_frame f (reply id a) same)) (is_frame-reply id a valid)
+is_frame-replies id a f valid (inr (long, same)) =
+    subst IsFrame (sym (same_frame f (reply id (Error 12)) same)) (is_frame-reply id (Error 12) (lit< tt, lit< tt))

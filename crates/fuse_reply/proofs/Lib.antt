@@ -1,2 +1,3 @@
 pub mod FrameLength
+pub mod PayloadLength
 pub mod FrameLaws

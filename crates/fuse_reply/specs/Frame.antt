@@ -4,7 +4,8 @@ use Rattle.std.specs.Int.{w32, w64, to_le_bytes, cast_unsigned}
 use Rattle.std.specs.Prelude.{neg_ℤ}
 use Rattle.fuse_wire.specs.Numbers.{number}
 use Rattle.fuse_reply.specs.Answer.{Answer}
-use Rattle.fuse_reply.specs.Answer.Answer.{Error, Empty}
+use Rattle.fuse_reply.specs.Answer.Answer.{Error, Empty, Data, Entry, Attr}
+use Rattle.fuse_reply.specs.Attributes.{entry_payload, attr_payload}
 
 -- len4 error4 unique8, where the length counts the header too
 abbrev pub out_header : (id : ℕ) (status : ℤ) (payload_length : ℕ) → List ℕ
@@ -17,11 +18,17 @@ frame id status payload = out_header id status (length payload) ++ payload
 abbrev pub payload : Answer → List ℕ
 payload (Error errno) = []
 payload Empty = []
+payload (Data bytes) = bytes
+payload (Entry entry_valid attr_valid generation attr) = entry_payload entry_valid attr_valid generation attr
+payload (Attr valid attr) = attr_payload valid attr
 
 -- the status of an answer: zero, or an error's number below zero
 abbrev pub status : Answer → ℤ
 status (Error errno) = neg_ℤ (pos errno)
 status Empty = pos 0
+status (Data bytes) = pos 0
+status (Entry entry_valid attr_valid generation attr) = pos 0
+status (Attr valid attr) = pos 0
 
 -- the frame that carries an answer to the request of that id
 abbrev pub reply : (id : ℕ) → Answer → List ℕ

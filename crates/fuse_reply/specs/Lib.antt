@@ -1,4 +1,6 @@
 pub mod Answer
+pub mod Attributes
 pub mod Frame
+pub mod Reply
 pub mod Deliver
 pub mod Notice

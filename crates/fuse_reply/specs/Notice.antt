@@ -1,5 +1,5 @@
 -- Notices: frames that nobody asked for, with a positive status and no id (`enum fuse_notify_code` and the structs of `fuse.h`).
-use Rattle.std.specs.Prelude.{◌≡◌, ℕ, ◌++◌, List, [], ◌∷◌, length, pos, ℤ, replicate}
+use Rattle.std.specs.Prelude.{ℕ, ◌++◌, List, [], ◌∷◌, length, pos, ℤ, replicate}
 use Rattle.std.specs.Int.{w32, w64, to_le_bytes, cast_unsigned}
 use Rattle.fuse_reply.specs.Frame.{frame}
 

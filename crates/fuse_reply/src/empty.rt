@@ -1,6 +1,7 @@
 // A reply without a payload.
 ghost use Rattle.std.specs.Prelude.{◌≡◌};
 ghost use Rattle.fuse_reply.specs.Frame.{reply};
+ghost use Rattle.fuse_reply.specs.Answer.{IsAnswer};
 ghost use Rattle.fuse_reply.specs.Answer.Answer.{Empty, Error};
 
 use crate::{Out, Packed, Replied};
@@ -41,10 +42,11 @@ impl ReplyEmpty {
 
     /// It failed.
     pub fn error(self, error: Errno) -> Replied
-        ensures { result ≡ Out.Frame (reply self (Error error)) }
+        ensures reply { result ≡ Out.Frame (reply self (Error error)) }
+        ensures answer { IsAnswer (Error error) }
     {
         let ReplyEmpty { id, alloc } = self;
-        Replied::new(Out::Frame(Packed::bare(alloc, id, -error.code())))
+        Replied::failed(alloc, id, error)
     }
 
     /// Nothing answered it: an error of input or output.

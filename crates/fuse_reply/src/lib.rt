@@ -2,7 +2,11 @@
 //! The layers above rely on this: what goes out is the frame of that request's id and of the answer given.
 #![tactic(auto)]
 
+mod attr;
+mod attributes;
+mod data_reply;
 mod empty;
+mod entry;
 mod no_memory;
 mod out;
 mod packed;
@@ -10,7 +14,10 @@ mod replied;
 #[cfg(test)]
 mod tests;
 
+pub use attr::ReplyAttr;
+pub use data_reply::ReplyData;
 pub use empty::ReplyEmpty;
+pub use entry::ReplyEntry;
 pub use no_memory::NoMemory;
 pub use out::{Out, OutEnd};
 pub use packed::Packed;

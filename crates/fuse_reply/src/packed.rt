@@ -1,5 +1,5 @@
 // A whole frame.
-ghost use Rattle.std.specs.Prelude.{◌≡◌, ◌≤◌, ◌<◌, ◌+◌, ◌-◌, ◌^◌, ◌++◌, [], length, IsOk, IfOk};
+ghost use Rattle.std.specs.Prelude.{◌≡◌, ◌≤◌, ◌<◌, ◌+◌, ◌-◌, ◌^◌, ◌++◌, [], length, pos, IsOk, IfOk};
 ghost use Rattle.fuse_wire.specs.Numbers.{number};
 ghost use Rattle.fuse_wire.specs.Sink.{Sends};
 ghost use Rattle.fuse_reply.specs.Frame.{frame, out_header};
@@ -76,6 +76,14 @@ impl Packed {
             header: header_of(id, status, 0),
             payload: SmallVec::new(alloc),
         }
+    }
+
+    /// The frame of status 0 and a payload that is held without an allocation.
+    pub(crate) fn short(alloc: Global, id: RequestId, payload: &[u8]) -> Packed
+        requires { length payload.now ≤ 144 }
+        ensures { result ≡ frame id.0 (pos 0) payload.now }
+    {
+        Packed::new(alloc, id, 0, payload).unwrap()
     }
 
     /// Sends the frame.

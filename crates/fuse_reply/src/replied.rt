@@ -1,7 +1,12 @@
 // A reply that was spent.
 ghost use Rattle.std.specs.Prelude.{◌≡◌};
+ghost use Rattle.fuse_reply.specs.Frame.{reply};
+ghost use Rattle.fuse_reply.specs.Answer.{IsAnswer};
+ghost use Rattle.fuse_reply.specs.Answer.Answer.{Error};
 
-use crate::Out;
+use crate::{Out, Packed};
+use fuse_wire::{Errno, RequestId};
+use std::alloc::Global;
 use std::marker::Model;
 
 /// What a reply was spent into. It must be spent too, into what goes out. A contract sees that.
@@ -24,6 +29,14 @@ impl Replied {
         ensures { result ≡ out }
     {
         Replied { out }
+    }
+
+    /// The request of this id failed.
+    pub(crate) fn failed(alloc: Global, id: RequestId, error: Errno) -> Replied
+        ensures reply { result ≡ Out.Frame (reply id.0 (Error error)) }
+        ensures answer { IsAnswer (Error error) }
+    {
+        Replied::new(Out::Frame(Packed::bare(alloc, id, -error.code())))
     }
 
     /// What goes out.

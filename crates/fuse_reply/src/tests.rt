@@ -1,6 +1,8 @@
 // What goes out, as bytes.
-use crate::{Out, OutEnd, Packed, ReplyEmpty};
-use fuse_wire::{Errno, MemorySink, RequestId};
+use crate::{Out, OutEnd, Packed, ReplyAttr, ReplyData, ReplyEmpty, ReplyEntry};
+use fuse_wire::{
+    Duration, Errno, FileAttr, FileType, Generation, INodeNo, MemorySink, RequestId, SystemTime,
+};
 use std::alloc::Global;
 use std::process::Abort;
 use std::test::Fail;
@@ -26,6 +28,46 @@ fn sends_frame<A: Abort>(rt: &A, alloc: Global, out: Out, expected: &[u8]) {
     assert_eq!(rt; sink.notes().len(), 0);
 }
 
+/// One frame goes out, which has these bytes from `at` to `end`.
+fn sends_part<A: Abort>(rt: &A, alloc: Global, out: Out, at: usize, end: usize, expected: &[u8]) {
+    let (sink, became) = sent(alloc, out);
+    assert_eq!(rt; became, OutEnd::Written);
+    assert_eq!(rt; sink.frames().len(), 1);
+    for frame in sink.frames() {
+        assert_eq!(rt; frame.as_slice().get(at..end), Some(expected));
+    }
+}
+
+/// The attributes that are sent.
+fn attributes() -> FileAttr {
+    let time = SystemTime(0x1234 * 1_000_000_000 + 0x5678);
+    FileAttr {
+        ino: INodeNo(0x11),
+        size: 0x22,
+        blocks: 0x33,
+        atime: time,
+        mtime: time,
+        ctime: time,
+        crtime: time,
+        kind: FileType::RegularFile,
+        perm: 0o644,
+        nlink: 0x55,
+        uid: 0x66,
+        gid: 0x77,
+        rdev: 0x88,
+        blksize: 0xbb,
+        flags: 0x99,
+    }
+}
+
+/// Their bytes.
+const ATTRIBUTES: [u8; 88] = [
+    0x11, 0, 0, 0, 0, 0, 0, 0, 0x22, 0, 0, 0, 0, 0, 0, 0, 0x33, 0, 0, 0, 0, 0, 0, 0, 0x34, 0x12, 0,
+    0, 0, 0, 0, 0, 0x34, 0x12, 0, 0, 0, 0, 0, 0, 0x34, 0x12, 0, 0, 0, 0, 0, 0, 0x78, 0x56, 0, 0,
+    0x78, 0x56, 0, 0, 0x78, 0x56, 0, 0, 0xa4, 0x81, 0, 0, 0x55, 0, 0, 0, 0x66, 0, 0, 0, 0x77, 0, 0,
+    0, 0x88, 0, 0, 0, 0xbb, 0, 0, 0, 0, 0, 0, 0,
+];
+
 #[test]
 fn answers_by_a_status(rt: HostRuntime) {
     let alloc = rt.alloc();
@@ -46,6 +88,149 @@ fn answers_by_a_status(rt: HostRuntime) {
     ];
     let silent = ReplyEmpty::new(alloc, ID).unanswered();
     sends_frame(&rt, alloc, silent.into_out(), &unanswered);
+}
+
+#[test]
+fn fails_by_a_status(rt: HostRuntime) {
+    let alloc = rt.alloc();
+    let failed = [
+        16, 0, 0, 0, 0xbe, 0xff, 0xff, 0xff, 0xef, 0xbe, 0xad, 0xde, 0, 0, 0, 0,
+    ];
+    let unanswered = [
+        16, 0, 0, 0, 0xfb, 0xff, 0xff, 0xff, 0xef, 0xbe, 0xad, 0xde, 0, 0, 0, 0,
+    ];
+    let error = Errno::from_i32(66);
+    let entry = ReplyEntry::new(alloc, ID).error(error);
+    sends_frame(&rt, alloc, entry.into_out(), &failed);
+    let entry = ReplyEntry::new(alloc, ID).unanswered();
+    sends_frame(&rt, alloc, entry.into_out(), &unanswered);
+    let attr = ReplyAttr::new(alloc, ID).error(error);
+    sends_frame(&rt, alloc, attr.into_out(), &failed);
+    let attr = ReplyAttr::new(alloc, ID).unanswered();
+    sends_frame(&rt, alloc, attr.into_out(), &unanswered);
+    let bytes = ReplyData::new(alloc, ID).error(error);
+    sends_frame(&rt, alloc, bytes.into_out(), &failed);
+    let bytes = ReplyData::new(alloc, ID).unanswered();
+    sends_frame(&rt, alloc, bytes.into_out(), &unanswered);
+}
+
+#[test]
+fn answers_by_an_entry(rt: HostRuntime) {
+    let alloc = rt.alloc();
+    let ttl = Duration::new(0x8765, 0x4321);
+    let reply = ReplyEntry::new(alloc, ID).entry(&ttl, &attributes(), Generation(0xaa));
+    let front = [
+        0x90, 0, 0, 0, 0, 0, 0, 0, 0xef, 0xbe, 0xad, 0xde, 0, 0, 0, 0, 0x11, 0, 0, 0, 0, 0, 0, 0,
+        0xaa, 0, 0, 0, 0, 0, 0, 0, 0x65, 0x87, 0, 0, 0, 0, 0, 0, 0x65, 0x87, 0, 0, 0, 0, 0, 0,
+        0x21, 0x43, 0, 0, 0x21, 0x43, 0, 0,
+    ];
+    let mut expected = [0; 144];
+    expected[..56].copy_from_slice(&front);
+    expected[56..].copy_from_slice(&ATTRIBUTES);
+    sends_frame(&rt, alloc, reply.into_out(), &expected);
+}
+
+#[test]
+fn holds_name_and_attributes_for_their_own_time(rt: HostRuntime) {
+    let alloc = rt.alloc();
+    let attr_ttl = Duration::new(1, 2);
+    let entry_ttl = Duration::new(3, 999_999_999);
+    let reply = ReplyEntry::new(alloc, ID).entry_with_ttls(
+        &attr_ttl,
+        &entry_ttl,
+        &attributes(),
+        Generation(0xaa),
+    );
+    let valid = [
+        3, 0, 0, 0, 0, 0, 0, 0, 1, 0, 0, 0, 0, 0, 0, 0, 0xff, 0xc9, 0x9a, 0x3b, 2, 0, 0, 0,
+    ];
+    sends_part(&rt, alloc, reply.into_out(), 32, 56, &valid);
+}
+
+#[test]
+fn answers_by_attributes(rt: HostRuntime) {
+    let alloc = rt.alloc();
+    let ttl = Duration::new(0x8765, 0x4321);
+    let reply = ReplyAttr::new(alloc, ID).attr(&ttl, &attributes());
+    let front = [
+        0x78, 0, 0, 0, 0, 0, 0, 0, 0xef, 0xbe, 0xad, 0xde, 0, 0, 0, 0, 0x65, 0x87, 0, 0, 0, 0, 0,
+        0, 0x21, 0x43, 0, 0, 0, 0, 0, 0,
+    ];
+    let mut expected = [0; 120];
+    expected[..32].copy_from_slice(&front);
+    expected[32..].copy_from_slice(&ATTRIBUTES);
+    sends_frame(&rt, alloc, reply.into_out(), &expected);
+}
+
+#[test]
+fn joins_kind_and_permissions(rt: HostRuntime) {
+    let alloc = rt.alloc();
+    for (kind, perm, mode) in [
+        (FileType::NamedPipe, 0, [0, 0x10, 0, 0]),
+        (FileType::CharDevice, 0, [0, 0x20, 0, 0]),
+        (FileType::Directory, 0, [0, 0x40, 0, 0]),
+        (FileType::BlockDevice, 0, [0, 0x60, 0, 0]),
+        (FileType::RegularFile, 0, [0, 0x80, 0, 0]),
+        (FileType::Symlink, 0, [0, 0xa0, 0, 0]),
+        (FileType::Socket, 0, [0, 0xc0, 0, 0]),
+        (FileType::Directory, 0o755, [0xed, 0x41, 0, 0]),
+        (FileType::RegularFile, 0o7777, [0xff, 0x8f, 0, 0]),
+        (FileType::RegularFile, 0x81a4, [0xa4, 0x81, 0, 0]),
+        (FileType::Socket, 0xffff, [0xff, 0xff, 0, 0]),
+    ] {
+        let mut attr = attributes();
+        attr.kind = kind;
+        attr.perm = perm;
+        let reply = ReplyAttr::new(alloc, ID).attr(&Duration::new(1, 0), &attr);
+        sends_part(&rt, alloc, reply.into_out(), 92, 96, &mode);
+    }
+}
+
+#[test]
+fn carries_each_time_in_its_place(rt: HostRuntime) {
+    let alloc = rt.alloc();
+    let mut attr = attributes();
+    attr.atime = SystemTime(-1_200_000_000);
+    attr.mtime = SystemTime(1_000_000_002);
+    attr.ctime = SystemTime(-1);
+    let times = [
+        0xfe, 0xff, 0xff, 0xff, 0xff, 0xff, 0xff, 0xff, 1, 0, 0, 0, 0, 0, 0, 0, 0xff, 0xff, 0xff,
+        0xff, 0xff, 0xff, 0xff, 0xff, 0, 0x08, 0xaf, 0x2f, 2, 0, 0, 0, 0xff, 0xc9, 0x9a, 0x3b,
+    ];
+    let reply = ReplyAttr::new(alloc, ID).attr(&Duration::new(1, 0), &attr);
+    sends_part(&rt, alloc, reply.into_out(), 56, 92, &times);
+}
+
+#[test]
+fn answers_by_bytes(rt: HostRuntime) {
+    let alloc = rt.alloc();
+    let expected = [
+        20, 0, 0, 0, 0, 0, 0, 0, 0xef, 0xbe, 0xad, 0xde, 0, 0, 0, 0, 0xde, 0xad, 0xbe, 0xef,
+    ];
+    let reply = ReplyData::new(alloc, ID).data(&[0xde, 0xad, 0xbe, 0xef]);
+    sends_frame(&rt, alloc, reply.into_out(), &expected);
+    let expected = [
+        20, 0, 0, 0, 0, 0, 0, 0, 0xef, 0xbe, 0xad, 0xde, 0, 0, 0, 0, 0x12, 0x34, 0x78, 0x56,
+    ];
+    let reply = ReplyData::new(alloc, ID).data(&[0x12, 0x34, 0x78, 0x56]);
+    sends_frame(&rt, alloc, reply.into_out(), &expected);
+}
+
+#[test]
+fn answers_by_bytes_of_any_number(rt: HostRuntime) {
+    let alloc = rt.alloc();
+    for (count, length) in [(0, 16), (144, 160), (145, 161), (200, 216)] {
+        let mut bytes = [0; 200];
+        for i in 0..200 {
+            bytes[i] = i as u8;
+        }
+        let reply = ReplyData::new(alloc, ID).data(&bytes[..count]);
+        let mut expected = [0; 216];
+        expected[0] = length;
+        expected[8..12].copy_from_slice(&[0xef, 0xbe, 0xad, 0xde]);
+        expected[16..].copy_from_slice(&bytes);
+        sends_frame(&rt, alloc, reply.into_out(), &expected[..length as usize]);
+    }
 }
 
 #[test]

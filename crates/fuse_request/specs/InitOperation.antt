@@ -1,9 +1,10 @@
--- INIT: what a kernel offers (`struct fuse_init_in` of `fuse.h`).
+-- INIT: what a kernel offers (`struct fuse_init_in` of `fuse.h`), and INTERRUPT (`struct fuse_interrupt_in`).
 use Rattle.std.specs.Prelude.{ℕ, ◌+◌, ◌*◌, ◌^◌, ◌==◌, if◌then◌else◌}
 use Rattle.std.specs.Int.RustNames.{bit_and}
 use Rattle.fuse_args.specs.declared.fixed.InitArguments.{InitArguments}
 use Rattle.fuse_wire.specs.declared.newtypes.Version.{Version}
 use Rattle.fuse_request.specs.declared.operation.Init.{Init}
+use Rattle.fuse_request.specs.declared.operation.Interrupt.{Interrupt}
 
 -- the arguments that it carries
 abbrev pub arguments_of : Init → InitArguments
@@ -16,3 +17,7 @@ offered init = if bit_and init.flags (2 ^ 30) == 0 then init.flags else init.fla
 -- the kernel's version
 abbrev pub version : InitArguments → Version
 version init = record { 0 = init.major; 1 = init.minor }
+
+-- the request that INTERRUPT speaks of
+abbrev pub unique_asked : Interrupt → ℕ
+unique_asked interrupt = interrupt.unique

@@ -1,4 +1,11 @@
 pub mod Asker
+pub mod Arguments
+pub mod Fields
+pub mod Setting
+pub mod Forgets
 pub mod InitOperation
 pub mod Header
 pub mod Operation
+pub mod Call
+pub mod Behind
+pub mod ErrorText

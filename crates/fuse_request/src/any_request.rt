@@ -1,10 +1,10 @@
 // A message taken apart.
 ghost use Rattle.std.specs.Prelude.{◌≡◌, ◌≤◌, length};
 ghost use Rattle.fuse_request.specs.Header.{Decodes, header_fields, body_of, header_of, request_of};
-ghost use Rattle.fuse_request.specs.Operation.{Is, operation};
+ghost use Rattle.fuse_request.specs.Operation.{Is, Keeps, operation};
 
-use crate::{Destroy, Init, Operation, Request, RequestError};
-use fuse_args::ArgumentIterator;
+use crate::decoding::name_operation;
+use crate::{Operation, Request, RequestError};
 use fuse_wire::{INodeNo, RequestId, u32_at, u64_at};
 
 /// How long a header is.
@@ -124,20 +124,11 @@ impl<'a> AnyRequest<'a> {
         }
     }
 
-    /// What is asked.
-    pub fn operation(&self) -> Result<Operation, RequestError>
-        ensures { Is result (operation (header_of self.now).opcode (body_of self.now)) }
+    /// What is asked. An operation that has a place in the node of the request keeps that node.
+    pub fn operation(&self) -> Result<Operation<'a>, RequestError>
+        ensures operation { Is result (operation (header_of self.now).opcode (body_of self.now)) }
+        ensures node { Keeps result (header_of self.now).nodeid }
     {
-        match self.header.opcode {
-            26 => {
-                let mut arguments = ArgumentIterator::new(self.body);
-                match arguments.fetch_init() {
-                    Some(init) => Ok(Operation::Init(Init::new(init))),
-                    None => Err(RequestError::InsufficientData),
-                }
-            }
-            38 => Ok(Operation::Destroy(Destroy)),
-            opcode => Err(RequestError::UnknownOperation(opcode)),
-        }
+        name_operation(self.header.opcode, self.header.nodeid, self.body)
     }
 }

@@ -1,9 +1,15 @@
 // What is asked.
 ghost use Rattle.std.specs.Prelude.{◌≡◌};
 
+use crate::{
+    Access, BMap, BatchForget, CopyFileRange, Create, FAllocate, FSync, FSyncDir, Flush, Forget,
+    GetAttr, GetLk, GetXAttr, IoCtl, Link, ListXAttr, Lookup, Lseek, MkDir, MkNod, Open, OpenDir,
+    Poll, Read, ReadDir, ReadDirPlus, ReadLink, Release, ReleaseDir, RemoveXAttr, Rename, Rename2,
+    RmDir, SetAttr, SetLk, SetXAttr, StatFs, SymLink, Unlink, Write,
+};
 use bitflags::Flags;
 use fuse_args::InitArguments;
-use fuse_wire::{InitFlags, Version};
+use fuse_wire::{InitFlags, RequestId, Version};
 
 /// INIT: a kernel offers to speak.
 #[derive(Clone, Copy, Debug, PartialEq, Eq)]
@@ -51,11 +57,129 @@ impl Init {
 #[derive(Clone, Copy, Debug, PartialEq, Eq)]
 pub struct Destroy;
 
+/// INTERRUPT: a request need not be answered any more.
+#[derive(Clone, Copy, Debug, PartialEq, Eq)]
+pub struct Interrupt {
+    unique: u64,
+}
+
+impl Interrupt {
+    ghost use Rattle.fuse_request.specs.InitOperation.{unique_asked};
+
+    /// The operation of this number.
+    pub(crate) fn new(unique: u64) -> Interrupt
+        ensures { unique_asked result ≡ unique }
+    {
+        Interrupt { unique }
+    }
+
+    /// The number of that request.
+    pub fn unique(&self) -> RequestId
+        ensures { result.0 ≡ unique_asked self.now }
+    {
+        RequestId(self.unique)
+    }
+}
+
+/// NOTIFY_REPLY: the answer to a notice.
+#[derive(Clone, Copy, Debug, PartialEq, Eq)]
+pub struct NotifyReply;
+
+/// CUSE_INIT: a kernel offers to speak of a character device.
+#[derive(Clone, Copy, Debug, PartialEq, Eq)]
+pub struct CuseInit;
+
 /// What is asked, with its arguments.
 #[derive(Clone, Copy, Debug, PartialEq, Eq)]
-pub enum Operation {
+pub enum Operation<'a> {
+    /// Which inode a name means.
+    Lookup(Lookup<'a>),
+    /// Lookups are given back.
+    Forget(Forget),
+    /// What the attributes of an inode are.
+    GetAttr(GetAttr),
+    /// Attributes of an inode are set.
+    SetAttr(SetAttr),
+    /// Where a symbolic link leads.
+    ReadLink(ReadLink),
+    /// A symbolic link is made.
+    SymLink(SymLink<'a>),
+    /// A file or a device is made.
+    MkNod(MkNod<'a>),
+    /// A directory is made.
+    MkDir(MkDir<'a>),
+    /// A name of a file goes away.
+    Unlink(Unlink<'a>),
+    /// A directory goes away.
+    RmDir(RmDir<'a>),
+    /// A name moves.
+    Rename(Rename<'a>),
+    /// An inode gets another name.
+    Link(Link<'a>),
+    /// A file is opened.
+    Open(Open),
+    /// Bytes of an open file.
+    Read(Read),
+    /// Bytes go into an open file.
+    Write(Write<'a>),
+    /// How much room there is.
+    StatFs(StatFs),
+    /// The last use of an open file ends.
+    Release(Release),
+    /// What an open file holds back is written.
+    FSync(FSync),
+    /// An extended attribute is set.
+    SetXAttr(SetXAttr<'a>),
+    /// The value of an extended attribute.
+    GetXAttr(GetXAttr<'a>),
+    /// The names of the extended attributes.
+    ListXAttr(ListXAttr),
+    /// An extended attribute goes away.
+    RemoveXAttr(RemoveXAttr<'a>),
+    /// A descriptor of an open file is closed.
+    Flush(Flush),
     /// A kernel offers to speak.
     Init(Init),
+    /// A directory is opened.
+    OpenDir(OpenDir),
+    /// Entries of an open directory.
+    ReadDir(ReadDir),
+    /// The last use of an open directory ends.
+    ReleaseDir(ReleaseDir),
+    /// What an open directory holds back is written.
+    FSyncDir(FSyncDir),
+    /// Whether a lock could be taken.
+    GetLk(GetLk),
+    /// A lock is taken or given back.
+    SetLk(SetLk),
+    /// Whether the caller may use an inode so.
+    Access(Access),
+    /// A file is made and opened.
+    Create(Create<'a>),
+    /// A request need not be answered any more.
+    Interrupt(Interrupt),
+    /// Which block of the device a block of a file is.
+    BMap(BMap),
     /// The kernel takes its leave.
     Destroy(Destroy),
+    /// A command to a device.
+    IoCtl(IoCtl<'a>),
+    /// Whether an open file is ready.
+    Poll(Poll),
+    /// The answer to a notice.
+    NotifyReply(NotifyReply),
+    /// Lookups of several inodes are given back.
+    BatchForget(BatchForget<'a>),
+    /// Room for a range of a file.
+    FAllocate(FAllocate),
+    /// Entries of an open directory, with their attributes.
+    ReadDirPlus(ReadDirPlus),
+    /// A name moves in a way that flags say.
+    Rename2(Rename2<'a>),
+    /// Where the next data or the next hole is.
+    Lseek(Lseek),
+    /// A range of a file is copied.
+    CopyFileRange(CopyFileRange),
+    /// A kernel offers to speak of a character device.
+    CuseInit(CuseInit),
 }

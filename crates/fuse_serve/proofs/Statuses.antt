@@ -1,10 +1,10 @@
 -- What a status says.
-use Rattle.std.proofs.Common.{◌≡◌, ◌<◌, ℕ, zero, suc, Bool, true, false, refl, Result, Ok, Err, nat_lt, arith, cond}
+use Rattle.std.proofs.Common.{◌≡◌, ◌<◌, ◌⊎◌, ℕ, Bool, true, false, refl, Result, Ok, Err, nat_lt, arith, cond, inl, inr}
 use Rattle.std.proofs.lemmas.Bool.Decides.{nat_tests}
 use Rattle.std.specs.Prelude.{◌||◌}
 use Rattle.fuse_session.specs.declared.error.SessionError.{SessionError}
 use Rattle.fuse_session.specs.declared.error.SessionError.TheVariants.{Memory, NotConnected, InvalidData, Unsupported, Init, Threads, Receive}
-use Rattle.fuse_serve.specs.Status.{status, failure_status}
+use Rattle.fuse_serve.specs.Status.{status, failure_status, IsSessionStatus}
 
 -- no failure has the status 0
 failure-some : (e : SessionError) → failure_status e ≡ 0 → ⊥
@@ -20,14 +20,58 @@ failure-some Receive h = omega arith
 abbrev ok-status : Bool → ℕ
 ok-status worse = cond worse 8 0
 
-neither : (first second : Bool) → ok-status (first || second) ≡ 0 → first ≡ false
+neither : (first second : Bool) → ok-status (first || second) ≡ 0 → (first ≡ false) × (second ≡ false)
 neither true second h = absurd (omega arith)
-neither false second h = refl
+neither false true h = absurd (omega arith)
+neither false false h = (refl, refl)
+
+either : (first second : Bool) → ok-status (first || second) ≡ 8 → (first ≡ true) ⊎ (second ≡ true)
+either true second h = inl refl
+either false true h = inr refl
+either false false h = absurd (omega arith)
 
 lost-none : (lost : ℕ) → nat_lt 0 lost ≡ false → lost ≡ 0
 lost-none lost h = grind (arith, nat_tests)
 
+lost-some : (lost : ℕ) → nat_lt 0 lost ≡ true → 0 < lost
+lost-some lost h = grind (arith, nat_tests)
+
 -- the status 0 comes only where the outcome was Ok and nothing was lost
-pub zero-status : (outcome : Result (Unit {0}) SessionError) (lost : ℕ) (broken : Bool) → status outcome lost broken ≡ 0 → (outcome ≡ Ok tt) × (lost ≡ 0)
-zero-status (Ok u) lost broken h = (refl, lost-none lost (neither (nat_lt 0 lost) broken h))
+pub zero-status : (outcome : Result (Unit {0}) SessionError) (lost : ℕ) (broken : Bool) → status outcome lost broken ≡ 0
+    → (outcome ≡ Ok tt) × (lost ≡ 0) × (broken ≡ false)
+zero-status (Ok u) lost broken h =
+    let none = neither (nat_lt 0 lost) broken h in (refl, lost-none lost none.0, none.1)
 zero-status (Err e) lost broken h = absurd (failure-some e h)
+
+-- the status 8 comes, where the outcome was Ok, only where something was lost or a write failed
+pub eight-status : (lost : ℕ) (broken : Bool) → status (Ok tt) lost broken ≡ 8 → (0 < lost) ⊎ (broken ≡ true)
+eight-status lost broken h = some (either (nat_lt 0 lost) broken h) where
+  some : (nat_lt 0 lost ≡ true) ⊎ (broken ≡ true) → (0 < lost) ⊎ (broken ≡ true)
+  some (inl is) = inl (lost-some lost is)
+  some (inr is) = inr is
+
+ok-only : (worse : Bool) → (ok-status worse ≡ 0) ⊎ (ok-status worse ≡ 8)
+ok-only true = inr refl
+ok-only false = inl refl
+
+-- the outcome Ok has no status but these
+pub ok-statuses : (lost : ℕ) (broken : Bool) → (status (Ok tt) lost broken ≡ 0) ⊎ (status (Ok tt) lost broken ≡ 8)
+ok-statuses lost broken = ok-only (nat_lt 0 lost || broken)
+
+ok-session : (worse : Bool) → IsSessionStatus (ok-status worse)
+ok-session true = inr (inr (inr (inr (inr (inl refl)))))
+ok-session false = inl refl
+
+failure-session : (e : SessionError) → IsSessionStatus (failure_status e)
+failure-session Memory = inr (inr (inr (inr (inr (inr (inl refl))))))
+failure-session NotConnected = inr (inl refl)
+failure-session (InvalidData d) = inr (inr (inl refl))
+failure-session (Unsupported v) = inr (inr (inr (inl refl)))
+failure-session (Init e) = inr (inr (inl refl))
+failure-session Threads = inr (inr (inr (inr (inr (inr (inr refl))))))
+failure-session Receive = inr (inr (inr (inr (inl refl))))
+
+-- each outcome has one of these
+pub session-status : (outcome : Result (Unit {0}) SessionError) (lost : ℕ) (broken : Bool) → IsSessionStatus (status outcome lost broken)
+session-status (Ok u) lost broken = ok-session (nat_lt 0 lost || broken)
+session-status (Err e) lost broken = failure-session e

@@ -1,5 +1,5 @@
 -- The exit status of a session's outcome.
-use Rattle.std.specs.Prelude.{◌≡◌, ◌<◌, ℕ, Bool, true, false, Result, Ok, Err, nat_lt, ◌||◌, if◌then◌else◌}
+use Rattle.std.specs.Prelude.{◌≡◌, ◌⊎◌, ℕ, Bool, Result, Ok, Err, nat_lt, ◌||◌, if◌then◌else◌}
 use Rattle.fuse_session.specs.declared.error.SessionError.{SessionError}
 use Rattle.fuse_session.specs.declared.error.SessionError.TheVariants.{Memory, NotConnected, InvalidData, Unsupported, Init, Threads, Receive}
 
@@ -19,3 +19,11 @@ status (Err e) lost broken = failure_status e
 
 abbrev pub IsStatus : ℕ → Result (Unit {0}) SessionError → (lost : ℕ) → (broken : Bool) → Type 0
 IsStatus n outcome lost broken = n ≡ status outcome lost broken
+
+-- the statuses of a session
+abbrev pub IsSessionStatus : ℕ → Type 0
+IsSessionStatus n = (n ≡ 0) ⊎ (n ≡ 3) ⊎ (n ≡ 4) ⊎ (n ≡ 5) ⊎ (n ≡ 7) ⊎ (n ≡ 8) ⊎ (n ≡ 9) ⊎ (n ≡ 10)
+
+-- the statuses of the program
+abbrev pub IsExit : ℕ → Type 0
+IsExit n = (n ≡ 2) ⊎ IsSessionStatus n

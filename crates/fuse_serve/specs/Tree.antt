@@ -1,43 +1,100 @@
--- The program's tree, and what serving it over streams of bytes means.
-use Rattle.std.specs.Prelude.{◌≡◌, ◌≢◌, ℕ, Bool, Option, Some, Result, Ok, Err}
-use Rattle.fuse_wire.specs.ByteSource.{ByteSourceState}
-use Rattle.fuse_wire.specs.ByteSink.{ByteSinkState}
-use Rattle.fuse_wire.specs.Sink.{SinkState}
-use Rattle.fuse_wire.specs.StreamSource.{stream_told}
-use Rattle.fuse_wire.specs.StreamSink.{Stands, stream_told as sink_told}
-use Rattle.fuse_config.specs.Values.{Configuration}
-use Rattle.fuse_request.specs.declared.request.Request.{Request}
-use Rattle.fuse_session.specs.Handshake.{Inits}
-use Rattle.fuse_session.specs.Converses.{Session}
-use Rattle.fuse_session.specs.Headline.{Headline}
-use Rattle.fuse_session.specs.declared.transcript.Transcript.{Transcript}
-use Rattle.fuse_session.specs.declared.error.SessionError.{SessionError}
-use Rattle.fuse_session.specs.declared.error.SessionError.TheVariants.{Memory}
-use Rattle.fuse_serve.specs.Status.{status}
+-- The tree that the program serves: a directory with two files in it, and what each call to it gives.
+use Rattle.std.specs.Prelude.{◌≡◌, ℕ, ◌==◌, List, Option, None, Some, Result, Ok, pos, codes, take, drop, if◌then◌else◌}
+use Rattle.std.specs.List.{range_with_len}
+use Rattle.std.specs.Str.{bytes_eq}
+use Rattle.fuse_wire.specs.declared.file_attr.FileAttr.{FileAttr}
+use Rattle.fuse_wire.specs.declared.file_attr.FileType.{FileType}
+use Rattle.fuse_wire.specs.declared.file_attr.FileType.TheVariants.{Directory, RegularFile}
+use Rattle.fuse_request.specs.Call.{Call}
+use Rattle.fuse_request.specs.Call.Call.{Lookup, Forget, GetAttr, Read}
+use Rattle.fuse_reply.specs.Answer.{Answer}
+use Rattle.fuse_reply.specs.Answer.Answer.{Error, Data, Entry, Attr}
+use Rattle.fuse_session.specs.Promise.{Promise, Inits, Answers, Notes, Destroys, promises}
 use Rattle.fuse_serve.specs.declared.hello.Hello.{Hello}
-use Rattle.fuse_serve.specs.declared.words.ServeForm.{ServeForm}
+
+-- attributes of a node, whose owner and whose times are 0
+abbrev pub attr : (ino : ℕ) → FileType → (perm nlink size blocks : ℕ) → FileAttr
+attr ino kind perm nlink size blocks = record {
+  ino = record { 0 = ino };
+  size = size;
+  blocks = blocks;
+  atime = record { 0 = pos 0 };
+  mtime = record { 0 = pos 0 };
+  ctime = record { 0 = pos 0 };
+  crtime = record { 0 = pos 0 };
+  kind = kind;
+  perm = perm;
+  nlink = nlink;
+  uid = 0;
+  gid = 0;
+  rdev = 0;
+  blksize = 512;
+  flags = 0;
+}
+
+-- the nodes: the directory 1 of mode 0o755, and in it the files 2 and 3 of mode 0o644
+abbrev pub node_attr : ℕ → Option FileAttr
+node_attr ino =
+    if ino == 1 then Some (attr 1 Directory 493 2 0 0)
+    else if ino == 2 then Some (attr 2 RegularFile 420 1 13 1)
+    else if ino == 3 then Some (attr 3 RegularFile 420 1 200 1)
+    else None
+
+-- the names in the directory
+abbrev pub named : List ℕ → Option FileAttr
+named name =
+    if bytes_eq name (codes "hello.txt") then node_attr 2
+    else if bytes_eq name (codes "big") then node_attr 3
+    else None
+
+-- what the files hold: a greeting, and the numbers from 0 to 199
+abbrev pub contents : ℕ → Option (List ℕ)
+contents ino =
+    if ino == 2 then Some (codes "Hello World!\n")
+    else if ino == 3 then Some (range_with_len 0 200)
+    else None
+
+-- an entry and its attributes hold for a second, and their generation is 0; without one the answer is ENOENT
+abbrev pub entry : Option FileAttr → Answer
+entry None = Error 2
+entry (Some found) = Entry 1000000000 1000000000 0 found
+
+abbrev pub attributes : Option FileAttr → Answer
+attributes None = Error 2
+attributes (Some found) = Attr 1000000000 found
+
+-- the bytes from the offset on, at most so many
+abbrev pub bytes : (offset size : ℕ) → Option (List ℕ) → Answer
+bytes offset size None = Error 2
+bytes offset size (Some all) = Data (take size (drop offset all))
+
+-- the answer to a call that reaches it; a forget has none
+abbrev pub tree_answer : Call → Option Answer
+tree_answer (Lookup parent name) = Some (entry (if parent == 1 then named name else None))
+tree_answer (GetAttr ino fh) = Some (attributes (node_attr ino))
+tree_answer (Read ino fh offset size flags lock_owner) = Some (bytes offset size (contents ino))
+tree_answer c = None
+
+-- the mark of a forget: how many lookups it gives back
+abbrev pub tree_mark : Call → Option ℕ
+tree_mark (Forget ino nlookup) = Some nlookup
+tree_mark c = None
 
 -- the tree accepts each INIT, and leaves what is negotiated as it is
 abbrev pub tree_may_init : Inits Hello
 tree_may_init old request before result new after = (result ≡ Ok tt) × (after ≡ before)
 
+-- each call has its one answer, and each forget its one mark
+abbrev pub tree_may_answer : Answers Hello
+tree_may_answer tree request call answer = tree_answer call ≡ Some answer
+
+abbrev pub tree_may_note : Notes Hello
+tree_may_note tree request call mark = tree_mark call ≡ Some mark
+
 -- nothing happens to it when the session is over
-abbrev pub tree_may_destroy : Hello → Hello → Type 0
+abbrev pub tree_may_destroy : Destroys Hello
 tree_may_destroy old new = new ≡ old
 
--- The tree was served: by a session over the messages that the input is cut into, whose frames stand on the output; the status says how it ended.
-pub record ServesTree (form : ServeForm) (input input' : ByteSourceState) (output output' : ByteSinkState) (exit : ℕ) : Type 0 where
-  pub tree : Hello
-  pub tree' : Hello
-  pub outcome : Result (Unit {0}) SessionError
-  pub transcript : Transcript
-  pub sink : SinkState
-  pub broken : Bool
-  pub exit_is : exit ≡ status outcome transcript.lost broken
-  pub session : outcome ≢ Err Memory → Session tree_may_init tree_may_destroy form.page (Some form.threads) form.acl form.owner tree tree' outcome
-      (stream_told input) (stream_told input') (sink_told output output 0) sink transcript
-  -- the status 0 alone says that nothing was lost
-  pub headline : exit ≡ 0 →
-      Headline tree_may_init form.page form.acl form.owner tree (stream_told input) (stream_told input') (sink_told output output 0) sink
-  pub memory : outcome ≡ Err Memory → (stream_told input' ≡ stream_told input) × (sink ≡ sink_told output output 0)
-  pub stands : ∥ Stands sink output' broken ∥₁
+-- the promise of the tree
+abbrev pub tree_promise : Promise Hello
+tree_promise = promises tree_may_init tree_may_answer tree_may_note tree_may_destroy

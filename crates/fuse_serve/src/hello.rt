@@ -1,22 +1,174 @@
 // The tree that the program serves.
-ghost use Rattle.std.specs.Prelude.{◌≡◌, Ok};
+ghost use Rattle.std.specs.Prelude.{◌≡◌, take, drop, option_map};
+ghost use Rattle.fuse_serve.specs.Tree.{attr, contents, named, node_attr, tree_may_answer, tree_may_destroy, tree_may_init, tree_may_note};
 
 use fuse_config::KernelConfig;
+use fuse_reply::{Replied, ReplyAttr, ReplyData, ReplyEntry};
 use fuse_request::Request;
 use fuse_session::Filesystem;
-use fuse_wire::Errno;
+use fuse_wire::{
+    Duration, Errno, FileAttr, FileHandle, FileType, Generation, INodeNo, LockOwner, OpenFlags,
+    SystemTime,
+};
 
-/// A small tree of files. It leaves what INIT negotiates as it is, and has nothing to do when the session is over.
+/// What `hello.txt` holds.
+const GREETING: &[u8; 13] = b"Hello World!\n";
+
+/// What `big` holds: the numbers from 0 to 199.
+const NUMBERS: &[u8; 200] = &[
+    0, 1, 2, 3, 4, 5, 6, 7, 8, 9, 10, 11, 12, 13, 14, 15, 16, 17, 18, 19, 20, 21, 22, 23, 24, 25,
+    26, 27, 28, 29, 30, 31, 32, 33, 34, 35, 36, 37, 38, 39, 40, 41, 42, 43, 44, 45, 46, 47, 48, 49,
+    50, 51, 52, 53, 54, 55, 56, 57, 58, 59, 60, 61, 62, 63, 64, 65, 66, 67, 68, 69, 70, 71, 72, 73,
+    74, 75, 76, 77, 78, 79, 80, 81, 82, 83, 84, 85, 86, 87, 88, 89, 90, 91, 92, 93, 94, 95, 96, 97,
+    98, 99, 100, 101, 102, 103, 104, 105, 106, 107, 108, 109, 110, 111, 112, 113, 114, 115, 116,
+    117, 118, 119, 120, 121, 122, 123, 124, 125, 126, 127, 128, 129, 130, 131, 132, 133, 134, 135,
+    136, 137, 138, 139, 140, 141, 142, 143, 144, 145, 146, 147, 148, 149, 150, 151, 152, 153, 154,
+    155, 156, 157, 158, 159, 160, 161, 162, 163, 164, 165, 166, 167, 168, 169, 170, 171, 172, 173,
+    174, 175, 176, 177, 178, 179, 180, 181, 182, 183, 184, 185, 186, 187, 188, 189, 190, 191, 192,
+    193, 194, 195, 196, 197, 198, 199,
+];
+
+/// A small tree of files: the directory 1 with `hello.txt`, node 2, and `big`, node 3. It leaves what INIT negotiates
+/// as it is, and has nothing to do when the session is over.
 #[derive(Clone, Copy, Debug, PartialEq, Eq)]
 pub struct Hello;
 
-impl Filesystem for Hello {
-    ghost may_init = { λ old request before result new after. (result ≡ Ok tt) × (after ≡ before) };
+/// Attributes of a node, whose owner and whose times are 0.
+fn attr(ino: u64, kind: FileType, perm: u16, nlink: u32, size: u64, blocks: u64) -> FileAttr
+    ensures { result ≡ attr ino kind perm nlink size blocks }
+{
+    let epoch = SystemTime(0);
+    FileAttr {
+        ino: INodeNo(ino),
+        size,
+        blocks,
+        atime: epoch,
+        mtime: epoch,
+        ctime: epoch,
+        crtime: epoch,
+        kind,
+        perm,
+        nlink,
+        uid: 0,
+        gid: 0,
+        rdev: 0,
+        blksize: 512,
+        flags: 0,
+    }
+}
 
-    ghost may_destroy = { λ old new. new ≡ old };
+/// The attributes of a node.
+fn node_attr(ino: u64) -> Option<FileAttr>
+    ensures { result ≡ node_attr ino }
+{
+    match ino {
+        1 => Some(attr(1, FileType::Directory, 0o755, 2, 0, 0)),
+        2 => Some(attr(2, FileType::RegularFile, 0o644, 1, 13, 1)),
+        3 => Some(attr(3, FileType::RegularFile, 0o644, 1, 200, 1)),
+        _ => None,
+    }
+}
+
+/// The attributes of the node of this name in the directory.
+fn named(name: &[u8]) -> Option<FileAttr>
+    ensures { result ≡ named name.now }
+{
+    if name == b"hello.txt".as_slice() {
+        node_attr(2)
+    } else if name == b"big".as_slice() {
+        node_attr(3)
+    } else {
+        None
+    }
+}
+
+/// What a file holds.
+fn contents(ino: u64) -> Option<&'static [u8]>
+    ensures { option_map (λ all. all.now) result ≡ contents ino }
+{
+    match ino {
+        2 => Some(GREETING),
+        3 => Some(NUMBERS),
+        _ => None,
+    }
+}
+
+/// The bytes from the offset on, at most so many.
+fn part(all: &[u8], offset: u64, size: u32) -> &[u8]
+    ensures { result.now ≡ take size (drop offset all.now) }
+{
+    let rest = all.get(offset as usize..).unwrap_or(&[]);
+    rest.get(..size as usize).unwrap_or(rest)
+}
+
+/// How long entries and attributes hold.
+fn a_second() -> Duration
+    ensures { result ≡ 1000000000 }
+{
+    Duration::new(1, 0)
+}
+
+impl Filesystem for Hello {
+    ghost may_init = { tree_may_init };
+
+    ghost may_answer = { tree_may_answer };
+
+    ghost may_note = { tree_may_note };
+
+    ghost may_destroy = { tree_may_destroy };
 
     fn init(&mut self, _request: &Request, _config: &mut KernelConfig) -> Result<(), Errno> {
         Ok(())
+    }
+
+    fn lookup(
+        &self,
+        _request: &Request,
+        parent: INodeNo,
+        name: &[u8],
+        reply: ReplyEntry,
+    ) -> Replied {
+        if parent != INodeNo::ROOT {
+            return reply.error(Errno::ENOENT);
+        }
+        match named(name) {
+            Some(found) => reply.entry(&a_second(), &found, Generation(0)),
+            None => reply.error(Errno::ENOENT),
+        }
+    }
+
+    fn forget(&self, _request: &Request, _ino: INodeNo, nlookup: u64) -> u64 {
+        nlookup
+    }
+
+    fn getattr(
+        &self,
+        _request: &Request,
+        ino: INodeNo,
+        _fh: Option<FileHandle>,
+        reply: ReplyAttr,
+    ) -> Replied {
+        match node_attr(ino.0) {
+            Some(found) => reply.attr(&a_second(), &found),
+            None => reply.error(Errno::ENOENT),
+        }
+    }
+
+    fn read(
+        &self,
+        _request: &Request,
+        ino: INodeNo,
+        _fh: FileHandle,
+        offset: u64,
+        size: u32,
+        _flags: OpenFlags,
+        _lock_owner: Option<LockOwner>,
+        reply: ReplyData,
+    ) -> Replied {
+        match contents(ino.0) {
+            Some(all) => reply.data(part(all, offset, size)),
+            None => reply.error(Errno::ENOENT),
+        }
     }
 
     fn destroy(&mut self) {}

@@ -1,10 +1,14 @@
 //! The program: serves a small tree of files to whoever speaks FUSE on its standard input and output.
 #![tactic(auto)]
 
+#[cfg(test)]
+mod fault_tests;
 mod hello;
 mod program;
 #[cfg(test)]
 mod tests;
+#[cfg(test)]
+mod tree_tests;
 mod words;
 
 use fuse_wire::{StdSink, StdSource};

@@ -1,8 +1,8 @@
 // What the program does with its words, its input and its output.
-ghost use Rattle.std.specs.Prelude.{◌≡◌, ◌≢◌, ◌↔◌, ◌<◌, map, None, IfSome};
+ghost use Rattle.std.specs.Prelude.{◌≡◌, ◌≢◌, ◌↔◌, ◌⊎◌, ◌<◌, map, None, IfSome};
 ghost use Rattle.fuse_serve.specs.Words.{form_of};
-ghost use Rattle.fuse_serve.specs.Status.{IsStatus};
-ghost use Rattle.fuse_serve.specs.Tree.{ServesTree};
+ghost use Rattle.fuse_serve.specs.Program.{ByteSession, EachAnswered, NothingAmiss};
+ghost use Rattle.fuse_serve.specs.Status.{IsExit, IsSessionStatus, IsStatus};
 
 use crate::hello::Hello;
 use crate::words::{ServeForm, serve_form};
@@ -47,8 +47,11 @@ fn serve_tree<R: Wait + AllocGlobal, I: ByteSource, O: ByteSink + Send>(
     output: O,
 ) -> Served<I, O>
     requires { 0 < form.page }
-    ensures other { result.status ≢ 2 }
-    ensures served { ServesTree form (I.told input) (I.told result.input) (O.told output) (O.told result.output) result.status }
+    ensures statuses { IsSessionStatus result.status }
+    ensures untouched { result.status ≡ 9 → (result.input ≡ input) × (result.output ≡ output) }
+    ensures answered { result.status ≡ 0 → EachAnswered form (I.told input) (I.told result.input) (O.told output) (O.told result.output) }
+    ensures session { result.status ≢ 9 → ByteSession form result.status (I.told input) (I.told result.input) (O.told output) (O.told result.output) }
+    ensures complete { NothingAmiss form (I.told input) (I.told result.input) (O.told output) (O.told result.output) → (result.status ≡ 0) ⊎ (result.status ≡ 9) }
 {
     let config = Config {
         acl: form.acl,
@@ -84,12 +87,26 @@ pub fn serve<R: Wait + AllocGlobal, I: ByteSource, O: ByteSink + Send>(
     input: I,
     output: O,
 ) -> Served<I, O>
-    // The status 2 comes exactly where the words are no form, and then nothing is read or written.
+    // The status 2 comes exactly where the words are no form.
     ensures form { (result.status ≡ 2) ↔ (form_of (map (λ w. w.now) words.now) ≡ None) }
-    // In a form's words the tree is served as it says.
-    ensures served { IfSome (form_of (map (λ w. w.now) words.now)) (λ form.
-        ServesTree form (I.told input) (I.told result.input) (O.told output) (O.told result.output) result.status) }
-    ensures untouched { result.status ≡ 2 → (result.input ≡ input) × (result.output ≡ output) }
+
+    // No status but these comes.
+    ensures statuses { IsExit result.status }
+
+    // With 2, and with 9 for want of memory, nothing is read or written.
+    ensures untouched { (result.status ≡ 2) ⊎ (result.status ≡ 9) → (result.input ≡ input) × (result.output ≡ output) }
+
+    // With 0 each message that was read has its one reply: see `EachAnswered`.
+    ensures answered { result.status ≡ 0 → IfSome (form_of (map (λ w. w.now) words.now)) (λ form.
+        EachAnswered form (I.told input) (I.told result.input) (O.told output) (O.told result.output)) }
+
+    // But for 2 and 9: what was read, written and lost, and why it ended so: see `ByteSession`.
+    ensures session { result.status ≢ 9 → IfSome (form_of (map (λ w. w.now) words.now)) (λ form.
+        ByteSession form result.status (I.told input) (I.told result.input) (O.told output) (O.told result.output)) }
+
+    // Where nothing is amiss it ends with 0, or for want of memory.
+    ensures complete { IfSome (form_of (map (λ w. w.now) words.now)) (λ form.
+        NothingAmiss form (I.told input) (I.told result.input) (O.told output) (O.told result.output) → (result.status ≡ 0) ⊎ (result.status ≡ 9)) }
 {
     match serve_form(words) {
         Some(form) => serve_tree(rt, form, input, output),

@@ -1,10 +1,18 @@
 // The program from bytes to bytes.
+ghost use Rattle.std.specs.Prelude.{None};
+
 use crate::program::serve;
-use fuse_wire::{MemoryBytes, MemoryOut};
+use fuse_wire::{
+    ByteRead, ByteSink, ByteSource, ByteWrite, MemoryBytes, MemoryOut, StdSink, StdSource,
+};
+use std::alloc::{AllocError, Global};
 use std::sync::Wait;
 use std::test::Fail;
 
-/// An INIT of version 7.8 with a readahead of 4096 and no flags.
+/// The words of a form with one thread.
+const FORM: [&[u8]; 5] = [b"serve", b"1", b"all", b"0", b"4096"];
+
+/// An INIT of version 7.8 with a readahead of 4096 and no flags, but for 48 zero bytes at its end.
 const INIT: &[u8; 56] =
     b"\x68\0\0\0\x1a\0\0\0\x0d\xf0\xad\xba\xef\xbe\xad\xde\x88\x77\x66\x55\x44\x33\x22\x11\x0d\xd0\x01\xc0\xfe\xca\x01\xc0\x5e\xba\xde\xc0\0\0\0\0\x07\0\0\0\x08\0\0\0\0\x10\0\0\0\0\0\0";
 
@@ -12,49 +20,283 @@ const INIT: &[u8; 56] =
 const REPLY: &[u8; 40] =
     b"\x28\0\0\0\0\0\0\0\x0d\xf0\xad\xba\xef\xbe\xad\xde\x07\0\0\0\x28\0\0\0\0\x10\0\0\0\0\0\0\x10\0\x0c\0\0\0\0\x01";
 
-/// Whether the program ends with this status and has written this, on an INIT and what follows it, in pieces.
+/// The end of an INIT.
+const ZEROS: &[u8; 48] = &[0; 48];
+
+/// The front of an INIT with the id 1.
+const FRONT: &[u8; 40] =
+    b"\x68\0\0\0\x1a\0\0\0\x01\0\0\0\0\0\0\0\0\0\0\0\0\0\0\0\0\0\0\0\0\0\0\0\0\0\0\0\0\0\0\0";
+
+/// The same with a length field of 39.
+const SHORT_LENGTH: &[u8; 40] =
+    b"\x27\0\0\0\x1a\0\0\0\x01\0\0\0\0\0\0\0\0\0\0\0\0\0\0\0\0\0\0\0\0\0\0\0\0\0\0\0\0\0\0\0";
+
+/// A DESTROY with the id 2.
+const DESTROY: &[u8; 40] =
+    b"\x28\0\0\0\x26\0\0\0\x02\0\0\0\0\0\0\0\0\0\0\0\0\0\0\0\0\0\0\0\0\0\0\0\0\0\0\0\0\0\0\0";
+
+/// A message with the id 2 and an opcode that names no operation.
+const UNKNOWN: &[u8; 40] =
+    b"\x28\0\0\0\x07\0\0\0\x02\0\0\0\0\0\0\0\0\0\0\0\0\0\0\0\0\0\0\0\0\0\0\0\0\0\0\0\0\0\0\0";
+
+/// These parts joined.
+fn joined(alloc: Global, parts: &[&[u8]]) -> Result<Vec<u8>, AllocError> {
+    let mut bytes = Vec::new(alloc);
+    for part in parts {
+        bytes.extend_from_slice(part)?;
+    }
+    Ok(bytes)
+}
+
+/// What is left of the input.
+fn rest_of(alloc: Global, input: &mut MemoryBytes) -> Result<Vec<u8>, AllocError> {
+    let mut rest = Vec::new(alloc);
+    for _ in 0..1000 {
+        let mut piece = [0];
+        if let ByteRead::Got(_) = input.read(&mut piece) {
+            rest.push(piece[0])?;
+        }
+    }
+    Ok(rest)
+}
+
+/// What the program came to: its status, what it wrote, and what it left unread.
+#[derive(Drop)]
+struct Run {
+    status: u8,
+    written: Vec<u8>,
+    unread: Vec<u8>,
+}
+
+/// Runs the program over these bytes, in pieces.
+fn run_over<R: Wait + AllocGlobal>(
+    rt: &R,
+    words: &[&[u8]],
+    parts: &[&[u8]],
+    step: usize,
+) -> Result<Run, AllocError> {
+    let alloc = rt.alloc();
+    let step = step.max(1);
+    let input = MemoryBytes::new(joined(alloc, parts)?, step, Vec::new(alloc));
+    let output = MemoryOut::new(alloc, step, Vec::new(alloc));
+    let mut served = serve(rt, words, input, output);
+    Ok(Run {
+        status: served.status,
+        written: served.output.bytes().to_vec(alloc)?,
+        unread: rest_of(alloc, &mut served.input)?,
+    })
+}
+
+/// Whether the program ends with this status, and has written this and left that unread, in pieces of 1 and of 7 bytes.
 fn ends_so<R: Wait + AllocGlobal>(
     rt: &R,
     words: &[&[u8]],
-    more: &[u8],
-    step: usize,
+    parts: &[&[u8]],
     status: u8,
-    written: &[u8],
+    written: &[&[u8]],
+    unread: &[u8],
 ) -> Result<bool, Fail> {
-    let alloc = rt.alloc();
-    let mut bytes = INIT.to_vec(alloc)?;
-    bytes.extend_from_slice(&[0; 48])?;
-    bytes.extend_from_slice(more)?;
-    let step = step.max(1);
-    let input = MemoryBytes::new(bytes, step, Vec::new(alloc));
-    let output = MemoryOut::new(alloc, step, Vec::new(alloc));
-    let served = serve(rt, words, input, output);
-    Ok(served.status == status && served.output.bytes() == written)
+    let expected = joined(rt.alloc(), written)?;
+    for step in [1, 7] {
+        let run = run_over(rt, words, parts, step)?;
+        if run.status != status
+            || run.written.as_slice() != expected.as_slice()
+            || run.unread.as_slice() != unread
+        {
+            return Ok(false);
+        }
+    }
+    Ok(true)
 }
 
 #[test]
-fn an_init_is_answered_in_pieces_of_any_size(rt: HostRuntime) -> Result<(), Fail> {
-    let words: [&[u8]; 5] = [b"serve", b"1", b"all", b"0", b"4096"];
-    for step in [1, 7, 1000] {
+fn inputs_have_their_status_and_frames(rt: HostRuntime) -> Result<(), Fail> {
+    let cases: [(&[&[u8]], u8, &[&[u8]]); 8] = [
+        (&[INIT, ZEROS], 0, &[REPLY]),
+        (&[], 3, &[]),
+        (
+            &[b"\x68\0\0\0\x1a\0\0\0\x0d\xf0\xad\xba\xef\xbe\xad\xde\x88\x77\x66\x55"],
+            4,
+            &[],
+        ),
+        (&[FRONT, b"\x07\0\0\0\x08\0\0\0"], 4, &[]),
+        (
+            &[
+                FRONT,
+                b"\x08\0\0\0\0\0\0\0\0\0\0\0\0\0\0\0",
+                ZEROS,
+                INIT,
+                ZEROS,
+            ],
+            0,
+            &[
+                b"\x50\0\0\0\0\0\0\0\x01\0\0\0\0\0\0\0\x07\0\0\0\x28\0\0\0\0\0\0\0\0\0\0\0",
+                ZEROS,
+                REPLY,
+            ],
+        ),
+        (
+            &[FRONT, b"\x07\0\0\0\x05\0\0\0\0\0\0\0\0\0\0\0", ZEROS],
+            5,
+            &[b"\x10\0\0\0\xb9\xff\xff\xff\x01\0\0\0\0\0\0\0"],
+        ),
+        (
+            &[DESTROY],
+            4,
+            &[b"\x10\0\0\0\xfb\xff\xff\xff\x02\0\0\0\0\0\0\0"],
+        ),
+        (&[UNKNOWN], 4, &[]),
+    ];
+    for (at, (parts, status, written)) in cases.iter().enumerate() {
         assert!(rt;
-            ends_so(&rt, &words, b"", step, 0, REPLY)?,
-            "in pieces of {step}"
+            ends_so(&rt, &FORM, parts, *status, written, b"")?,
+            "input {at}"
         );
     }
     Ok(())
 }
 
 #[test]
-fn words_and_messages_say_the_status(rt: HostRuntime) -> Result<(), Fail> {
-    let served: [&[u8]; 5] = [b"serve", b"1", b"all", b"0", b"4096"];
+fn what_stands_behind_the_last_message_is_unread(rt: HostRuntime) -> Result<(), Fail> {
+    assert!(rt;
+        ends_so(
+            &rt,
+            &FORM,
+            &[INIT, ZEROS, DESTROY, b"what stands behind it"],
+            0,
+            &[REPLY, b"\x10\0\0\0\0\0\0\0\x02\0\0\0\0\0\0\0"],
+            b"what stands behind it",
+        )?,
+        "DESTROY"
+    );
+    assert!(rt;
+        ends_so(
+            &rt,
+            &FORM,
+            &[SHORT_LENGTH, b"the rest"],
+            4,
+            &[],
+            b"the rest"
+        )?,
+        "a length below the header's"
+    );
+    assert!(rt;
+        ends_so(
+            &rt,
+            &FORM,
+            &[INIT, ZEROS, b"twenty bytes, and so"],
+            4,
+            &[REPLY],
+            b""
+        )?,
+        "a short header"
+    );
+    Ok(())
+}
+
+#[test]
+fn words_say_the_status(rt: HostRuntime) -> Result<(), Fail> {
     let idle: [&[u8]; 5] = [b"serve", b"0", b"all", b"0", b"4096"];
     let empty_page: [&[u8]; 5] = [b"serve", b"1", b"all", b"0", b"0"];
     assert!(rt;
-        ends_so(&rt, &served, b"twenty bytes, and so", 7, 4, REPLY)?,
-        "a short header"
+        ends_so(&rt, &idle, &[INIT, ZEROS], 10, &[REPLY], b"")?,
+        "no thread"
     );
-    assert!(rt; ends_so(&rt, &idle, b"", 7, 10, REPLY)?, "no thread");
-    assert!(rt; ends_so(&rt, &empty_page, b"", 7, 2, b"")?, "an empty page");
-    assert!(rt; ends_so(&rt, &[], b"", 7, 2, b"")?, "no words");
+    assert!(rt;
+        ends_so(&rt, &empty_page, &[INIT], 2, &[], INIT)?,
+        "an empty page"
+    );
+    assert!(rt; ends_so(&rt, &[], &[INIT], 2, &[], INIT)?, "no words");
+    Ok(())
+}
+
+/// An input that fails behind its bytes, and tells none of them.
+#[derive(Drop)]
+struct FailingInput {
+    inner: MemoryBytes,
+    faults: u64,
+}
+
+impl ByteSource for FailingInput {
+    ghost told = { λ s. record { bytes = None; faults = s.faults } };
+
+    fn read(&mut self, piece: &mut [u8]) -> ByteRead {
+        match self.inner.read(piece) {
+            ByteRead::Got(count) => ByteRead::Got(count),
+            _ => {
+                self.faults = self.faults.saturating_add(1);
+                ByteRead::Failed
+            }
+        }
+    }
+}
+
+/// An output that fails behind so many writes, and tells none of them.
+#[derive(Drop)]
+struct FailingOutput {
+    inner: MemoryOut,
+    left: u64,
+    faults: u64,
+}
+
+impl ByteSink for FailingOutput {
+    ghost told = { λ s. record { bytes = None; faults = s.faults } };
+
+    fn write(&mut self, piece: &[u8]) -> ByteWrite {
+        if self.left > 0 {
+            self.left -= 1;
+            if let ByteWrite::Wrote(count) = self.inner.write(piece) {
+                return ByteWrite::Wrote(count);
+            }
+        }
+        self.faults = self.faults.saturating_add(1);
+        ByteWrite::Failed
+    }
+}
+
+#[test]
+fn an_input_that_fails_has_its_status(rt: HostRuntime) -> Result<(), Fail> {
+    let alloc = rt.alloc();
+    let input = FailingInput {
+        inner: MemoryBytes::new(joined(alloc, &[INIT, ZEROS])?, 1000, Vec::new(alloc)),
+        faults: 0,
+    };
+    let output = MemoryOut::new(alloc, 1000, Vec::new(alloc));
+    let served = serve(&rt, &FORM, input, output);
+    assert_eq!(rt; served.status, 7);
+    assert_eq!(rt; served.output.bytes(), REPLY.as_slice());
+    Ok(())
+}
+
+#[test]
+fn an_output_that_fails_has_its_status(rt: HostRuntime) -> Result<(), Fail> {
+    let alloc = rt.alloc();
+    let bytes = joined(alloc, &[INIT, ZEROS, DESTROY])?;
+    let input = MemoryBytes::new(bytes, 1000, Vec::new(alloc));
+    let output = FailingOutput {
+        inner: MemoryOut::new(alloc, 1000, Vec::new(alloc)),
+        left: 2,
+        faults: 0,
+    };
+    let served = serve(&rt, &FORM, input, output);
+    assert_eq!(rt; served.status, 8);
+    assert_eq!(rt; served.output.inner.bytes(), REPLY.as_slice());
+    Ok(())
+}
+
+#[test]
+fn devices_that_tell_nothing_are_served(rt: HostRuntime) -> Result<(), Fail> {
+    let alloc = rt.alloc();
+    let bytes = joined(alloc, &[INIT, ZEROS])?;
+    let mut written = Vec::new(alloc);
+    let served = serve(
+        &rt,
+        &FORM,
+        StdSource::new(bytes.as_slice()),
+        StdSink::new(&mut written),
+    );
+    assert_eq!(rt; served.status, 0);
+    drop(served);
+    assert_eq!(rt; written.as_slice(), REPLY.as_slice());
     Ok(())
 }

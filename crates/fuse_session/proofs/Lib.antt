@@ -3,5 +3,10 @@ pub mod Moving
 pub mod Order
 pub mod RunSteps
 pub mod ShakeSteps
+pub mod Dispatching
+pub mod Answering
 pub mod Whole
 pub mod CauseLaws
+pub mod Flat
+pub mod TotalLaws
+pub mod CompleteLaws

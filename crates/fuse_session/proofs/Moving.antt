@@ -1,10 +1,10 @@
 -- What stretches of a session move, one after another.
-use Rattle.std.proofs.Common.{◌≡◌, ◌≤◌, ◌<◌, ◌+◌, ◌++◌, ℕ, List, [], ◌∷◌, sym, ◌∙◌, ap, subst, arith, refl, length, length-append}
-use Rattle.fuse_wire.specs.Faults.{Rose, counted, last_count}
-use Rattle.fuse_wire.specs.Sink.{SinkState, Note, Appends, Refuses}
+use Rattle.std.proofs.Common.{◌≡◌, ◌≤◌, ◌<◌, ◌+◌, ◌++◌, ℕ, List, [], ◌∷◌, ◌∙◌, ap, arith, length, length-append}
+use Rattle.fuse_wire.specs.Faults.{counted, last_count}
+use Rattle.fuse_wire.specs.Sink.{SinkState, Note, Refuses}
+use Rattle.fuse_wire.specs.declared.newtypes.RequestId.{RequestId}
 use Rattle.fuse_wire.proofs.Devices.{Appends-none, Appends-then}
-use Rattle.fuse_reply.specs.declared.out.Out.{Out}
-use Rattle.fuse_reply.specs.declared.out.Out.TheVariants.{Frame}
+use Rattle.fuse_reply.specs.declared.out.Out.TheVariants.{Frame, Note as Noting}
 use Rattle.fuse_reply.specs.declared.out.OutEnd.{OutEnd}
 use Rattle.fuse_reply.specs.declared.out.OutEnd.TheVariants.{Written, Noted, Lost, Marked}
 use Rattle.fuse_reply.specs.Deliver.{Delivers}
@@ -52,16 +52,23 @@ Moves-then p q fs gs ns ms j k a b c t u v first second = record {
       (omega (arith, length-append fs gs)) (omega (arith, length-append ns ms)) (omega arith);
 }
 
--- a frame was handed to the sink, which took it or lost it
-pub data Handed (f : List ℕ) (a b : SinkState) (t u : Transcript) : Type 0 where
-  took : Moves 0 (f ∷ []) [] 0 a b t u → Handed f a b t u
-  lost : Moves 0 [] [] 1 a b t u → Handed f a b t u
+-- frames and notes were handed to the sink, which took them or lost one
+pub data Handed (fs : List (List ℕ)) (ns : List Note) (a b : SinkState) (t u : Transcript) : Type 0 where
+  took : Moves 0 fs ns 0 a b t u → Handed fs ns a b t u
+  lost : Moves 0 [] [] 1 a b t u → Handed fs ns a b t u
 
 one_frame : (r f n l : ℕ) → record (tally r f n l) { frames = counted (tally r f n l).frames 1 } ≡ tally (r + 0) (f + 1) (n + 0) (l + 0)
 one_frame r f n l =
     let a : counted (tally r f n l).frames 1 ≡ (tally r (f + 1) n l).frames = omega arith in
     let b : r + 0 ≡ r = omega arith in
     let c : n + 0 ≡ n = omega arith in
+    let d : l + 0 ≡ l = omega arith in cc
+
+one_note : (r f n l : ℕ) → record (tally r f n l) { notes = counted (tally r f n l).notes 1 } ≡ tally (r + 0) (f + 0) (n + 1) (l + 0)
+one_note r f n l =
+    let a : counted (tally r f n l).notes 1 ≡ (tally r f (n + 1) l).notes = omega arith in
+    let b : r + 0 ≡ r = omega arith in
+    let c : f + 0 ≡ f = omega arith in
     let d : l + 0 ≡ l = omega arith in cc
 
 one_lost : (r f n l : ℕ) → record (tally r f n l) { lost = counted (tally r f n l).lost 1 } ≡ tally (r + 0) (f + 0) (n + 0) (l + 1)
@@ -71,18 +78,36 @@ one_lost r f n l =
     let c : n + 0 ≡ n = omega arith in
     let d : f + 0 ≡ f = omega arith in cc
 
-pub Handed-frame : (f : List ℕ) (a b : SinkState) (t u : Transcript) → Hands (Frame f) a b t u → Handed f a b t u
+-- what was refused was lost
+lost-refused : (fs : List (List ℕ)) (ns : List Note) (a b : SinkState) (t u : Transcript) → Refuses a b → u ≡ counting Lost t → Handed fs ns a b t u
+lost-refused fs ns a b t u d e = lost (record {
+  appended = d.0;
+  cause = λ below. omega (arith, d.1 below);
+  counts = λ r g n l is. e ∙ (ap (λ (w : Transcript). record w { lost = counted w.lost 1 }) is ∙ one_lost r g n l);
+})
+
+-- a frame was handed to the sink
+pub Handed-frame : (f : List ℕ) (a b : SinkState) (t u : Transcript) → Hands (Frame f) a b t u → Handed (f ∷ []) [] a b t u
 Handed-frame f a b t u hands = by_end hands.end hands.delivered hands.counts where
-  by_end : (end : OutEnd) → Delivers end (Frame f) a b → u ≡ counting end t → Handed f a b t u
+  by_end : (end : OutEnd) → Delivers end (Frame f) a b → u ≡ counting end t → Handed (f ∷ []) [] a b t u
   by_end Written appended e = took (record {
     appended = appended;
     cause = λ below. omega (arith, appended.faults);
     counts = λ r g n l is. e ∙ (ap (λ (w : Transcript). record w { frames = counted w.frames 1 }) is ∙ one_frame r g n l);
   })
   by_end Noted d e = absurd d
-  by_end Lost d e = lost (record {
-    appended = d.0;
-    cause = λ below. omega (arith, d.1 below);
-    counts = λ r g n l is. e ∙ (ap (λ (w : Transcript). record w { lost = counted w.lost 1 }) is ∙ one_lost r g n l);
+  by_end Lost d e = lost-refused (f ∷ []) [] a b t u d e
+  by_end Marked d e = absurd d
+
+-- a note was handed to the sink
+pub Handed-note : (id : RequestId) (mark : ℕ) (a b : SinkState) (t u : Transcript) → Hands (Noting id mark) a b t u → Handed [] ((id.0, mark) ∷ []) a b t u
+Handed-note id mark a b t u hands = by_end hands.end hands.delivered hands.counts where
+  by_end : (end : OutEnd) → Delivers end (Noting id mark) a b → u ≡ counting end t → Handed [] ((id.0, mark) ∷ []) a b t u
+  by_end Written d e = absurd d
+  by_end Noted appended e = took (record {
+    appended = appended;
+    cause = λ below. omega (arith, appended.faults);
+    counts = λ r g n l is. e ∙ (ap (λ (w : Transcript). record w { notes = counted w.notes 1 }) is ∙ one_note r g n l);
   })
+  by_end Lost d e = lost-refused [] ((id.0, mark) ∷ []) a b t u d e
   by_end Marked d e = absurd d

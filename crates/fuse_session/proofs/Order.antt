@@ -1,15 +1,19 @@
 -- One frame or note for each message, in order.
-use Rattle.std.proofs.Common.{◌≡◌, ◌+◌, ◌++◌, ℕ, suc, zero, List, [], ◌∷◌, sym, ◌∙◌, ap, subst, arith, refl, length, inl, inr, ⊎_elim}
-use Rattle.std.specs.Prelude.{◌⊎◌, Some, slice_get, remove}
+use Rattle.std.proofs.Common.{◌≡◌, ◌+◌, ◌++◌, ℕ, suc, List, [], ◌∷◌, sym, ap, subst, arith, refl, length, inl, inr}
+use Rattle.std.specs.Prelude.{Some, slice_get, remove}
 use Rattle.fuse_wire.specs.Sink.{Note}
-use Rattle.fuse_reply.specs.declared.out.Out.{Out}
-use Rattle.fuse_reply.specs.declared.out.Out.TheVariants.{Frame}
+use Rattle.fuse_reply.specs.declared.out.Out.TheVariants.{Frame, Note as Noted}
 use Rattle.fuse_session.specs.OneEach.{InOrder, OneEach, Owing, number_of}
 
 -- one message that a frame was written for
 pub InOrder-framed : (owed : Owing) (broken : List ℕ → Type 0) (place : ℕ) (m f : List ℕ) → owed (number_of place) m (Frame f)
     → InOrder owed broken place (m ∷ []) (f ∷ []) [] 0
 InOrder-framed owed broken place m f pays = inl (f, [], refl, pays, (refl, refl, refl))
+
+-- one message that a note was written for
+pub InOrder-noted : (owed : Owing) (broken : List ℕ → Type 0) (place : ℕ) (m : List ℕ) (n : Note) → owed (number_of place) m (Noted (record { 0 = n.0 }) n.1)
+    → InOrder owed broken place (m ∷ []) [] (n ∷ []) 0
+InOrder-noted owed broken place m n pays = inr (inl (n, [], refl, pays, (refl, refl, refl)))
 
 -- one message whose reply was lost
 pub InOrder-lost : (owed : Owing) (broken : List ℕ → Type 0) (place : ℕ) (m : List ℕ) → (broken m → ⊥)

@@ -1,36 +1,34 @@
 -- Turns of a run, one after another.
-use Rattle.std.proofs.Common.{◌≡◌, ◌+◌, ◌++◌, ℕ, List, [], ◌∷◌, sym, ◌∙◌, ap, subst, arith, refl, length, length-append, map, take, append_assoc, Err, zero-add}
-use Rattle.std.specs.List.{AllByRecursion}
-use Rattle.fuse_wire.specs.Source.{SourceState, Takes, TakesMessage, message}
+use Rattle.std.proofs.Common.{◌≡◌, ◌+◌, ◌++◌, ℕ, List, [], ◌∷◌, sym, ◌∙◌, ap, subst, refl, length, length-append, map, take, append_assoc, Err, zero-add}
+use Rattle.fuse_wire.specs.Source.{SourceState, Takes, message}
 use Rattle.fuse_wire.specs.Sink.{SinkState, Note}
 use Rattle.fuse_wire.proofs.Devices.{Takes-none, Takes-then}
 use Rattle.fuse_config.specs.declared.session_acl.SessionACL.{SessionACL}
 use Rattle.fuse_request.specs.declared.error.RequestError.{RequestError}
 use Rattle.fuse_request.specs.Header.{header}
 use Rattle.fuse_reply.specs.declared.out.Out.{Out}
-use Rattle.fuse_reply.specs.declared.out.Out.TheVariants.{Frame}
-use Rattle.fuse_session.specs.OneEach.{InOrder, number_of}
-use Rattle.fuse_session.specs.Owed.{Owed, IsBroken, GoesOn}
+use Rattle.fuse_reply.specs.declared.out.Out.TheVariants.{Frame, Note as Noting, Deferred}
+use Rattle.fuse_session.specs.OneEach.{Owing, InOrder, number_of}
+use Rattle.fuse_session.specs.Owed.{IsBroken, GoesOn}
 use Rattle.fuse_session.specs.Verdict.{verdict}
 use Rattle.fuse_session.specs.Verdict.Verdict.{Ends}
 use Rattle.fuse_session.specs.Turn.{Turns, Pays}
-use Rattle.fuse_session.specs.Moves.{TakesNext, Moves, Hands, Faults}
+use Rattle.fuse_session.specs.Moves.{TakesNext, Moves, Hands}
 use Rattle.fuse_session.specs.Serves.{Serves, ServesOn, AllGoOn, RunEnds}
 use Rattle.fuse_session.specs.declared.transcript.Transcript.{Transcript}
-use Rattle.fuse_session.specs.declared.channel.Taken.{Taken}
 use Rattle.fuse_session.specs.declared.channel.Taken.TheVariants as taken
 use Rattle.fuse_session.specs.declared.verdict.Turn.TheVariants as turn
 use Rattle.fuse_session.specs.declared.serving.End.{End}
 use Rattle.fuse_session.specs.declared.serving.End.TheVariants.{Gone, Destroyed, Broken, Failed}
 use Rattle.std.proofs.lemmas.List.{map-append, length-map}
 use Rattle.fuse_session.proofs.Taking.{Begins-from_takes, Begins-after, Faults-after}
-use Rattle.fuse_session.proofs.Moving.{Moves-none, Moves-received, Moves-then, Handed, Handed-frame, took, lost}
-use Rattle.fuse_session.proofs.Order.{InOrder-framed, InOrder-lost, InOrder-append}
+use Rattle.fuse_session.proofs.Moving.{Moves-none, Moves-received, Moves-then, Handed, Handed-frame, Handed-note, took, lost}
+use Rattle.fuse_session.proofs.Order.{InOrder-framed, InOrder-noted, InOrder-lost, InOrder-append}
 
 -- the source had nothing left
-pub Serves-gone : (acl : SessionACL) (owner place : ℕ) (a b : SourceState) (k : SinkState) (t u : Transcript) (buffer : List ℕ)
-    → TakesNext taken.Gone a b t u buffer → Serves place Gone acl owner a b k k t u
-Serves-gone acl owner place a b k t u buffer next = record {
+pub Serves-gone : (owed : Owing) (acl : SessionACL) (owner place : ℕ) (a b : SourceState) (k : SinkState) (t u : Transcript) (buffer : List ℕ)
+    → TakesNext taken.Gone a b t u buffer → Serves owed place Gone acl owner a b k k t u
+Serves-gone owed acl owner place a b k t u buffer next = record {
   turns = [];
   answered = [];
   frames = [];
@@ -42,9 +40,9 @@ Serves-gone acl owner place a b k t u buffer next = record {
 }
 
 -- the source failed
-pub Serves-failed : (acl : SessionACL) (owner place : ℕ) (a b : SourceState) (k : SinkState) (t u : Transcript) (buffer : List ℕ)
-    → TakesNext taken.Failed a b t u buffer → Serves place Failed acl owner a b k k t u
-Serves-failed acl owner place a b k t u buffer next = record {
+pub Serves-failed : (owed : Owing) (acl : SessionACL) (owner place : ℕ) (a b : SourceState) (k : SinkState) (t u : Transcript) (buffer : List ℕ)
+    → TakesNext taken.Failed a b t u buffer → Serves owed place Failed acl owner a b k k t u
+Serves-failed owed acl owner place a b k t u buffer next = record {
   turns = [];
   answered = [];
   frames = [];
@@ -56,10 +54,10 @@ Serves-failed acl owner place a b k t u buffer next = record {
 }
 
 -- a message without a good header came
-pub Serves-broken : (acl : SessionACL) (owner place : ℕ) (e : RequestError) (a b : SourceState) (k : SinkState) (t u : Transcript) (n : ℕ) (buffer m : List ℕ)
-    → TakesNext (taken.Message n) a b t u buffer → m ≡ take n buffer → Turns (turn.Broken e) acl owner m
-    → Serves place (Broken e) acl owner a b k k t u
-Serves-broken acl owner place e a b k t u n buffer m next is_m broken = record {
+pub Serves-broken : (owed : Owing) (acl : SessionACL) (owner place : ℕ) (e : RequestError) (a b : SourceState) (k : SinkState) (t u : Transcript) (n : ℕ) (buffer m : List ℕ)
+    → TakesNext (taken.Message n) a b t u buffer → m ≡ take n buffer → Turns owed (turn.Broken e) acl owner m
+    → Serves owed place (Broken e) acl owner a b k k t u
+Serves-broken owed acl owner place e a b k t u n buffer m next is_m broken = record {
   turns = next.0.turn ∷ [];
   answered = [];
   frames = [];
@@ -71,38 +69,40 @@ Serves-broken acl owner place e a b k t u n buffer m next is_m broken = record {
 }
 
 -- what one answered message gives
-record Paid (acl : SessionACL) (owner place : ℕ) (a b : SourceState) (k l : SinkState) (t u : Transcript) (m : List ℕ) : Type 0 where
+record Paid (owed : Owing) (acl : SessionACL) (owner place : ℕ) (a b : SourceState) (k l : SinkState) (t u : Transcript) (m : List ℕ) : Type 0 where
   turn : List ℕ
   is_m : m ≡ message turn
   frames : List (List ℕ)
+  notes : List Note
   lost : ℕ
-  order : InOrder (Owed acl owner) (IsBroken acl owner) place (message turn ∷ []) frames [] lost
-  moved : Moves 1 frames [] lost k l t u
+  order : InOrder owed (IsBroken acl owner) place (message turn ∷ []) frames notes lost
+  moved : Moves 1 frames notes lost k l t u
   taken : Takes (turn ∷ []) a b
 
--- a message was taken, and a frame that it is owed was handed to the sink
-paid : (acl : SessionACL) (owner place : ℕ) (a b : SourceState) (k l : SinkState) (t u v : Transcript) (n : ℕ) (buffer m : List ℕ) (out : Out)
-    → TakesNext (taken.Message n) a b t u buffer → m ≡ take n buffer → Pays acl owner m out → Hands out k l u v
-    → Paid acl owner place a b k l t v m
-paid acl owner place a b k l t u v n buffer m out next is_m pays hands =
-    elim (Handed-frame pays.frame k l u v (subst (λ (o : Out). Hands o k l u v) pays.is_frame hands)) as (λ _. Paid acl owner place a b k l t v m) [
+-- a message was taken, and what it is owed was handed to the sink
+paid-handed : (owed : Owing) (acl : SessionACL) (owner place : ℕ) (a b : SourceState) (k l : SinkState) (t u v : Transcript) (n : ℕ) (buffer m : List ℕ)
+    (fs : List (List ℕ)) (ns : List Note)
+    → TakesNext (taken.Message n) a b t u buffer → m ≡ take n buffer → InOrder owed (IsBroken acl owner) place (m ∷ []) fs ns 0
+    → (IsBroken acl owner m → ⊥) → Handed fs ns k l u v → Paid owed acl owner place a b k l t v m
+paid-handed owed acl owner place a b k l t u v n buffer m fs ns next is_m order whole handed =
+    elim handed as (λ _. Paid owed acl owner place a b k l t v m) [
       | took moved ↦ record {
         turn = next.0.turn;
         is_m = is;
-        frames = pays.frame ∷ [];
+        frames = fs;
+        notes = ns;
         lost = 0;
-        order = InOrder-framed (Owed acl owner) (IsBroken acl owner) place (message next.0.turn) pays.frame
-            (subst (λ (x : List ℕ). Owed acl owner (number_of place) x (Frame pays.frame)) is (pays.owed (number_of place)));
-        moved = Moves-then 1 0 [] (pays.frame ∷ []) [] [] 0 0 k k l t u v (Moves-received k t u next.1) moved;
+        order = subst (λ (x : List ℕ). InOrder owed (IsBroken acl owner) place (x ∷ []) fs ns 0) is order;
+        moved = Moves-then 1 0 [] fs [] ns 0 0 k k l t u v (Moves-received k t u next.1) moved;
         taken = next.0.taken;
       }
       | lost moved ↦ record {
         turn = next.0.turn;
         is_m = is;
         frames = [];
+        notes = [];
         lost = 1;
-        order = InOrder-lost (Owed acl owner) (IsBroken acl owner) place (message next.0.turn)
-            (subst (λ (x : List ℕ). IsBroken acl owner x → ⊥) is pays.whole);
+        order = InOrder-lost owed (IsBroken acl owner) place (message next.0.turn) (subst (λ (x : List ℕ). IsBroken acl owner x → ⊥) is whole);
         moved = Moves-then 1 0 [] [] [] [] 0 1 k k l t u v (Moves-received k t u next.1) moved;
         taken = next.0.taken;
       }
@@ -111,17 +111,29 @@ paid acl owner place a b k l t u v n buffer m out next is_m pays hands =
     is : m ≡ message next.0.turn
     is = is_m ∙ next.0.bytes
 
+-- a message was taken, and a frame or note that it is owed was handed to the sink
+paid : (owed : Owing) (acl : SessionACL) (owner place : ℕ) (a b : SourceState) (k l : SinkState) (t u v : Transcript) (n : ℕ) (buffer m : List ℕ) (out : Out)
+    → TakesNext (taken.Message n) a b t u buffer → m ≡ take n buffer → Pays owed acl owner m out → Hands out k l u v
+    → Paid owed acl owner place a b k l t v m
+paid owed acl owner place a b k l t u v n buffer m (Frame f) next is_m pays hands =
+    paid-handed owed acl owner place a b k l t u v n buffer m (f ∷ []) [] next is_m
+    (InOrder-framed owed (IsBroken acl owner) place m f (pays.pays (number_of place))) pays.whole (Handed-frame f k l u v hands)
+paid owed acl owner place a b k l t u v n buffer m (Noting id mark) next is_m pays hands =
+    paid-handed owed acl owner place a b k l t u v n buffer m [] ((id.0, mark) ∷ []) next is_m
+    (InOrder-noted owed (IsBroken acl owner) place m (id.0, mark) (pays.pays (number_of place))) pays.whole (Handed-note id mark k l u v hands)
+paid owed acl owner place a b k l t u v n buffer m (Deferred seq id) next is_m pays hands = absurd pays.prompt
+
 -- DESTROY was answered
-pub Serves-last : (acl : SessionACL) (owner place : ℕ) (a b : SourceState) (k l : SinkState) (t u v : Transcript) (n : ℕ) (buffer m : List ℕ) (out : Out)
-    → TakesNext (taken.Message n) a b t u buffer → m ≡ take n buffer → Turns (turn.Last out) acl owner m → Hands out k l u v
-    → Serves place Destroyed acl owner a b k l t v
-Serves-last acl owner place a b k l t u v n buffer m out next is_m last hands =
-    let p : Paid acl owner place a b k l t v m = paid acl owner place a b k l t u v n buffer m out next is_m last.1 hands in
+pub Serves-last : (owed : Owing) (acl : SessionACL) (owner place : ℕ) (a b : SourceState) (k l : SinkState) (t u v : Transcript) (n : ℕ) (buffer m : List ℕ) (out : Out)
+    → TakesNext (taken.Message n) a b t u buffer → m ≡ take n buffer → Turns owed (turn.Last out) acl owner m → Hands out k l u v
+    → Serves owed place Destroyed acl owner a b k l t v
+Serves-last owed acl owner place a b k l t u v n buffer m out next is_m last hands =
+    let p : Paid owed acl owner place a b k l t v m = paid owed acl owner place a b k l t u v n buffer m out next is_m last.1 hands in
     record {
       turns = p.turn ∷ [];
       answered = p.turn ∷ [];
       frames = p.frames;
-      notes = [];
+      notes = p.notes;
       lost = p.lost;
       order = p.order;
       moved = p.moved;
@@ -129,15 +141,15 @@ Serves-last acl owner place a b k l t u v n buffer m out next is_m last hands =
     }
 
 -- a message was answered, and the run goes on
-pub ServesOn-next : (acl : SessionACL) (owner place : ℕ) (a b : SourceState) (k l : SinkState) (t u v : Transcript) (n : ℕ) (buffer m : List ℕ) (out : Out)
-    → TakesNext (taken.Message n) a b t u buffer → m ≡ take n buffer → Turns (turn.Next out) acl owner m → Hands out k l u v
-    → ServesOn place acl owner a b k l t v
-ServesOn-next acl owner place a b k l t u v n buffer m out next is_m goes hands =
-    let p : Paid acl owner place a b k l t v m = paid acl owner place a b k l t u v n buffer m out next is_m goes.1 hands in
+pub ServesOn-next : (owed : Owing) (acl : SessionACL) (owner place : ℕ) (a b : SourceState) (k l : SinkState) (t u v : Transcript) (n : ℕ) (buffer m : List ℕ) (out : Out)
+    → TakesNext (taken.Message n) a b t u buffer → m ≡ take n buffer → Turns owed (turn.Next out) acl owner m → Hands out k l u v
+    → ServesOn owed place acl owner a b k l t v
+ServesOn-next owed acl owner place a b k l t u v n buffer m out next is_m goes hands =
+    let p : Paid owed acl owner place a b k l t v m = paid owed acl owner place a b k l t u v n buffer m out next is_m goes.1 hands in
     record {
       turns = p.turn ∷ [];
       frames = p.frames;
-      notes = [];
+      notes = p.notes;
       lost = p.lost;
       order = p.order;
       moved = p.moved;
@@ -151,8 +163,8 @@ AllGoOn-append acl owner [] ys first second = second
 AllGoOn-append acl owner (x ∷ xs) ys first second = (first.0, AllGoOn-append acl owner xs ys first.1 second)
 
 -- nothing was taken yet
-pub ServesOn-none : (acl : SessionACL) (owner place : ℕ) (a : SourceState) (k : SinkState) (t : Transcript) → ServesOn place acl owner a a k k t t
-ServesOn-none acl owner place a k t = record {
+pub ServesOn-none : (owed : Owing) (acl : SessionACL) (owner place : ℕ) (a : SourceState) (k : SinkState) (t : Transcript) → ServesOn owed place acl owner a a k k t t
+ServesOn-none owed acl owner place a k t = record {
   turns = [];
   frames = [];
   notes = [];
@@ -164,14 +176,14 @@ ServesOn-none acl owner place a k t = record {
 }
 
 -- in order behind other turns
-order-then : (acl : SessionACL) (owner place : ℕ) (xs ys fs gs : List (List ℕ)) (ns ms : List Note) (i j : ℕ)
-    → InOrder (Owed acl owner) (IsBroken acl owner) place (map message xs) fs ns i
-    → InOrder (Owed acl owner) (IsBroken acl owner) (place + length xs) (map message ys) gs ms j
-    → InOrder (Owed acl owner) (IsBroken acl owner) place (map message (xs ++ ys)) (fs ++ gs) (ns ++ ms) (i + j)
-order-then acl owner place xs ys fs gs ns ms i j first second =
-    subst (λ (m : List (List ℕ)). InOrder (Owed acl owner) (IsBroken acl owner) place m (fs ++ gs) (ns ++ ms) (i + j)) (sym (map-append message xs ys))
-    (InOrder-append (Owed acl owner) (IsBroken acl owner) place (map message xs) (map message ys) fs gs ns ms i j first
-    (subst (λ (n : ℕ). InOrder (Owed acl owner) (IsBroken acl owner) (place + n) (map message ys) gs ms j) (sym (length-map xs message)) second))
+order-then : (owed : Owing) (acl : SessionACL) (owner place : ℕ) (xs ys fs gs : List (List ℕ)) (ns ms : List Note) (i j : ℕ)
+    → InOrder owed (IsBroken acl owner) place (map message xs) fs ns i
+    → InOrder owed (IsBroken acl owner) (place + length xs) (map message ys) gs ms j
+    → InOrder owed (IsBroken acl owner) place (map message (xs ++ ys)) (fs ++ gs) (ns ++ ms) (i + j)
+order-then owed acl owner place xs ys fs gs ns ms i j first second =
+    subst (λ (m : List (List ℕ)). InOrder owed (IsBroken acl owner) place m (fs ++ gs) (ns ++ ms) (i + j)) (sym (map-append message xs ys))
+    (InOrder-append owed (IsBroken acl owner) place (map message xs) (map message ys) fs gs ns ms i j first
+    (subst (λ (n : ℕ). InOrder owed (IsBroken acl owner) (place + n) (map message ys) gs ms j) (sym (length-map xs message)) second))
 
 -- moves behind other moves, by the turns taken
 moves-then : (xs ys fs gs : List (List ℕ)) (ns ms : List Note) (i j : ℕ) (k l m : SinkState) (t u v : Transcript)
@@ -181,17 +193,17 @@ moves-then xs ys fs gs ns ms i j k l m t u v first second =
     (Moves-then (length xs) (length ys) fs gs ns ms i j k l m t u v first second)
 
 -- a run so far goes on
-pub ServesOn-then : (acl : SessionACL) (owner : ℕ) (a b c : SourceState) (k l m : SinkState) (t u v : Transcript)
-    → ServesOn 0 acl owner a b k l t u → ((place : ℕ) → ServesOn place acl owner b c l m u v) → ServesOn 0 acl owner a c k m t v
-ServesOn-then acl owner a b c k l m t u v first more =
-    let second : ServesOn (length first.turns) acl owner b c l m u v = more (length first.turns) in
+pub ServesOn-then : (owed : Owing) (acl : SessionACL) (owner : ℕ) (a b c : SourceState) (k l m : SinkState) (t u v : Transcript)
+    → ServesOn owed 0 acl owner a b k l t u → ((place : ℕ) → ServesOn owed place acl owner b c l m u v) → ServesOn owed 0 acl owner a c k m t v
+ServesOn-then owed acl owner a b c k l m t u v first more =
+    let second : ServesOn owed (length first.turns) acl owner b c l m u v = more (length first.turns) in
     record {
       turns = first.turns ++ second.turns;
       frames = first.frames ++ second.frames;
       notes = first.notes ++ second.notes;
       lost = first.lost + second.lost;
-      order = order-then acl owner 0 first.turns second.turns first.frames second.frames first.notes second.notes first.lost second.lost first.order
-          (subst (λ (n : ℕ). InOrder (Owed acl owner) (IsBroken acl owner) n (map message second.turns) second.frames second.notes second.lost)
+      order = order-then owed acl owner 0 first.turns second.turns first.frames second.frames first.notes second.notes first.lost second.lost first.order
+          (subst (λ (n : ℕ). InOrder owed (IsBroken acl owner) n (map message second.turns) second.frames second.notes second.lost)
           (sym (zero-add (length first.turns))) second.order);
       moved = moves-then first.turns second.turns first.frames second.frames first.notes second.notes first.lost second.lost k l m t u v first.moved second.moved;
       taken = Takes-then first.turns second.turns a b c first.taken second.taken;
@@ -227,18 +239,18 @@ RunEnds-after acl owner Failed xs turns answered a b c takes go e = (
 )
 
 -- a run so far, and its end
-pub Serves-then : (acl : SessionACL) (owner : ℕ) (end : End) (a b c : SourceState) (k l m : SinkState) (t u v : Transcript)
-    → ServesOn 0 acl owner a b k l t u → ((place : ℕ) → Serves place end acl owner b c l m u v) → Serves 0 end acl owner a c k m t v
-Serves-then acl owner end a b c k l m t u v first more =
-    let second : Serves (length first.turns) end acl owner b c l m u v = more (length first.turns) in
+pub Serves-then : (owed : Owing) (acl : SessionACL) (owner : ℕ) (end : End) (a b c : SourceState) (k l m : SinkState) (t u v : Transcript)
+    → ServesOn owed 0 acl owner a b k l t u → ((place : ℕ) → Serves owed place end acl owner b c l m u v) → Serves owed 0 end acl owner a c k m t v
+Serves-then owed acl owner end a b c k l m t u v first more =
+    let second : Serves owed (length first.turns) end acl owner b c l m u v = more (length first.turns) in
     record {
       turns = first.turns ++ second.turns;
       answered = first.turns ++ second.answered;
       frames = first.frames ++ second.frames;
       notes = first.notes ++ second.notes;
       lost = first.lost + second.lost;
-      order = order-then acl owner 0 first.turns second.answered first.frames second.frames first.notes second.notes first.lost second.lost first.order
-          (subst (λ (n : ℕ). InOrder (Owed acl owner) (IsBroken acl owner) n (map message second.answered) second.frames second.notes second.lost)
+      order = order-then owed acl owner 0 first.turns second.answered first.frames second.frames first.notes second.notes first.lost second.lost first.order
+          (subst (λ (n : ℕ). InOrder owed (IsBroken acl owner) n (map message second.answered) second.frames second.notes second.lost)
           (sym (zero-add (length first.turns))) second.order);
       moved = moves-then first.turns second.turns first.frames second.frames first.notes second.notes first.lost second.lost k l m t u v first.moved second.moved;
       ended = RunEnds-after acl owner end first.turns second.turns second.answered a b c first.taken first.go_on second.ended;

@@ -1,37 +1,39 @@
 -- Messages of a handshake, one after another.
-use Rattle.std.proofs.Common.{◌≡◌, ◌+◌, ◌++◌, ℕ, suc, List, [], ◌∷◌, sym, ◌∙◌, ap, subst, arith, refl, length, length-append, map, take, append_assoc, Result, Ok, Err, inl, inr, pos, Bool, true, false, nat_lt}
-use Rattle.std.specs.Prelude.{◌⊎◌, if◌then◌else◌}
+use Rattle.std.proofs.Common.{◌≡◌, ◌+◌, ◌++◌, ℕ, suc, List, [], ◌∷◌, sym, ◌∙◌, ap, subst, arith, refl, length, length-append, map, take, append_assoc, Option, None, Some, Result, Ok, Err, inl, inr, pos, Bool, true, false, nat_lt}
+use Rattle.std.specs.Prelude.{if◌then◌else◌}
 use Rattle.std.proofs.lemmas.List.{map-append}
 use Rattle.fuse_args.specs.declared.fixed.InitArguments.{InitArguments}
-use Rattle.fuse_wire.specs.Source.{SourceState, Takes, TakesMessage, message}
-use Rattle.fuse_wire.specs.Sink.{SinkState, Note}
+use Rattle.fuse_wire.specs.Source.{SourceState, Takes, message}
+use Rattle.fuse_wire.specs.Sink.{SinkState}
 use Rattle.fuse_wire.proofs.Devices.{Takes-none, Takes-then}
-use Rattle.fuse_config.specs.Values.{Configuration}
 use Rattle.fuse_config.specs.Configuration.{start, init_payload, version_payload}
 use Rattle.fuse_request.specs.declared.error.RequestError.{RequestError}
 use Rattle.fuse_request.specs.declared.any_request.Header.{Header}
 use Rattle.fuse_request.specs.InitOperation.{offered, version}
 use Rattle.fuse_request.specs.Operation.{Op, operation}
-use Rattle.fuse_request.specs.Operation.Op.{Init, Destroy}
+use Rattle.fuse_request.specs.Operation.Op.{Init, Destroy, Lookup, Forget, GetAttr, Read}
 use Rattle.fuse_request.specs.Header.{header, body, header_fields, request_of}
 use Rattle.fuse_reply.specs.declared.out.Out.{Out}
 use Rattle.fuse_reply.specs.declared.out.Out.TheVariants.{Frame}
 use Rattle.fuse_reply.specs.Answer.Answer.{Error}
 use Rattle.fuse_reply.specs.Frame.{reply, frame}
 use Rattle.fuse_session.specs.Verdict.{id_of}
-use Rattle.fuse_session.specs.Handshake.{Inits, Greeting, greeting, greeted, opened, is_old, Greets, Negotiates, Replies, HandshakeEnd, Handshake, LeavesOut}
+use Rattle.fuse_session.specs.Promise.{Inits}
+use Rattle.fuse_session.specs.Handshake.{Greeting, greeting, greeted, opened, opened_by, init_of, is_old, Greets, Negotiates, HandshakeEnd, Handshake, LeavesOut}
 use Rattle.fuse_session.specs.Handshake.Greeting.{Refused as IsRefused, Answered as IsAnswered, Newer as IsNewer, Offered as IsOffered}
 use Rattle.fuse_session.specs.Handshake.HandshakeEnd.{Open, Accepted, Failed}
-use Rattle.fuse_session.specs.Moves.{TakesNext, Moves, Hands, Begins, Faults}
+use Rattle.fuse_session.specs.Moves.{TakesNext, Moves, Hands}
 use Rattle.fuse_session.specs.Shakes.{Answers, AnswersBy, ComesTo, GreetsAs, Fails, ShakeEnds, Shakes, ShakesOn, answer_comes}
 use Rattle.fuse_session.specs.declared.transcript.Transcript.{Transcript}
 use Rattle.fuse_session.specs.declared.channel.Taken.TheVariants as taken
 use Rattle.fuse_session.specs.declared.handshake.Greeting.{Greeting as Comes}
 use Rattle.fuse_session.specs.declared.handshake.Greeting.TheVariants as comes
+use Rattle.fuse_session.specs.declared.error.InvalidData.TheVariants as invalid
 use Rattle.fuse_session.specs.declared.error.SessionError.{SessionError}
 use Rattle.fuse_session.specs.declared.error.SessionError.TheVariants as session
+use Rattle.fuse_session.proofs.Dispatching.{header-fields}
 use Rattle.fuse_session.proofs.Taking.{Begins-from_takes, Begins-after, Faults-after}
-use Rattle.fuse_session.proofs.Moving.{Moves-none, Moves-received, Moves-then, Handed, Handed-frame, took, lost}
+use Rattle.fuse_session.proofs.Moving.{Moves-none, Moves-received, Moves-then, Handed-frame, took, lost}
 
 -- frames without those that were lost, and then others
 pub LeavesOut-append : (j k : ℕ) (fs gs ws vs : List (List ℕ)) → LeavesOut j fs ws → LeavesOut k gs vs → LeavesOut (j + k) (fs ++ gs) (ws ++ vs)
@@ -110,10 +112,13 @@ from_offer i true old = tt
 from_offer i false true = tt
 from_offer i false false = tt
 
+from_by : (opcode : ℕ) (i : Option InitArguments) → FromMessage (opened_by opcode i)
+from_by opcode None = tt
+from_by opcode (Some i) = from_offer i (nat_lt 7 i.major) (is_old i)
+
 from_opened : (opcode : ℕ) (o : Result Op RequestError) → FromMessage (opened opcode o)
 from_opened opcode (Err e) = tt
-from_opened opcode (Ok Destroy) = tt
-from_opened opcode (Ok (Init i)) = from_offer i (nat_lt 7 i.major) (is_old i)
+from_opened opcode (Ok op) = from_by opcode (init_of op)
 
 from_greeted : (r : Result Header RequestError) (rest : List ℕ) → FromMessage (greeted r rest)
 from_greeted (Err e) rest = tt
@@ -432,3 +437,24 @@ Shakes-then {F} may_init page fs fs1 fs2 outcome a b c k l m t u v first second 
   moved = shake-moves first.turns second.turns first.written second.written first.lost second.lost k l m t u v first.moved second.moved;
   ended = ShakeEnds-after outcome second.end first.turns second.turns a b c first.taken second.ended;
 }
+
+-- no INIT
+abbrev pub no_init : Option InitArguments
+no_init = None
+
+-- a message that is another operation than INIT
+pub GreetsAs-other : {F : Type 0} (may_init : Inits F) (page : ℕ) (fs : F) (m : List ℕ) (h : Header) (op : Op) (out : Out)
+    → header m ≡ Ok h → operation h.opcode (body m) ≡ Ok op → init_of op ≡ no_init → out ≡ Frame (reply h.unique.0 (Error 5))
+    → GreetsAs may_init page fs fs m (comes.Refused out (session.InvalidData (invalid.NotInit h.opcode)))
+GreetsAs-other may_init page fs m h op out good decodes other is =
+    subst (λ (g : Greeting). ComesTo may_init page fs fs (request_of (header_fields m)) g (comes.Refused out refused)) (sym greeted-is)
+    (ap (λ (o : Out). comes.Refused o refused) (is ∙ ap (λ (x : Header). Frame (reply x.unique.0 (Error 5))) (header-fields m h good)), refl)
+  where
+    refused : SessionError
+    refused = session.InvalidData (invalid.NotInit h.opcode)
+
+    greeted-is : greeting m ≡ IsAnswered 5 refused
+    greeted-is =
+        ap (λ (r : Result Header RequestError). greeted r (body m)) good
+        ∙ (ap (λ (o : Result Op RequestError). opened h.opcode o) decodes
+        ∙ ap (λ (i : Option InitArguments). opened_by h.opcode i) other)

@@ -1,7 +1,7 @@
 -- What is taken from a source, after calls that gave nothing.
-use Rattle.std.proofs.Common.{◌≡◌, ◌≤◌, ℕ, List, [], ◌∷◌, ◌++◌, Option, sym, ◌∙◌, subst, arith, IfSome, refl, ap, append_assoc}
+use Rattle.std.proofs.Common.{◌≡◌, ◌≤◌, ℕ, List, [], ◌∷◌, ◌++◌, Option, sym, ◌∙◌, subst, arith, IfSome, ap, append_assoc}
 use Rattle.std.specs.Prelude.{Some, None, option_map}
-use Rattle.fuse_wire.specs.Source.{SourceState, Takes, TakesMessage, message}
+use Rattle.fuse_wire.specs.Source.{SourceState, Takes, TakesMessage}
 use Rattle.fuse_wire.proofs.Devices.{Takes-then}
 use Rattle.fuse_wire.proofs.Options.{option_map-front_none}
 use Rattle.fuse_wire.proofs.Faults.{Rose-after}

@@ -1,17 +1,17 @@
 -- The handshake: what each message before an accepted INIT gets, and how it ends.
-use Rattle.std.specs.Prelude.{◌≡◌, ◌⊎◌, ◌++◌, ◌&&◌, ◌||◌, ◌==◌, ℕ, Bool, suc, List, [], ◌∷◌, Result, Ok, Err, nat_lt, pos, if◌then◌else◌}
+use Rattle.std.specs.Prelude.{◌≡◌, ◌⊎◌, ◌&&◌, ◌||◌, ◌==◌, ℕ, Bool, suc, List, [], ◌∷◌, Option, None, Some, Result, Ok, Err, nat_lt, pos, if◌then◌else◌}
 use Rattle.fuse_args.specs.declared.fixed.InitArguments.{InitArguments}
 use Rattle.fuse_config.specs.Values.{Configuration}
 use Rattle.fuse_config.specs.Configuration.{start, init_payload, version_payload}
 use Rattle.fuse_request.specs.declared.error.RequestError.{RequestError}
 use Rattle.fuse_request.specs.declared.any_request.Header.{Header}
-use Rattle.fuse_request.specs.declared.request.Request.{Request}
 use Rattle.fuse_request.specs.Header.{header, header_fields, body, request_of}
 use Rattle.fuse_request.specs.InitOperation.{offered, version}
 use Rattle.fuse_request.specs.Operation.{Op, operation}
-use Rattle.fuse_request.specs.Operation.Op.{Init, Destroy}
+use Rattle.fuse_request.specs.Operation.Op.{Init}
 use Rattle.fuse_reply.specs.Answer.Answer.{Error}
 use Rattle.fuse_reply.specs.Frame.{frame, reply}
+use Rattle.fuse_session.specs.Promise.{Inits}
 use Rattle.fuse_session.specs.Verdict.{id_of}
 use Rattle.fuse_session.specs.declared.error.InvalidData.TheVariants as invalid
 use Rattle.fuse_session.specs.declared.error.SessionError.{SessionError}
@@ -35,10 +35,18 @@ is_old i = nat_lt i.major 7 || ((i.major == 7) && nat_lt i.minor 6)
 abbrev pub offers : InitArguments → Greeting
 offers i = if nat_lt 7 i.major then Newer else if is_old i then Answered 71 (session.Unsupported (version i)) else Offered i
 
+-- what INIT carries, where it is one
+abbrev pub init_of : Op → Option InitArguments
+init_of (Init i) = Some i
+init_of op = None
+
+abbrev pub opened_by : ℕ → Option InitArguments → Greeting
+opened_by opcode None = Answered 5 (session.InvalidData (invalid.NotInit opcode))
+opened_by opcode (Some i) = offers i
+
 abbrev pub opened : ℕ → Result Op RequestError → Greeting
 opened opcode (Err e) = Refused (session.InvalidData (invalid.Operation e))
-opened opcode (Ok Destroy) = Answered 5 (session.InvalidData (invalid.NotInit opcode))
-opened opcode (Ok (Init i)) = offers i
+opened opcode (Ok op) = opened_by opcode (init_of op)
 
 abbrev pub greeted : Result Header RequestError → List ℕ → Greeting
 greeted (Err e) rest = Refused (session.InvalidData (invalid.Header e))
@@ -52,10 +60,6 @@ pub data HandshakeEnd : Type 0 where
   Open : HandshakeEnd
   Accepted : HandshakeEnd
   Failed : (e : SessionError) → HandshakeEnd
-
--- `init` of a filesystem: the promise of it
-abbrev pub Inits : Type 0 → Type 1
-Inits F = F → Request → Configuration → Result (Unit {0}) ℕ → F → Configuration → Type 0
 
 -- what `init` answered is the reply: an error, or what was negotiated
 abbrev pub Replies : (id : ℕ) → InitArguments → (page : ℕ) → Configuration → Result (Unit {0}) ℕ → List (List ℕ) → HandshakeEnd → Type 0

@@ -1,5 +1,5 @@
 -- When a session ends well: each message that it took has the one reply that it is owed.
-use Rattle.std.specs.Prelude.{◌≡◌, ◌⊎◌, ◌++◌, ◌<◌, ℕ, Bool, true, false, not, List, [], ◌∷◌, map, filter}
+use Rattle.std.specs.Prelude.{◌≡◌, ◌⊎◌, ◌++◌, ◌<◌, ℕ, true, not, List, [], ◌∷◌, map, filter}
 use Rattle.std.specs.List.{AllByRecursion}
 use Rattle.fuse_wire.specs.Faults.{last_count}
 use Rattle.fuse_wire.specs.Source.{SourceState, Takes, message}
@@ -8,10 +8,11 @@ use Rattle.fuse_config.specs.declared.session_acl.SessionACL.{SessionACL}
 use Rattle.fuse_reply.specs.Frame.{is_set_aside}
 use Rattle.fuse_reply.specs.Notice.{Notice, notice}
 use Rattle.fuse_session.specs.Verdict.{Verdict, verdict}
-use Rattle.fuse_session.specs.Verdict.Verdict.{Broken, Ends, Fixed}
+use Rattle.fuse_session.specs.Verdict.Verdict.{Broken, Ends, Fixed, Forgets, Calls}
 use Rattle.fuse_session.specs.Owed.{Owed, IsBroken}
 use Rattle.fuse_session.specs.OneEach.{OneEach}
-use Rattle.fuse_session.specs.Handshake.{Inits, Handshake}
+use Rattle.fuse_session.specs.Promise.{Promise}
+use Rattle.fuse_session.specs.Handshake.{Handshake}
 use Rattle.fuse_session.specs.Handshake.HandshakeEnd.{Accepted}
 use Rattle.fuse_session.specs.Moves.{NothingLeft}
 use Rattle.fuse_session.specs.declared.transcript.Transcript.{Transcript}
@@ -29,6 +30,8 @@ abbrev pub EndsBehind : Verdict → (more : List (List ℕ)) → (rest : Type 0)
 EndsBehind (Broken e) more rest = ⊥
 EndsBehind Ends more rest = more ≡ []
 EndsBehind (Fixed errno) more rest = rest
+EndsBehind (Forgets c) more rest = rest
+EndsBehind (Calls c) more rest = rest
 
 abbrev pub EndsWell : SessionACL → (owner : ℕ) → (messages : List (List ℕ)) → SourceState → Type 0
 EndsWell acl owner [] after = NothingLeft after
@@ -43,7 +46,7 @@ pub record Quiet (sink sink' : SinkState) : Type 0 where
 abbrev pub Lossless : SinkState → SinkState → Transcript → Type 0
 Lossless sink sink' t' = Quiet sink sink' ⊎ (t'.lost ≡ 0)
 
-pub record Headline {F : Type 0} (may_init : Inits F) (page : ℕ) (acl : SessionACL) (owner : ℕ) (fs : F) (before after : SourceState) (sink sink' : SinkState) : Type 0 where
+pub record Headline {F : Type 0} (promise : Promise F) (page : ℕ) (acl : SessionACL) (owner : ℕ) (fs : F) (before after : SourceState) (sink sink' : SinkState) : Type 0 where
   -- the turns of the handshake, and the later ones
   pub hs : List (List ℕ)
   pub ls : List (List ℕ)
@@ -55,10 +58,10 @@ pub record Headline {F : Type 0} (may_init : Inits F) (page : ℕ) (acl : Sessio
   pub fs1 : F
   -- the turns at the start are these, and then those left
   pub taken : Takes (hs ++ ls) before after
-  pub handshake : Handshake may_init page fs (map message hs) handshake_replies fs1 Accepted
+  pub handshake : Handshake promise.may_init page fs (map message hs) handshake_replies fs1 Accepted
   -- the frames written are the handshake's replies and then the later ones, but for notices
   pub written : Appends appended notes sink sink'
   pub replied : replies appended ≡ handshake_replies ++ later_replies
   pub set_aside : AllByRecursion NoticeOrReply appended
-  pub one_each : OneEach (Owed acl owner) (IsBroken acl owner) 0 (map message ls) later_replies notes [] 0
+  pub one_each : OneEach (Owed promise fs1 acl owner) (IsBroken acl owner) 0 (map message ls) later_replies notes [] 0
   pub ended : EndsWell acl owner (map message ls) after

@@ -1,4 +1,5 @@
 pub mod Counts
+pub mod Promise
 pub mod Verdict
 pub mod Owed
 pub mod OneEach
@@ -10,3 +11,5 @@ pub mod Shakes
 pub mod Converses
 pub mod Headline
 pub mod Causes
+pub mod Complete
+pub mod Totals

@@ -1,5 +1,5 @@
 -- What a stretch of a session takes from the source and hands to the sink, and how it counts.
-use Rattle.std.specs.Prelude.{◌≡◌, ◌≤◌, ◌<◌, ◌+◌, ◌++◌, ℕ, List, [], Option, IfSome, length, min}
+use Rattle.std.specs.Prelude.{◌≡◌, ◌≤◌, ◌<◌, ◌+◌, ◌++◌, ℕ, List, [], IfSome, length, min}
 use Rattle.fuse_wire.specs.Faults.{Rose, counted, last_count}
 use Rattle.fuse_wire.specs.Source.{SourceState, Takes, TakesMessage}
 use Rattle.fuse_wire.specs.Sink.{SinkState, Note, Appends}

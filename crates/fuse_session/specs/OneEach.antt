@@ -1,6 +1,6 @@
 -- One frame or note for each message: by places, so that two messages with one id need two frames. `owed` says what a message
 -- is owed, by its number, and `broken` which messages have no good header.
-use Rattle.std.specs.Prelude.{◌≡◌, ◌⊎◌, ℕ, suc, ◌<◌, ◌^◌, ◌-◌, List, [], ◌∷◌, Some, slice_get, remove, min}
+use Rattle.std.specs.Prelude.{◌≡◌, ◌⊎◌, ℕ, suc, List, [], ◌∷◌, Some, slice_get, remove, min}
 use Rattle.fuse_wire.specs.Sink.{Note as Noted}
 use Rattle.fuse_wire.specs.Faults.{last_count}
 use Rattle.fuse_reply.specs.declared.out.Out.{Out}

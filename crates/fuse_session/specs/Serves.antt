@@ -7,8 +7,8 @@ use Rattle.fuse_config.specs.declared.session_acl.SessionACL.{SessionACL}
 use Rattle.fuse_request.specs.Header.{header}
 use Rattle.fuse_session.specs.Verdict.{verdict}
 use Rattle.fuse_session.specs.Verdict.Verdict.{Ends}
-use Rattle.fuse_session.specs.Owed.{Owed, GoesOn, IsBroken}
-use Rattle.fuse_session.specs.OneEach.{InOrder}
+use Rattle.fuse_session.specs.Owed.{GoesOn, IsBroken}
+use Rattle.fuse_session.specs.OneEach.{Owing, InOrder}
 use Rattle.fuse_session.specs.Moves.{NothingLeft, Begins, Faults, Moves}
 use Rattle.fuse_session.specs.declared.transcript.Transcript.{Transcript}
 use Rattle.fuse_session.specs.declared.serving.End.{End}
@@ -32,28 +32,28 @@ RunEnds Failed acl owner turns answered before after =
     (turns ≡ answered) × AllGoOn acl owner answered × Begins turns before × Faults before after
 
 -- a run on one worker, whose first message has this place
-pub record Serves (place : ℕ) (end : End) (acl : SessionACL) (owner : ℕ) (before after : SourceState) (sink sink' : SinkState) (t t' : Transcript) : Type 0 where
+pub record Serves (owed : Owing) (place : ℕ) (end : End) (acl : SessionACL) (owner : ℕ) (before after : SourceState) (sink sink' : SinkState) (t t' : Transcript) : Type 0 where
   pub turns : List (List ℕ)
   pub answered : List (List ℕ)
   pub frames : List (List ℕ)
   pub notes : List Note
   pub lost : ℕ
-  pub order : InOrder (Owed acl owner) (IsBroken acl owner) place (map message answered) frames notes lost
+  pub order : InOrder owed (IsBroken acl owner) place (map message answered) frames notes lost
   pub moved : Moves (length turns) frames notes lost sink sink' t t'
   pub ended : RunEnds end acl owner turns answered before after
 
 -- a run so far, behind which it goes on
-pub record ServesOn (place : ℕ) (acl : SessionACL) (owner : ℕ) (before after : SourceState) (sink sink' : SinkState) (t t' : Transcript) : Type 0 where
+pub record ServesOn (owed : Owing) (place : ℕ) (acl : SessionACL) (owner : ℕ) (before after : SourceState) (sink sink' : SinkState) (t t' : Transcript) : Type 0 where
   pub turns : List (List ℕ)
   pub frames : List (List ℕ)
   pub notes : List Note
   pub lost : ℕ
-  pub order : InOrder (Owed acl owner) (IsBroken acl owner) place (map message turns) frames notes lost
+  pub order : InOrder owed (IsBroken acl owner) place (map message turns) frames notes lost
   pub moved : Moves (length turns) frames notes lost sink sink' t t'
   pub taken : Takes turns before after
   pub go_on : AllGoOn acl owner turns
 
 -- one turn of it, at any place
-abbrev pub OneTurn : Option End → SessionACL → (owner : ℕ) → SourceState → SourceState → SinkState → SinkState → Transcript → Transcript → Type 0
-OneTurn None acl owner before after sink sink' t t' = (place : ℕ) → ServesOn place acl owner before after sink sink' t t'
-OneTurn (Some end) acl owner before after sink sink' t t' = (place : ℕ) → Serves place end acl owner before after sink sink' t t'
+abbrev pub OneTurn : Owing → Option End → SessionACL → (owner : ℕ) → SourceState → SourceState → SinkState → SinkState → Transcript → Transcript → Type 0
+OneTurn owed None acl owner before after sink sink' t t' = (place : ℕ) → ServesOn owed place acl owner before after sink sink' t t'
+OneTurn owed (Some end) acl owner before after sink sink' t t' = (place : ℕ) → Serves owed place end acl owner before after sink sink' t t'

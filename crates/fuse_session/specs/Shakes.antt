@@ -1,5 +1,5 @@
 -- The handshake as it is run: what it takes, what its messages get, and how it ends.
-use Rattle.std.specs.Prelude.{◌≡◌, ◌++◌, ℕ, List, [], ◌∷◌, Option, None, Some, Result, Ok, Err, map, length, pos}
+use Rattle.std.specs.Prelude.{◌≡◌, ◌++◌, ℕ, List, [], Option, None, Some, Result, Ok, Err, map, length, pos}
 use Rattle.fuse_args.specs.declared.fixed.InitArguments.{InitArguments}
 use Rattle.fuse_wire.specs.Source.{SourceState, Takes, message}
 use Rattle.fuse_wire.specs.Sink.{SinkState}
@@ -12,7 +12,8 @@ use Rattle.fuse_reply.specs.Answer.Answer.{Error}
 use Rattle.fuse_reply.specs.Frame.{frame, reply}
 use Rattle.fuse_reply.specs.declared.out.Out.{Out}
 use Rattle.fuse_reply.specs.declared.out.Out.TheVariants.{Frame}
-use Rattle.fuse_session.specs.Handshake.{Inits, Greeting, offers, greeting, HandshakeEnd, Handshake, LeavesOut}
+use Rattle.fuse_session.specs.Promise.{Inits}
+use Rattle.fuse_session.specs.Handshake.{Greeting, offers, greeting, HandshakeEnd, Handshake, LeavesOut}
 use Rattle.fuse_session.specs.Handshake.Greeting.{Refused as IsRefused, Answered as IsAnswered, Newer as IsNewer, Offered as IsOffered}
 use Rattle.fuse_session.specs.Handshake.HandshakeEnd.{Open, Accepted, Failed}
 use Rattle.fuse_session.specs.Moves.{NothingLeft, Begins, Faults, Moves}

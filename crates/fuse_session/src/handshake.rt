@@ -1,7 +1,9 @@
 // The handshake with a kernel.
-ghost use Rattle.std.specs.Prelude.{◌≡◌, ◌≤◌, ◌<◌, length, take, pos};
+ghost use Rattle.std.specs.Prelude.{◌≡◌, ◌≤◌, ◌<◌, length, take, pos, option_map};
 ghost use Rattle.fuse_reply.specs.Frame.{frame};
 ghost use Rattle.fuse_request.specs.InitOperation.{arguments_of};
+ghost use Rattle.fuse_request.specs.Operation.{plain};
+ghost use Rattle.fuse_session.specs.Handshake.{init_of};
 ghost use Rattle.fuse_session.specs.Shakes.{Answers, GreetsInit, GreetsAs, OneShake, Shakes};
 
 use crate::channel::{Taken, deliver, take_message};
@@ -91,6 +93,16 @@ fn greet_init<FS: Filesystem>(
     }
 }
 
+/// The offer of a kernel, where the operation is one.
+fn init_of(operation: &Operation<'_>) -> Option<Init>
+    ensures { option_map arguments_of result ≡ init_of (plain operation.now) }
+{
+    match operation {
+        Operation::Init(init) => Some(*init),
+        _ => None,
+    }
+}
+
 /// What a message in the handshake comes to.
 fn greet<FS: Filesystem>(
     alloc: Global,
@@ -107,20 +119,19 @@ fn greet<FS: Filesystem>(
             return Greeting::Silent(SessionError::InvalidData(InvalidData::Header(error)));
         }
     };
-    match request.operation() {
-        Err(error) => Greeting::Silent(SessionError::InvalidData(InvalidData::Operation(error))),
-        Ok(Operation::Destroy(_)) => {
+    let operation = match request.operation() {
+        Ok(operation) => operation,
+        Err(error) => {
+            return Greeting::Silent(SessionError::InvalidData(InvalidData::Operation(error)));
+        }
+    };
+    match init_of(&operation) {
+        Some(init) => greet_init(alloc, filesystem, page_size, &request.request(), &init),
+        None => {
             let reply = ReplyEmpty::new(alloc, request.unique()).error(Errno::EIO);
             let error = SessionError::InvalidData(InvalidData::NotInit(request.opcode()));
             Greeting::Refused(reply.into_out(), error)
         }
-        Ok(Operation::Init(init)) => greet_init(
-            alloc,
-            filesystem,
-            page_size,
-            &request.request(),
-            &init,
-        ),
     }
 }
 

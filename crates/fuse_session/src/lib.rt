@@ -3,7 +3,11 @@
 #![tactic(auto)]
 
 mod channel;
+#[cfg(test)]
+mod counting;
 mod error;
+#[cfg(test)]
+mod fault_tests;
 mod filesystem;
 mod handshake;
 mod serving;

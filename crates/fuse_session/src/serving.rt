@@ -1,10 +1,12 @@
 // The loop behind the handshake.
 ghost use Rattle.std.specs.Prelude.{◌≡◌, length};
 ghost use Rattle.fuse_session.specs.Serves.{Serves, OneTurn};
+ghost use Rattle.fuse_session.specs.Owed.{Owed};
+ghost use Rattle.fuse_session.specs.Promise.{promises};
 
-use crate::Transcript;
 use crate::channel::{Taken, deliver, take_message};
 use crate::verdict::{Access, Turn, turn_of};
+use crate::{Filesystem, Transcript};
 use fuse_request::RequestError;
 use fuse_wire::consts::BUFFER_SIZE;
 use fuse_wire::{Sink, Source};
@@ -24,8 +26,9 @@ pub(crate) enum End {
 }
 
 /// Takes a message and answers it. None is that the run goes on.
-fn take_turn<R: Wait + AllocGlobal, S: Source, K: Sink>(
+fn take_turn<R: Wait + AllocGlobal, FS: Filesystem, S: Source, K: Sink>(
     rt: &R,
+    filesystem: &FS,
     access: Access,
     source: &mut S,
     sink: &mut K,
@@ -33,14 +36,14 @@ fn take_turn<R: Wait + AllocGlobal, S: Source, K: Sink>(
     transcript: &mut Transcript,
 ) -> Option<End>
     requires { length buffer.old ≡ BUFFER_SIZE }
-    ensures { OneTurn result access.acl access.owner (S.told source.old) (S.told source.new) (K.told sink.old) (K.told sink.new) transcript.old transcript.new }
+    ensures { OneTurn (Owed (promises FS.may_init FS.may_answer FS.may_note FS.may_destroy) filesystem.now access.acl access.owner) result access.acl access.owner (S.told source.old) (S.told source.new) (K.told sink.old) (K.told sink.new) transcript.old transcript.new }
 {
     let count = match take_message(rt, source, buffer, transcript) {
         Taken::Message(count) => count,
         Taken::Gone => return Some(End::Gone),
         Taken::Failed => return Some(End::Failed),
     };
-    match turn_of(rt.alloc(), access, &buffer[..count]) {
+    match turn_of(rt.alloc(), filesystem, access, &buffer[..count]) {
         Turn::Broken(error) => Some(End::Broken(error)),
         Turn::Last(out) => {
             deliver(out, sink, transcript);
@@ -54,8 +57,9 @@ fn take_turn<R: Wait + AllocGlobal, S: Source, K: Sink>(
 }
 
 /// Answers messages until the source has none left, or one ends the run.
-pub(crate) fn run_inline<R: Wait + AllocGlobal, S: Source, K: Sink>(
+pub(crate) fn run_inline<R: Wait + AllocGlobal, FS: Filesystem, S: Source, K: Sink>(
     rt: &R,
+    filesystem: &FS,
     access: Access,
     source: &mut S,
     sink: &mut K,
@@ -63,10 +67,10 @@ pub(crate) fn run_inline<R: Wait + AllocGlobal, S: Source, K: Sink>(
     transcript: &mut Transcript,
 ) -> End
     requires { length buffer.old ≡ BUFFER_SIZE }
-    ensures { Serves 0 result access.acl access.owner (S.told source.old) (S.told source.new) (K.told sink.old) (K.told sink.new) transcript.old transcript.new }
+    ensures { Serves (Owed (promises FS.may_init FS.may_answer FS.may_note FS.may_destroy) filesystem.now access.acl access.owner) 0 result access.acl access.owner (S.told source.old) (S.told source.new) (K.told sink.old) (K.told sink.new) transcript.old transcript.new }
 {
     for _ in rt.forever() {
-        match take_turn(rt, access, source, sink, buffer, transcript) {
+        match take_turn(rt, filesystem, access, source, sink, buffer, transcript) {
             Some(end) => return end,
             None => {}
         }

@@ -1,8 +1,12 @@
 // Serving a filesystem, from the first message to the last.
-ghost use Rattle.std.specs.Prelude.{◌≡◌, ◌≢◌, ◌≤◌, ◌<◌, Ok, Err, length, IfOk};
+ghost use Rattle.std.specs.Prelude.{◌≡◌, ◌≢◌, ◌≤◌, ◌<◌, ◌⊎◌, Ok, Err, length, IfOk};
 ghost use Rattle.fuse_session.specs.Counts.{nothing_yet};
 ghost use Rattle.fuse_session.specs.Causes.{Caused};
+ghost use Rattle.fuse_session.specs.Complete.{NothingAmiss};
+ghost use Rattle.fuse_session.specs.Totals.{Totals, LostAtMost};
 ghost use Rattle.fuse_session.specs.Converses.{Runs, Converses, Session};
+ghost use Rattle.fuse_session.specs.Owed.{Owed};
+ghost use Rattle.fuse_session.specs.Promise.{promises};
 ghost use Rattle.fuse_session.specs.Headline.{Headline, Lossless};
 
 use crate::handshake::handshake;
@@ -46,8 +50,9 @@ fn receive_buffer(alloc: Global, size: usize) -> Result<Vec<u8>, AllocError>
 }
 
 /// The run behind an accepted handshake.
-fn run<R: Wait + AllocGlobal, S: Source, K: Sink>(
+fn run<R: Wait + AllocGlobal, FS: Filesystem, S: Source, K: Sink>(
     rt: &R,
+    filesystem: &FS,
     settings: Settings,
     source: &mut S,
     sink: &mut K,
@@ -55,11 +60,19 @@ fn run<R: Wait + AllocGlobal, S: Source, K: Sink>(
     transcript: &mut Transcript,
 ) -> Result<(), SessionError>
     requires { length buffer.old ≡ BUFFER_SIZE }
-    ensures { Runs settings.n_threads settings.access.acl settings.access.owner result (S.told source.old) (S.told source.new) (K.told sink.old) (K.told sink.new) transcript.old transcript.new }
+    ensures { Runs (Owed (promises FS.may_init FS.may_answer FS.may_note FS.may_destroy) filesystem.now settings.access.acl settings.access.owner) settings.n_threads settings.access.acl settings.access.owner result (S.told source.old) (S.told source.new) (K.told sink.old) (K.told sink.new) transcript.old transcript.new }
 {
     match settings.n_threads {
         Some(0) => Err(SessionError::Threads),
-        _ => match run_inline(rt, settings.access, source, sink, buffer, transcript) {
+        _ => match run_inline(
+            rt,
+            filesystem,
+            settings.access,
+            source,
+            sink,
+            buffer,
+            transcript,
+        ) {
             End::Gone => Ok(()),
             End::Destroyed => Ok(()),
             End::Broken(error) => Err(SessionError::InvalidData(InvalidData::Header(error))),
@@ -80,7 +93,7 @@ fn converse<R: Wait + AllocGlobal, FS: Filesystem, S: Source, K: Sink>(
 ) -> Result<(), SessionError>
     requires page { 0 < settings.page_size }
     requires buffer { length buffer.old ≡ BUFFER_SIZE }
-    ensures { Converses FS.may_init settings.page_size settings.n_threads settings.access.acl settings.access.owner filesystem.old filesystem.new
+    ensures { Converses (promises FS.may_init FS.may_answer FS.may_note FS.may_destroy) settings.page_size settings.n_threads settings.access.acl settings.access.owner filesystem.old filesystem.new
         result (S.told source.old) (S.told source.new) (K.told sink.old) (K.told sink.new) transcript.old transcript.new }
 {
     match handshake(
@@ -92,7 +105,7 @@ fn converse<R: Wait + AllocGlobal, FS: Filesystem, S: Source, K: Sink>(
         buffer,
         transcript,
     ) {
-        Ok(()) => run(rt, settings, source, sink, buffer, transcript),
+        Ok(()) => run(rt, filesystem, settings, source, sink, buffer, transcript),
         Err(error) => Err(error),
     }
 }
@@ -108,7 +121,7 @@ fn serve_session<R: Wait + AllocGlobal, FS: Filesystem, S: Source, K: Sink>(
 ) -> Ended<FS, S, K>
     requires page { 0 < settings.page_size }
     requires buffer { length buffer.old ≡ BUFFER_SIZE }
-    ensures { Session FS.may_init FS.may_destroy settings.page_size settings.n_threads settings.access.acl settings.access.owner filesystem result.filesystem
+    ensures { Session (promises FS.may_init FS.may_answer FS.may_note FS.may_destroy) settings.page_size settings.n_threads settings.access.acl settings.access.owner filesystem result.filesystem
         result.outcome (S.told source) (S.told result.source) (K.told sink) (K.told result.sink) result.transcript }
 {
     let mut transcript = Transcript::new();
@@ -147,21 +160,34 @@ pub fn mount<R: Wait + AllocGlobal, FS: Filesystem, S: Source, K: Sink + Send>(
 
     // One reply for each message: see `Headline`.
     ensures headline { result.outcome ≡ Ok tt → Lossless (K.told sink) (K.told result.sink) result.transcript →
-        Headline FS.may_init page_size config.now.acl owner filesystem (S.told source) (S.told result.source) (K.told sink) (K.told result.sink) }
+        Headline (promises FS.may_init FS.may_answer FS.may_note FS.may_destroy) page_size config.now.acl owner filesystem (S.told source) (S.told result.source) (K.told sink) (K.told result.sink) }
 
     // What was taken, sent and lost on every end, with its cause, and that `destroy` was called once.
     ensures session { result.outcome ≢ Err SessionError.Memory →
-        Session FS.may_init FS.may_destroy page_size config.now.n_threads config.now.acl owner filesystem result.filesystem
+        Session (promises FS.may_init FS.may_answer FS.may_note FS.may_destroy) page_size config.now.n_threads config.now.acl owner filesystem result.filesystem
         result.outcome (S.told source) (S.told result.source) (K.told sink) (K.told result.sink) result.transcript }
 
-    // Why it ended so.
+    // Why it ended so: the messages taken, the filesystem's promise, the number of threads, or the source's count.
     ensures cause { result.outcome ≢ Err SessionError.Memory →
-        Caused result.outcome config.now.n_threads (S.told source) (S.told result.source) }
+        Caused (promises FS.may_init FS.may_answer FS.may_note FS.may_destroy) page_size config.now.n_threads config.now.acl owner filesystem
+        result.outcome (S.told source) (S.told result.source) }
+
+    // It ends well where nothing is amiss, or else for want of memory.
+    ensures complete { NothingAmiss FS.may_init config.now.n_threads filesystem (S.told source) (S.told result.source) →
+        (result.outcome ≡ Ok tt) ⊎ (result.outcome ≡ Err SessionError.Memory) }
+
+    // The numbers of what was taken and sent.
+    ensures counts { Totals result.outcome (S.told source) (S.told result.source) (K.told sink) (K.told result.sink) result.transcript }
+
+    // No more was lost than the sink counted.
+    ensures lost { LostAtMost (K.told sink) (K.told result.sink) result.transcript }
+
+    // Nothing goes unrecorded.
+    ensures unrecorded { result.transcript.unrecorded ≡ 0 }
 
     // Want of memory leaves all as it was.
     ensures memory { result.outcome ≡ Err SessionError.Memory →
-        (result.filesystem ≡ filesystem) × (S.told result.source ≡ S.told source) × (K.told result.sink ≡ K.told sink)
-        × (result.transcript ≡ nothing_yet) }
+        (result.filesystem ≡ filesystem) × (result.source ≡ source) × (result.sink ≡ sink) × (result.transcript ≡ nothing_yet) }
 {
     let settings = Settings {
         page_size,

@@ -1,16 +1,18 @@
 // Whole sessions, from memory to memory.
 
-use crate::{Ended, Filesystem, InvalidData, SessionError, mount};
-use fuse_config::{Config, KernelConfig, SessionACL};
-use fuse_request::{Request, RequestError};
-use fuse_wire::{Errno, Items, MemorySink, MemorySource, Turn, Version};
+use crate::counting::{CONTENTS, Counting};
+use crate::{Ended, InvalidData, SessionError, mount};
+use fuse_config::{Config, SessionACL};
+use fuse_request::RequestError;
+use fuse_wire::{Items, MemorySink, MemorySource, RequestId, Turn, Version};
 use std::alloc::{AllocError, Global};
 use std::process::Abort;
 use std::sync::Wait;
+use std::sync::atomic::Ordering;
 use std::test::Fail;
 
 /// INIT of version 7.8, of 104 bytes.
-const INIT_7_8: [u8; 104] = [
+pub(crate) const INIT_7_8: [u8; 104] = [
     0x68, 0, 0, 0, 0x1a, 0, 0, 0, 0x0d, 0xf0, 0xad, 0xba, 0xef, 0xbe, 0xad, 0xde, 0x88, 0x77, 0x66,
     0x55, 0x44, 0x33, 0x22, 0x11, 0x0d, 0xd0, 1, 0xc0, 0xfe, 0xca, 1, 0xc0, 0x5e, 0xba, 0xde, 0xc0,
     0, 0, 0, 0, 7, 0, 0, 0, 8, 0, 0, 0, 0, 0x10, 0, 0, 0, 0, 0, 0, 0, 0, 0, 0, 0, 0, 0, 0, 0, 0, 0,
@@ -19,30 +21,10 @@ const INIT_7_8: [u8; 104] = [
 ];
 
 /// The reply that accepts it.
-const ACCEPTED: [u8; 40] = [
+pub(crate) const ACCEPTED: [u8; 40] = [
     0x28, 0, 0, 0, 0, 0, 0, 0, 0x0d, 0xf0, 0xad, 0xba, 0xef, 0xbe, 0xad, 0xde, 7, 0, 0, 0, 0x28, 0,
     0, 0, 0, 0x10, 0, 0, 0, 0, 0, 0, 0x10, 0, 0x0c, 0, 0, 0, 0, 1,
 ];
-
-/// A filesystem that accepts every kernel, and counts how often it was destroyed.
-#[derive(Debug, Drop)]
-struct Quiet {
-    destroyed: u64,
-}
-
-impl Filesystem for Quiet {
-    ghost may_init = { λ before request config result after config'. Unit {0} };
-
-    ghost may_destroy = { λ before after. Unit {0} };
-
-    fn init(&mut self, _request: &Request, _config: &mut KernelConfig) -> Result<(), Errno> {
-        Ok(())
-    }
-
-    fn destroy(&mut self) {
-        self.destroyed = self.destroyed.saturating_add(1);
-    }
-}
 
 /// A source of these messages.
 fn source_of(alloc: Global, messages: &[&[u8]]) -> Result<MemorySource, AllocError> {
@@ -55,7 +37,8 @@ fn source_of(alloc: Global, messages: &[&[u8]]) -> Result<MemorySource, AllocErr
     Ok(MemorySource::new(turns))
 }
 
-/// Serves the first of these messages, so many, in a session with this outcome, which sends these frames.
+/// Serves the first of these messages, so many, in a session with this outcome, which sends these frames and no note, and
+/// calls the filesystem for none.
 fn serves<R: Wait + AllocGlobal + Abort>(
     rt: &R,
     config: &Config,
@@ -63,6 +46,31 @@ fn serves<R: Wait + AllocGlobal + Abort>(
     received: u64,
     frames: &[&[u8]],
     expected: Result<(), SessionError>,
+) -> Result<(), AllocError> {
+    let calls = Calls {
+        made: 0,
+        notes: &[],
+    };
+    serves_calls(rt, config, messages, received, frames, expected, calls)
+}
+
+/// How often a filesystem is called, and what is noted.
+#[derive(Clone, Copy, Debug)]
+struct Calls<'a> {
+    made: u64,
+    notes: &'a [(RequestId, u64)],
+}
+
+/// Serves the first of these messages, so many, in a session with this outcome, which sends these frames and notes, and
+/// calls the filesystem so often.
+fn serves_calls<R: Wait + AllocGlobal + Abort>(
+    rt: &R,
+    config: &Config,
+    messages: &[&[u8]],
+    received: u64,
+    frames: &[&[u8]],
+    expected: Result<(), SessionError>,
+    calls: Calls<'_>,
 ) -> Result<(), AllocError> {
     let alloc = rt.alloc();
     let Ended {
@@ -73,7 +81,7 @@ fn serves<R: Wait + AllocGlobal + Abort>(
         transcript,
     } = mount(
         rt,
-        Quiet { destroyed: 0 },
+        Counting::new(),
         source_of(alloc, messages)?,
         MemorySink::new(alloc, Vec::new(alloc)),
         0,
@@ -82,6 +90,9 @@ fn serves<R: Wait + AllocGlobal + Abort>(
     );
     assert_eq!(rt; outcome, expected);
     assert_eq!(rt; filesystem.destroyed, 1);
+    assert_eq!(rt; filesystem.calls.load(Ordering::SeqCst), calls.made);
+    assert_eq!(rt; sink.notes(), calls.notes);
+    assert_eq!(rt; transcript.notes, calls.notes.len() as u64);
     assert_eq!(rt; transcript.received, received);
     assert_eq!(rt; transcript.frames, frames.len() as u64);
     assert_eq!(rt; transcript.lost, 0);
@@ -116,7 +127,7 @@ fn init(major: u8, minor: u8) -> [u8; 104] {
 }
 
 /// The reply to this id with this status, of which the lowest byte is given.
-fn refusal(id: u8, status: u8) -> [u8; 16] {
+pub(crate) fn refusal(id: u8, status: u8) -> [u8; 16] {
     [
         16, 0, 0, 0, status, 0xff, 0xff, 0xff, id, 0, 0, 0, 0, 0, 0, 0,
     ]
@@ -231,5 +242,133 @@ fn serves_behind_init(rt: HostRuntime) -> Result<(), Fail> {
         Ok(()),
     )?;
     serves(&rt, &idle, &[&INIT_7_8], 1, &[&ACCEPTED], no_threads)?;
+    Ok(())
+}
+
+/// Puts a header, of which the length is made right, and a body into a message.
+fn fill(message: &mut [u8], head: &[u8], body: &[u8]) {
+    let length = message.len().min(255) as u8;
+    for (place, byte) in message.iter_mut().zip(head.iter().chain(body)) {
+        *place = *byte;
+    }
+    if let Some(first) = message.first_mut() {
+        *first = length;
+    }
+}
+
+/// A LOOKUP of the name `none`.
+fn lookup(id: u8, uid: u8) -> [u8; 45] {
+    let mut bytes = [0; 45];
+    fill(&mut bytes, &message(1, id, 1, uid), b"none\0");
+    bytes
+}
+
+/// A READ with this last byte of its offset.
+fn read(id: u8, uid: u8, last: u8) -> [u8; 80] {
+    let mut bytes = [0; 80];
+    fill(&mut bytes, &message(15, id, 2, uid), &[]);
+    bytes[55] = last;
+    bytes
+}
+
+/// A FORGET of one lookup.
+fn forget(id: u8, uid: u8) -> [u8; 48] {
+    let mut bytes = [0; 48];
+    fill(&mut bytes, &message(2, id, 2, uid), &[1]);
+    bytes
+}
+
+/// The reply of a read to this id.
+fn contents_for(id: u8) -> [u8; 216] {
+    let mut frame = [0; 216];
+    frame[..16].copy_from_slice(&[216, 0, 0, 0, 0, 0, 0, 0, id, 0, 0, 0, 0, 0, 0, 0]);
+    frame[16..].copy_from_slice(&CONTENTS);
+    frame
+}
+
+#[test]
+fn calls_the_filesystem_once_for_each_message(rt: HostRuntime) -> Result<(), Fail> {
+    let mut getattr = [0; 56];
+    fill(&mut getattr, &message(3, 3, 2, 0), &[]);
+    let mut short_forget = [0; 47];
+    fill(&mut short_forget, &message(2, 6, 2, 0), &[1]);
+    serves_calls(
+        &rt,
+        &Config::new(),
+        &[
+            &INIT_7_8,
+            &lookup(2, 0),
+            &lookup(2, 0),
+            &getattr,
+            &read(4, 0, 0),
+            &forget(5, 0),
+            &short_forget,
+        ],
+        7,
+        &[
+            &ACCEPTED,
+            &refusal(2, 0xfe),
+            &refusal(2, 0xfe),
+            &refusal(3, 0xfb),
+            &contents_for(4),
+            &refusal(6, 0xda),
+        ],
+        Ok(()),
+        Calls {
+            made: 5,
+            notes: &[(RequestId(5), 3)],
+        },
+    )?;
+    Ok(())
+}
+
+#[test]
+fn refuses_before_the_filesystem_is_called(rt: HostRuntime) -> Result<(), Fail> {
+    let owner = Config {
+        acl: SessionACL::Owner,
+        n_threads: Some(1),
+    };
+    let mut no_name = [0; 44];
+    fill(&mut no_name, &message(1, 3, 1, 5), b"none");
+    serves_calls(
+        &rt,
+        &owner,
+        &[
+            &INIT_7_8,
+            &lookup(2, 5),
+            &no_name,
+            &forget(4, 5),
+            &read(5, 5, 0x80),
+            &read(7, 5, 0x7f),
+            &init(7, 8),
+        ],
+        7,
+        &[
+            &ACCEPTED,
+            &refusal(2, 0xf3),
+            &refusal(3, 0xda),
+            &refusal(5, 0xea),
+            &contents_for(7),
+            &refusal(1, 0xfb),
+        ],
+        Ok(()),
+        Calls {
+            made: 2,
+            notes: &[(RequestId(4), 3)],
+        },
+    )?;
+    Ok(())
+}
+
+#[test]
+fn awaits_init_before_any_call(rt: HostRuntime) -> Result<(), Fail> {
+    serves(
+        &rt,
+        &Config::new(),
+        &[&lookup(2, 5)],
+        1,
+        &[&refusal(2, 0xfb)],
+        Err(SessionError::InvalidData(InvalidData::NotInit(1))),
+    )?;
     Ok(())
 }

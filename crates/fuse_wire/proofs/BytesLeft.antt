@@ -4,9 +4,9 @@ use Rattle.std.proofs.lemmas.List.{take-append-drop, drop-drop, take-take, take_
 use Rattle.fuse_wire.specs.ByteSource.{TakesBytes}
 
 -- the front of what is left of some bytes, and what is left behind it
-pub TakesBytes-drop : (bytes front : List ℕ) (next n : ℕ) → front ≡ take n (drop next bytes) →
-    TakesBytes front (record { bytes = Some (drop next bytes); faults = 0 }) (record { bytes = Some (drop (next + n) bytes); faults = 0 })
-TakesBytes-drop bytes front next n taken =
+pub TakesBytes-drop : (bytes front : List ℕ) (next n faults : ℕ) → front ≡ take n (drop next bytes) →
+    TakesBytes front (record { bytes = Some (drop next bytes); faults = faults }) (record { bytes = Some (drop (next + n) bytes); faults = faults })
+TakesBytes-drop bytes front next n faults taken =
     record {
       bytes = ap Some
           (sym (take-append-drop n (drop next bytes))

@@ -6,6 +6,7 @@ pub mod Cut
 pub mod Filling
 pub mod BytesLeft
 pub mod Turns
+pub mod Listed
 pub mod NumberLaws
 pub mod Frames
 pub mod StreamLaws

@@ -1,5 +1,6 @@
 pub mod Numbers
 pub mod Errno
+pub mod Numbered
 pub mod Faults
 pub mod Frames
 pub mod Cut
@@ -8,9 +9,19 @@ pub mod ByteSink
 pub mod Source
 pub mod Sink
 pub mod Turns
+pub mod Calls
+pub mod MemoryBytes
+pub mod MemoryOut
 pub mod MemorySink
 pub mod StreamSource
 pub mod StreamSink
 pub mod HeldSink
 pub mod InitFlags
 pub mod Times
+pub mod OpenMode
+pub mod FileFlags
+pub mod NodeFlags
+pub mod AttrFlags
+pub mod PollFlags
+pub mod IoctlFlags
+pub mod AccessFlags

@@ -26,6 +26,7 @@ pub record TakesMessage (n : ℕ) (before after : SourceState) (buffer : List �
   pub fits : n ≤ BUFFER_SIZE
   pub bytes : take n buffer ≡ message turn
 
+-- a failure says nothing of the turns
 abbrev pub Receives : Received → SourceState → SourceState → List ℕ → Type 0
 Receives (Message n) before after buffer = TakesMessage n before after buffer
 Receives Gone before after buffer = IfSome before.turns (λ left. left ≡ []) × Takes [] before after

@@ -1,5 +1,5 @@
 -- Points in time, as the protocol has them: `atime` and `atimensec` of `struct fuse_attr`, and the like.
-use Rattle.std.specs.Prelude.{ℕ, ℤ, pos, negsuc, ◌-◌, ◌^◌, ◌/◌, ◌%◌, nat_le, if◌then◌else◌}
+use Rattle.std.specs.Prelude.{ℕ, ℤ, pos, negsuc, ◌-◌, ◌^◌, ◌/◌, ◌%◌, ◌+ℤ◌, ◌*ℤ◌, nat_le, if◌then◌else◌}
 
 -- the seconds and nanoseconds of a time in nanoseconds: the seconds are rounded down, so that the nanoseconds are above them;
 -- past the last second of an i64 its last moment, and before the first second that one
@@ -9,3 +9,7 @@ time_out (pos n) =
 time_out (negsuc n) =
     if nat_le (2 ^ 63) (n / 1000000000) then (negsuc (2 ^ 63 - 1), 0)
     else (negsuc (n / 1000000000), 999999999 - n % 1000000000)
+
+-- the time in nanoseconds of so many seconds and nanoseconds
+abbrev pub time_in : ℤ → ℕ → ℤ
+time_in secs nanos = (secs *ℤ pos 1000000000) +ℤ pos nanos

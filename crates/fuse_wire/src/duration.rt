@@ -3,7 +3,9 @@ ghost use Rattle.std.specs.Prelude.{◌≡◌, ◌+◌, ◌*◌, ◌<◌, ◌^�
 
 use std::marker::Model;
 
-/// A span of time, in whole nanoseconds. A contract sees their number.
+/// A span of time, in whole nanoseconds: up to 2^64 seconds, without the last nanosecond of these. A reply carries it as
+/// seconds and nanoseconds, as `attr_valid` and `attr_valid_nsec` of `struct fuse_attr_out`. A contract sees the number
+/// of nanoseconds.
 #[derive(Clone, Copy, Debug, PartialEq, Eq, PartialOrd, Ord, Hash)]
 pub struct Duration {
     secs: u64,
@@ -24,7 +26,7 @@ impl Model for Duration {
 }
 
 impl Duration {
-    /// So many seconds, and nanoseconds below 10^9.
+    /// So many seconds, any u64, and so many nanoseconds, which are below 10^9.
     pub fn new(secs: u64, nanos: u32) -> Duration
         requires { nanos < 1000000000 }
         ensures { result ≡ secs * 1000000000 + nanos }
@@ -32,9 +34,10 @@ impl Duration {
         Duration { secs, nanos }
     }
 
-    /// All of it in nanoseconds.
+    /// All of it in nanoseconds, below 2^64 * 10^9.
     pub fn as_nanos(&self) -> u128
-        ensures { result ≡ self.now }
+        ensures nanos { result ≡ self.now }
+        ensures within { result < 2 ^ 64 * 1000000000 }
     {
         self.secs as u128 * 1000000000 + self.nanos as u128
     }

@@ -1,7 +1,7 @@
 // Attributes of a file.
 use crate::{INodeNo, SystemTime};
 
-/// What kind of file an inode is: the type bits of `st_mode`.
+/// What kind of file an inode is: the type bits of a mode, `S_IFMT` of `linux/stat.h`.
 #[derive(Clone, Copy, Debug, PartialEq, Eq, Hash)]
 pub enum FileType {
     /// A named pipe: `S_IFIFO`.
@@ -20,34 +20,35 @@ pub enum FileType {
     Socket,
 }
 
-/// Attributes of a file: what `struct fuse_attr` carries, and two more that Linux does not ask for.
+/// Attributes of a file: what `struct fuse_attr` carries, and two more that Linux does not ask for. Each number may have
+/// any value of its type; names of `fuse.h` stand where they differ.
 #[derive(Clone, Copy, Debug, PartialEq, Eq)]
 pub struct FileAttr {
     /// The inode's number.
     pub ino: INodeNo,
-    /// The size in bytes.
+    /// The length of the contents, in bytes.
     pub size: u64,
     /// The space taken, in blocks of 512 bytes.
     pub blocks: u64,
-    /// The time of the last access.
+    /// The time of the last access: `atime` and `atimensec`.
     pub atime: SystemTime,
-    /// The time of the last change of the contents.
+    /// The time of the last change of the contents: `mtime` and `mtimensec`.
     pub mtime: SystemTime,
-    /// The time of the last change of the inode.
+    /// The time of the last change of the inode: `ctime` and `ctimensec`.
     pub ctime: SystemTime,
     /// The time of creation, which is not sent.
     pub crtime: SystemTime,
-    /// What kind of file it is.
+    /// What kind of file it is: the upper bits of `mode`.
     pub kind: FileType,
-    /// The permissions: the low 12 bits of `st_mode`.
+    /// The permissions: the lower bits of `mode`. Bits above the low 12 are joined with those of the kind.
     pub perm: u16,
     /// How many names the inode has.
     pub nlink: u32,
-    /// The owner.
+    /// The number of the user who owns it.
     pub uid: u32,
-    /// The owner's group.
+    /// The number of the group that owns it.
     pub gid: u32,
-    /// The device that a device file stands for.
+    /// The number of the device that a device file stands for.
     pub rdev: u32,
     /// The block size for input and output, in bytes.
     pub blksize: u32,

@@ -1,49 +1,72 @@
 // Bytes from memory.
-ghost use Rattle.std.specs.Prelude.{◌≡◌, ◌≤◌, [], Some};
+ghost use Rattle.std.specs.Prelude.{◌≡◌, ◌≤◌, ◌<◌, length};
+ghost use Rattle.fuse_wire.specs.ByteSource.{Reads};
+ghost use Rattle.fuse_wire.specs.MemoryBytes.{ReadsMemory, bytes_left_told};
 
 use crate::pieces::put_front;
 use crate::{ByteRead, ByteSource};
 
-/// A stream of bytes in memory, which gives at most so many at a read, and tells what is left.
+/// A stream of bytes in memory, which gives at most so many at a read, fails at some reads, and tells what is left. It
+/// counts the reads that failed.
 #[derive(Debug, Drop)]
 pub struct MemoryBytes {
     bytes: Vec<u8>,
     next: usize,
     step: usize,
+    calls: u64,
+    faults: Vec<u64>,
+    reached: u64,
 }
 
 impl std::marker::Model for MemoryBytes {
-    ghost use Rattle.std.specs.Prelude.{◌≤◌, Some, drop, length};
-    ghost use Rattle.fuse_wire.specs.ByteSource.{ByteSourceState};
+    ghost use Rattle.std.specs.Prelude.{◌≤◌, drop, length};
+    ghost use Rattle.fuse_wire.specs.MemoryBytes.{BytesLeft};
 
-    ghost Value = { ByteSourceState };
+    ghost Value = { BytesLeft };
 
-    ghost view = { λ s. record { bytes = Some (drop s.next s.bytes.items); faults = 0 } };
+    ghost view = { λ s. record {
+      left = drop s.next s.bytes.items;
+      step = s.step;
+      calls = s.calls;
+      listed = s.faults.items;
+      reached = s.reached;
+    } };
 
     ghost invariant = { λ s. (s.next ≤ length s.bytes.items) × (1 ≤ s.step) };
 }
 
 impl MemoryBytes {
-    /// A stream of these bytes, at most `step` at a read. The calls listed in `faults` fail: for now none may be.
+    /// A stream of these bytes, at most `step` at a read. The reads whose numbers are in `faults` fail: they are
+    /// numbered from 1, those that fail too, and each after the last number of a u64 has that one.
     pub fn new(bytes: Vec<u8>, step: usize, faults: Vec<u64>) -> MemoryBytes
-        requires step { 1 ≤ step }
-        requires faults { faults.items ≡ [] }
-        ensures told { result.bytes ≡ Some bytes.items }
-        ensures faults { result.faults ≡ 0 }
+        requires { 1 ≤ step }
+        ensures { result ≡ record { left = bytes.items; step = step; calls = 0; listed = faults.items; reached = 0 } }
     {
-        drop(faults);
         MemoryBytes {
             bytes,
             next: 0,
             step,
+            calls: 0,
+            faults,
+            reached: 0,
         }
     }
 }
 
 impl ByteSource for MemoryBytes {
-    ghost told = { λ s. s };
+    ghost told = { bytes_left_told };
 
-    fn read(&mut self, piece: &mut [u8]) -> ByteRead {
+    /// Fails where this read is listed, and else gives as many bytes as the step and the piece allow.
+    fn read(&mut self, piece: &mut [u8]) -> ByteRead
+        requires { 0 < length piece.old }
+        ensures reads { Reads result (bytes_left_told self.old) (bytes_left_told self.new) piece.new }
+        ensures exactly { ReadsMemory result (length piece.old) self.old self.new }
+    {
+        self.calls = self.calls.saturating_add(1);
+        if self.faults.contains(&self.calls) {
+            self.reached = self.reached.saturating_add(1);
+            return ByteRead::Failed;
+        }
         let rest = &self.bytes[self.next..];
         let most = rest.len().min(self.step);
         let taken = put_front(&rest[..most], piece);
@@ -52,5 +75,38 @@ impl ByteSource for MemoryBytes {
         }
         self.next += taken;
         ByteRead::Got(taken)
+    }
+}
+
+#[cfg(test)]
+mod tests {
+    use super::*;
+    use crate::ByteRead::{End, Failed, Got};
+    use std::test::Fail;
+
+    #[test]
+    fn fails_at_the_reads_that_are_listed(rt: HostRuntime) -> Result<(), Fail> {
+        let cases = [
+            (1, [Got(1), Failed, Got(1), Got(1), End]),
+            (7, [Got(3), Failed, End, End, End]),
+            (2, [Got(2), Failed, Got(1), End, End]),
+        ];
+        for (step, answers) in cases {
+            let bytes = Vec::from_slice(rt.alloc(), &[1, 2, 3])?;
+            let faults = Vec::from_slice(rt.alloc(), &[9, 2, 2])?;
+            let mut stream = MemoryBytes::new(bytes, step, faults);
+            let mut read = Vec::new(rt.alloc());
+            for answer in answers {
+                let mut piece = [0; 4];
+                assert_eq!(rt; stream.read(&mut piece), answer, "step {step}");
+                if let Got(count) = answer {
+                    for byte in piece.iter().take(count) {
+                        read.push(*byte)?;
+                    }
+                }
+            }
+            assert_eq!(rt; read.as_slice(), [1, 2, 3].as_slice(), "step {step}");
+        }
+        Ok(())
     }
 }

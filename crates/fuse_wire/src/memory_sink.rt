@@ -1,69 +1,79 @@
 // Frames and notes kept in memory.
-ghost use Rattle.std.specs.Prelude.{◌≡◌, ◌∷◌, ◌++◌, [], Some, IfOk, OnOk, OnErr};
-ghost use Rattle.fuse_wire.specs.MemorySink.{notes_of};
+ghost use Rattle.std.specs.Prelude.{◌≡◌, ◌+◌, ◌∷◌, ◌++◌, [], length, IfOk, OnOk, OnErr};
+ghost use Rattle.fuse_wire.specs.Numbers.{number};
+ghost use Rattle.fuse_wire.specs.Sink.{Sends, Notes};
+ghost use Rattle.fuse_wire.specs.MemorySink.{EachFails, NotesMemory, NumbersDiffer, SendsMemory, answer_at, frames_held_told, notes_of};
 
 use crate::{Items, Noting, RequestId, Sending, Sink};
 use std::alloc::{AllocError, Global};
 
-/// A sink that keeps its frames and notes, and tells them.
+/// A sink that keeps its frames and notes, fails at some sends, and tells what it holds. It counts the sends that failed
+/// so, and the frames and notes that found no memory.
 #[derive(Debug, Drop)]
 pub struct MemorySink {
     alloc: Global,
     frames: Vec<Items<u8>>,
     notes: Vec<(RequestId, u64)>,
+    calls: u64,
+    faults: Vec<(u64, Sending)>,
+    reached: u64,
     starved: u64,
 }
 
 impl std::marker::Model for MemorySink {
-    ghost use Rattle.std.specs.Prelude.{Some, None};
-    ghost use Rattle.fuse_wire.specs.Sink.{SinkState};
-    ghost use Rattle.fuse_wire.specs.MemorySink.{notes_of};
+    ghost use Rattle.fuse_wire.specs.MemorySink.{EachFails, FramesHeld, notes_of};
 
-    ghost Value = { SinkState };
+    ghost Value = { FramesHeld };
 
     ghost view = { λ s. record {
-      frames = Some s.frames.items;
-      notes = Some (notes_of s.notes.items);
-      faults = s.starved;
-      origin = record { bytes = None; faults = 0 };
+      frames = s.frames.items;
+      notes = notes_of s.notes.items;
+      calls = s.calls;
+      listed = s.faults.items;
+      reached = s.reached;
+      starved = s.starved;
     } };
+
+    ghost invariant = { λ s. EachFails s.faults.items };
 }
 
 impl MemorySink {
-    /// An empty sink. The sends listed in `faults` are answered so: for now none may be. A frame or a note that finds
-    /// no memory is not taken either.
+    /// An empty sink. The sends whose numbers are in `faults` are answered so: sends are numbered from 1, those that
+    /// fail too, and each after the last number of a u64 has that one. A note is no send. A frame or a note that finds
+    /// no memory is not taken either, and the answer is `Failed`.
     pub fn new(alloc: Global, faults: Vec<(u64, Sending)>) -> MemorySink
-        requires { faults.items ≡ [] }
-        ensures frames { result.frames ≡ Some [] }
-        ensures notes { result.notes ≡ Some [] }
-        ensures faults { result.faults ≡ 0 }
+        requires numbers { NumbersDiffer faults.items }
+        requires answers { EachFails faults.items }
+        ensures { result ≡ record { frames = []; notes = []; calls = 0; listed = faults.items; reached = 0; starved = 0 } }
     {
-        drop(faults);
         MemorySink {
             alloc,
             frames: Vec::new(alloc),
             notes: Vec::new(alloc),
+            calls: 0,
+            faults,
+            reached: 0,
             starved: 0,
         }
     }
 
     /// The frames taken, in order.
     pub fn frames(&self) -> &[Items<u8>]
-        ensures { self.now.frames ≡ Some result.now }
+        ensures { result.now ≡ self.now.frames }
     {
         self.frames.as_slice()
     }
 
     /// The notes taken, in order: the forget's request, and its mark.
     pub fn notes(&self) -> &[(RequestId, u64)]
-        ensures { self.now.notes ≡ Some (notes_of result.now) }
+        ensures { notes_of result.now ≡ self.now.notes }
     {
         self.notes.as_slice()
     }
 
     /// How many frames and notes found no memory.
     pub fn starved(&self) -> u64
-        ensures { result ≡ self.now.faults }
+        ensures { result ≡ self.now.starved }
     {
         self.starved
     }
@@ -94,10 +104,32 @@ fn keep(
     Ok(())
 }
 
-impl Sink for MemorySink {
-    ghost told = { λ s. s };
+/// How the send of this number is answered, where it is listed.
+fn listed_answer(faults: &[(u64, Sending)], number: u64) -> Option<Sending>
+    ensures { result ≡ answer_at faults.now number }
+{
+    for fault in faults {
+        if fault.0 == number {
+            return Some(fault.1);
+        }
+    }
+    None
+}
 
-    fn send(&mut self, header: &[u8; 16], payload: &[u8]) -> Sending {
+impl Sink for MemorySink {
+    ghost told = { frames_held_told };
+
+    /// Answers as the list says, or keeps the frame. It fails where it finds no memory.
+    fn send(&mut self, header: &[u8; 16], payload: &[u8]) -> Sending
+        requires { number header.now 0 4 ≡ 16 + length payload.now }
+        ensures sends { Sends result (header.now ++ payload.now) (frames_held_told self.old) (frames_held_told self.new) }
+        ensures exactly { SendsMemory result (header.now ++ payload.now) self.old self.new }
+    {
+        self.calls = self.calls.saturating_add(1);
+        if let Some(answer) = listed_answer(&self.faults, self.calls) {
+            self.reached = self.reached.saturating_add(1);
+            return answer;
+        }
         match keep(self.alloc, &mut self.frames, header, payload) {
             Ok(()) => Sending::Sent,
             Err(_) => {
@@ -107,7 +139,11 @@ impl Sink for MemorySink {
         }
     }
 
-    fn note(&mut self, id: RequestId, mark: u64) -> Noting {
+    /// Keeps the note. It fails where it finds no memory.
+    fn note(&mut self, id: RequestId, mark: u64) -> Noting
+        ensures notes { Notes result (id.0, mark) (frames_held_told self.old) (frames_held_told self.new) }
+        ensures exactly { NotesMemory result (id.0, mark) self.old self.new }
+    {
         match self.notes.push((id, mark)) {
             Ok(()) => Noting::Sent,
             Err(_) => {
@@ -121,6 +157,7 @@ impl Sink for MemorySink {
 #[cfg(test)]
 mod tests {
     use super::*;
+    use std::process::Abort;
     use std::test::Fail;
 
     #[test]
@@ -138,5 +175,58 @@ mod tests {
             assert_eq!(rt; frame.as_slice(), expected.as_slice());
         }
         Ok(())
+    }
+
+    /// Three sends of one payload byte each are answered so, where these fail; the bytes that were taken are these.
+    #[tactic(auto, unfolding(crate::specs::Numbers::number))]
+    fn expect_answers(
+        rt: &impl Abort,
+        alloc: Global,
+        faults: &[(u64, Sending)],
+        answers: [Sending; 3],
+        taken: &[u8],
+    ) -> Result<(), Fail>
+        requires numbers { NumbersDiffer faults.now }
+        requires answers { EachFails faults.now }
+    {
+        let faults = Vec::from_slice(alloc, faults)?;
+        let mut sink = MemorySink::new(alloc, faults);
+        let header = [17, 0, 0, 0, 1, 1, 1, 1, 1, 1, 1, 1, 1, 1, 1, 1];
+        let mut payload = 0;
+        for answer in answers {
+            assert_eq!(rt; sink.note(RequestId(9), 1), Noting::Sent);
+            assert_eq!(rt; sink.send(&header, &[payload]), answer);
+            payload = payload.saturating_add(1);
+        }
+        assert_eq!(rt; sink.frames().len(), taken.len());
+        for (frame, byte) in sink.frames().iter().zip(taken) {
+            assert_eq!(rt; frame.as_slice().last(), Some(byte));
+        }
+        assert_eq!(rt; sink.notes().len(), 3);
+        assert_eq!(rt; sink.starved(), 0);
+        Ok(())
+    }
+
+    #[test]
+    fn answers_as_the_list_says(rt: HostRuntime) -> Result<(), Fail> {
+        use Sending::{Absent, Failed, Sent};
+        let alloc = rt.alloc();
+        expect_answers(&rt, alloc, &[], [Sent, Sent, Sent], &[0, 1, 2])?;
+        expect_answers(&rt, alloc, &[(2, Failed)], [Sent, Failed, Sent], &[0, 2])?;
+        expect_answers(&rt, alloc, &[(2, Absent)], [Sent, Absent, Sent], &[0, 2])?;
+        expect_answers(
+            &rt,
+            alloc,
+            &[(3, Failed), (1, Absent)],
+            [Absent, Sent, Failed],
+            &[1],
+        )?;
+        expect_answers(
+            &rt,
+            alloc,
+            &[(0, Failed), (4, Failed)],
+            [Sent, Sent, Sent],
+            &[0, 1, 2],
+        )
     }
 }

@@ -1,6 +1,7 @@
 // Messages from memory.
-ghost use Rattle.std.specs.Prelude.{◌≡◌, [], Some, map};
-ghost use Rattle.fuse_wire.specs.Turns.{message_of, messages_of};
+ghost use Rattle.std.specs.Prelude.{◌≡◌, length};
+ghost use Rattle.fuse_wire.specs.Source.{Receives};
+ghost use Rattle.fuse_wire.specs.Turns.{TakesTurn, turns_told};
 
 use crate::consts::BUFFER_SIZE;
 use crate::pieces::put_front;
@@ -11,23 +12,27 @@ use crate::{Items, Received, Source};
 pub enum Turn {
     /// A message.
     Message(Items<u8>),
+    /// Nothing: `Received::Retry`. No message is taken.
+    Retry,
+    /// A fault: `Received::Failed`. No message is taken.
+    Fail,
 }
 
-/// A source that gives the turns of a list, in order, and tells them.
+/// A source that gives the turns of a list, in order, and tells them. It counts its Fail turns.
 #[derive(Debug, Drop)]
 pub struct MemorySource {
     turns: Vec<Turn>,
     next: usize,
+    failed: u64,
 }
 
 impl std::marker::Model for MemorySource {
-    ghost use Rattle.std.specs.Prelude.{◌≤◌, Some, drop, length};
-    ghost use Rattle.fuse_wire.specs.Source.{SourceState};
-    ghost use Rattle.fuse_wire.specs.Turns.{messages_of};
+    ghost use Rattle.std.specs.Prelude.{◌≤◌, drop, length};
+    ghost use Rattle.fuse_wire.specs.Turns.{TurnsLeft};
 
-    ghost Value = { SourceState };
+    ghost Value = { TurnsLeft };
 
-    ghost view = { λ s. record { turns = Some (messages_of (drop s.next s.turns.items)); faults = 0 } };
+    ghost view = { λ s. record { left = drop s.next s.turns.items; failed = s.failed } };
 
     ghost invariant = { λ s. s.next ≤ length s.turns.items };
 }
@@ -35,32 +40,35 @@ impl std::marker::Model for MemorySource {
 impl MemorySource {
     /// A source of these turns.
     pub fn new(turns: Vec<Turn>) -> MemorySource
-        ensures told { result.turns ≡ Some (messages_of turns.items) }
-        ensures faults { result.faults ≡ 0 }
+        ensures { result ≡ record { left = turns.items; failed = 0 } }
     {
-        MemorySource { turns, next: 0 }
-    }
-}
-
-/// The message of a turn.
-fn message(turn: &Turn) -> &[u8]
-    ensures { result.now ≡ message_of turn.now }
-{
-    match turn {
-        Turn::Message(message) => message.as_slice(),
+        MemorySource {
+            turns,
+            next: 0,
+            failed: 0,
+        }
     }
 }
 
 impl Source for MemorySource {
-    ghost told = { λ s. s };
+    ghost told = { turns_told };
 
-    fn receive(&mut self, buffer: &mut [u8]) -> Received {
-        match self.turns.get(self.next) {
-            None => Received::Gone,
-            Some(turn) => {
-                let taken = put_front(message(turn), buffer);
-                self.next += 1;
-                Received::Message(taken)
+    /// Answers as the next turn says, and goes to the one behind it.
+    fn receive(&mut self, buffer: &mut [u8]) -> Received
+        requires { length buffer.old ≡ BUFFER_SIZE }
+        ensures received { Receives result (turns_told self.old) (turns_told self.new) buffer.new }
+        ensures turn { TakesTurn self.old.left self.old.failed result self.new }
+    {
+        let Some(turn) = self.turns.get(self.next) else {
+            return Received::Gone;
+        };
+        self.next += 1;
+        match turn {
+            Turn::Message(message) => Received::Message(put_front(message.as_slice(), buffer)),
+            Turn::Retry => Received::Retry,
+            Turn::Fail => {
+                self.failed = self.failed.saturating_add(1);
+                Received::Failed
             }
         }
     }

@@ -1,6 +1,6 @@
 // Reading a little-endian number at an offset.
 ghost use Rattle.std.specs.Prelude.{◌≡◌, ◌+◌, ◌≤◌, ◌<◌, ◌^◌, length, slice_index};
-ghost use Rattle.std.specs.Int.{w32};
+ghost use Rattle.std.specs.Int.{w32, w64};
 ghost use Rattle.fuse_wire.specs.Numbers.{number, signed};
 
 /// The `u32` at an offset.
@@ -36,6 +36,14 @@ pub fn i32_at(bytes: &[u8], at: usize) -> i32
     ensures { result ≡ signed w32 bytes.now at }
 {
     u32_at(bytes, at).cast_signed()
+}
+
+/// The `i64` at an offset.
+pub fn i64_at(bytes: &[u8], at: usize) -> i64
+    requires { at + 8 ≤ length bytes.now }
+    ensures { result ≡ signed w64 bytes.now at }
+{
+    u64_at(bytes, at).cast_signed()
 }
 
 /// The `u32` at an offset, where a byte that is not there counts as 0.

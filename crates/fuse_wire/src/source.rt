@@ -11,9 +11,9 @@ pub enum Received {
     Message(usize),
     /// No message is left.
     Gone,
-    /// Nothing came, and the next call may give a message.
+    /// Nothing came, no message was taken, and the next call may give one.
     Retry,
-    /// The device failed, and counted it.
+    /// The device failed, and counted it. Whether a message was taken is not said.
     Failed,
 }
 

@@ -2,6 +2,7 @@
 ghost use Rattle.std.specs.Prelude.{◌≡◌, IfOk, length};
 ghost use Rattle.fuse_wire.specs.declared.consts.TheConstants.{BUFFER_SIZE};
 
+use crate::Received::{Failed, Gone, Message, Retry};
 use crate::consts::BUFFER_SIZE;
 use crate::{Items, MemoryBytes, MemorySource, Received, Source, StreamSource, Turn};
 use std::alloc::{AllocError, Global};
@@ -10,7 +11,7 @@ use std::test::Fail;
 
 /// The length field of each message, and how many bytes of it there are: one is shorter than a header says that it is,
 /// one longer than the others, and the last ends where the stream does.
-const MESSAGES: [(u32, u16); 4] = [(48, 48), (39, 40), (1000, 1000), (64, 50)];
+const MESSAGES: [(u32, usize); 4] = [(48, 48), (39, 40), (1000, 1000), (64, 50)];
 
 /// A receive buffer.
 fn receive_buffer(alloc: Global) -> Result<Vec<u8>, AllocError>
@@ -20,7 +21,7 @@ fn receive_buffer(alloc: Global) -> Result<Vec<u8>, AllocError>
 }
 
 /// The bytes of one message.
-fn message(alloc: Global, field: u32, size: u16) -> Result<Vec<u8>, AllocError> {
+fn message(alloc: Global, field: u32, size: usize) -> Result<Vec<u8>, AllocError> {
     let mut bytes = Vec::new(alloc);
     bytes.extend_from_slice(&field.to_le_bytes())?;
     for place in 4..size {
@@ -48,10 +49,10 @@ fn expect_messages<S: Source>(
     requires { length buffer.old ≡ BUFFER_SIZE }
 {
     for message in messages {
-        assert_eq!(rt; source.receive(buffer), Received::Message(message.len()));
+        assert_eq!(rt; source.receive(buffer), Message(message.len()));
         assert_eq!(rt; buffer.get(..message.len()), Some(message.as_slice()));
     }
-    assert_eq!(rt; source.receive(buffer), Received::Gone);
+    assert_eq!(rt; source.receive(buffer), Gone);
 }
 
 #[test]
@@ -83,5 +84,69 @@ fn memory_gives_its_turns(rt: HostRuntime) -> Result<(), Fail> {
     }
     let mut buffer = receive_buffer(alloc)?;
     expect_messages(&rt, &mut MemorySource::new(turns), &mut buffer, &messages);
+    Ok(())
+}
+
+/// What each turn of a source in memory gives: a Retry before a message changes nothing, and a Fail takes no message.
+const ANSWERS: [&[Received]; 6] = [
+    &[Retry, Message(48), Retry, Message(40), Retry],
+    &[Message(48), Retry, Failed],
+    &[Failed],
+    &[Message(40), Failed, Message(48), Failed],
+    &[Failed, Failed, Retry, Message(1000)],
+    &[],
+];
+
+#[test]
+fn turns_are_answered_in_order(rt: HostRuntime) -> Result<(), Fail> {
+    let alloc = rt.alloc();
+    let mut room = receive_buffer(alloc)?;
+    let buffer = room.as_mut_slice();
+    for answers in ANSWERS {
+        let mut turns = Vec::new(alloc);
+        for answer in answers {
+            turns.push(match answer {
+                Message(size) => Turn::Message(Items::from_vec(message(alloc, 7, *size)?)),
+                Retry => Turn::Retry,
+                Gone | Failed => Turn::Fail,
+            })?;
+        }
+        let mut source = MemorySource::new(turns);
+        for answer in answers {
+            assert_eq!(rt; source.receive(buffer), *answer);
+            if let Message(size) = answer {
+                let message = message(alloc, 7, *size)?;
+                assert_eq!(rt; buffer.get(..*size), Some(message.as_slice()));
+            }
+        }
+        for _ in 0..2 {
+            assert_eq!(rt; source.receive(buffer), Gone);
+        }
+    }
+    Ok(())
+}
+
+/// What a stream of one message of 48 bytes gives, where it is read in three calls and one of these fails.
+const FAILING_READS: [(u64, [Received; 3]); 4] = [
+    (1, [Failed, Message(48), Gone]),
+    (2, [Failed, Message(8), Gone]),
+    (3, [Message(48), Failed, Gone]),
+    (4, [Message(48), Gone, Failed]),
+];
+
+#[test]
+fn a_read_that_fails_is_a_fault_of_the_source(rt: HostRuntime) -> Result<(), Fail> {
+    let alloc = rt.alloc();
+    let mut room = receive_buffer(alloc)?;
+    let buffer = room.as_mut_slice();
+    for (call, answers) in FAILING_READS {
+        let faults = Vec::from_slice(alloc, &[call])?;
+        let stream = MemoryBytes::new(message(alloc, 48, 48)?, 1000, faults);
+        let mut source = StreamSource::new(stream);
+        for answer in answers {
+            assert_eq!(rt; source.receive(buffer), answer, "call {call}");
+        }
+        source.into_inner();
+    }
     Ok(())
 }

@@ -1,5 +1,7 @@
 // Frames written to a stream of bytes.
-ghost use Rattle.std.specs.Prelude.{◌≡◌, ◌++◌, false, length};
+ghost use Rattle.std.specs.Prelude.{◌≡◌, ◌+◌, ◌++◌, false, length};
+ghost use Rattle.fuse_wire.specs.Numbers.{number};
+ghost use Rattle.fuse_wire.specs.Sink.{Notes, Sends};
 ghost use Rattle.fuse_wire.specs.StreamSink.{Stands, WritesAll, stream_told};
 
 use crate::{ByteSink, ByteWrite, Noting, RequestId, Sending, Sink};
@@ -79,9 +81,16 @@ fn write_frame<O: ByteSink>(inner: &mut O, header: &[u8; 16], payload: &[u8]) ->
 }
 
 impl<O: ByteSink> Sink for StreamSink<O> {
+    ghost use Rattle.fuse_wire.specs.HeldSink.{SendsStream, held, made_over, refusals};
+
     ghost told = { λ s. stream_told (O.told s.origin.value) (O.told s.inner) s.refused };
 
-    fn send(&mut self, header: &[u8; 16], payload: &[u8]) -> Sending {
+    /// Writes the frame, or says that a write failed, now or before.
+    fn send(&mut self, header: &[u8; 16], payload: &[u8]) -> Sending
+        requires { number header.now 0 4 ≡ 16 + length payload.now }
+        ensures sends { Sends result (header.now ++ payload.now) (stream_told (O.told (made_over self.old)) (O.told (held self.old)) (refusals self.old)) (stream_told (O.told (made_over self.new)) (O.told (held self.new)) (refusals self.new)) }
+        ensures exactly { SendsStream result (header.now ++ payload.now) (O.told (held self.old)) (O.told (held self.new)) self.old self.new }
+    {
         if self.broken {
             self.refused = self.refused.saturating_add(1);
             return Sending::Failed;
@@ -94,7 +103,11 @@ impl<O: ByteSink> Sink for StreamSink<O> {
     }
 
     /// A stream has no place for notes: each is taken, and none is told.
-    fn note(&mut self, _id: RequestId, _mark: u64) -> Noting {
+    fn note(&mut self, _id: RequestId, _mark: u64) -> Noting
+        ensures notes { Notes result (_id.0, _mark) (stream_told (O.told (made_over self.old)) (O.told (held self.old)) (refusals self.old)) (stream_told (O.told (made_over self.new)) (O.told (held self.new)) (refusals self.new)) }
+        ensures sent { result ≡ Noting.Sent }
+        ensures unchanged { self.new ≡ self.old }
+    {
         Noting::Sent
     }
 }
@@ -103,6 +116,7 @@ impl<O: ByteSink> Sink for StreamSink<O> {
 mod tests {
     use super::*;
     use crate::MemoryOut;
+    use std::process::Abort;
     use std::test::Fail;
 
     #[test]
@@ -126,6 +140,56 @@ mod tests {
                 expected.as_slice(),
                 "step {step}"
             );
+        }
+        Ok(())
+    }
+
+    /// Where each of three frames ends on the stream.
+    const ENDS: [usize; 3] = [18, 34, 52];
+
+    /// Sends the three frames over a stream that takes so many bytes before a write fails: the frames that end there
+    /// were sent, each later send is refused, and just these bytes stand on the stream.
+    #[tactic(auto, unfolding(crate::specs::Numbers::number))]
+    fn expect_written(rt: &impl Abort, out: MemoryOut, written: usize) {
+        let mut sink = StreamSink::new(out);
+        let long = [18, 0, 0, 0, 1, 1, 1, 1, 1, 1, 1, 1, 1, 1, 1, 1];
+        let bare = [16, 0, 0, 0, 2, 2, 2, 2, 2, 2, 2, 2, 2, 2, 2, 2];
+        let answers = [
+            sink.send(&long, &[7, 8]),
+            sink.send(&bare, &[]),
+            sink.send(&long, &[9, 10]),
+        ];
+        for (answer, end) in answers.iter().zip(ENDS) {
+            let sent = end <= written;
+            assert_eq!(rt; *answer == Sending::Sent, sent, "{written}");
+            assert_eq!(rt; *answer == Sending::Failed, !sent, "{written}");
+        }
+        assert_eq!(rt; sink.broken(), written < 52, "{written}");
+        let all = [
+            18, 0, 0, 0, 1, 1, 1, 1, 1, 1, 1, 1, 1, 1, 1, 1, 7, 8, 16, 0, 0, 0, 2, 2, 2, 2, 2, 2,
+            2, 2, 2, 2, 2, 2, 18, 0, 0, 0, 1, 1, 1, 1, 1, 1, 1, 1, 1, 1, 1, 1, 9, 10,
+        ];
+        assert_eq!(rt;
+            Some(sink.into_inner().bytes()),
+            all.get(..written),
+            "{written}"
+        );
+    }
+
+    #[test]
+    fn nothing_is_written_behind_a_write_that_failed(rt: HostRuntime) -> Result<(), Fail> {
+        let alloc = rt.alloc();
+        for (fault, written) in [(1, 0), (2, 16), (3, 18), (4, 34), (5, 50), (6, 52)] {
+            let faults = Vec::from_slice(alloc, &[fault])?;
+            expect_written(&rt, MemoryOut::new(alloc, 1000, faults), written);
+        }
+        for (fault, written) in [(1, 0), (2, 7), (3, 14), (4, 16), (5, 18), (6, 25), (9, 41)] {
+            let faults = Vec::from_slice(alloc, &[fault])?;
+            expect_written(&rt, MemoryOut::new(alloc, 7, faults), written);
+        }
+        for written in 0..=52 {
+            let faults = Vec::from_slice(alloc, &[written as u64 + 1])?;
+            expect_written(&rt, MemoryOut::new(alloc, 1, faults), written);
         }
         Ok(())
     }

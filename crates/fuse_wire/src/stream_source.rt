@@ -1,6 +1,7 @@
 // Messages cut from a stream of bytes.
-ghost use Rattle.std.specs.Prelude.{◌≡◌, ◌≤◌, length};
+ghost use Rattle.std.specs.Prelude.{◌≡◌, ◌≢◌, ◌≤◌, length};
 ghost use Rattle.fuse_wire.specs.Numbers.{number};
+ghost use Rattle.fuse_wire.specs.Source.{Receives};
 ghost use Rattle.fuse_wire.specs.StreamSource.{held, Fills, stream_told};
 
 use crate::consts::BUFFER_SIZE;
@@ -50,7 +51,12 @@ fn fill<I: ByteSource>(inner: &mut I, piece: &mut [u8]) -> Option<usize>
 impl<I: ByteSource> Source for StreamSource<I> {
     ghost told = { λ s. stream_told (I.told s.inner) };
 
-    fn receive(&mut self, buffer: &mut [u8]) -> Received {
+    /// The next message. A stream that has none now is waited for: the answer is never Retry.
+    fn receive(&mut self, buffer: &mut [u8]) -> Received
+        requires { length buffer.old ≡ BUFFER_SIZE }
+        ensures received { Receives result (stream_told (I.told (held self.old))) (stream_told (I.told (held self.new))) buffer.new }
+        ensures never_retries { result ≢ Received.Retry }
+    {
         let Some(count) = fill(&mut self.inner, &mut buffer[..HEADER_SIZE]) else {
             return Received::Failed;
         };

@@ -1,16 +1,27 @@
 // Points in time.
 ghost use Rattle.std.specs.Prelude.{◌≡◌};
-ghost use Rattle.fuse_wire.specs.Times.{time_out};
+ghost use Rattle.fuse_wire.specs.Times.{time_in, time_out};
 
-/// A point in time: nanoseconds from the epoch, the start of 1970 in UTC.
+/// A point in time, in nanoseconds from the epoch, the start of 1970 in UTC; before it they are negative. Any i128 is
+/// one, so that a time may lie past the seconds that an i64 counts.
 #[derive(Clone, Copy, Debug, PartialEq, Eq, PartialOrd, Ord, Hash)]
 pub struct SystemTime(pub i128);
+
+/// What a SETATTR sets a time of a file to.
+#[derive(Clone, Copy, Debug, PartialEq, Eq, Hash)]
+pub enum TimeOrNow {
+    /// This time: `atime` and `atimensec` of `struct fuse_setattr_in`, or `mtime` and `mtimensec`.
+    SpecificTime(SystemTime),
+    /// The time at which it is done: `FATTR_ATIME_NOW` or `FATTR_MTIME_NOW` is set.
+    Now,
+}
 
 /// How many nanoseconds a second has.
 const SECOND: i128 = 1_000_000_000;
 
-/// Whole seconds, rounded down, and the nanoseconds above them: what `struct fuse_attr` carries. A time whose seconds
-/// are out of range gives the last moment that is in it, or the first second.
+/// The whole seconds of a time, rounded down, and the nanoseconds above them, from 0 to 999999999: what `struct fuse_attr`
+/// carries. A time past the last second of an i64 gives the last nanosecond of that one, and a time before the first
+/// second gives its start.
 pub fn time_from_system_time(time: &SystemTime) -> (i64, u32)
     ensures { result ≡ time_out time.now.0 }
 {
@@ -23,6 +34,14 @@ pub fn time_from_system_time(time: &SystemTime) -> (i64, u32)
     } else {
         (secs as i64, nanos as u32)
     }
+}
+
+/// The time of so many seconds and nanoseconds from the epoch: the seconds may be negative, and the nanoseconds are added
+/// to them. No sum leaves an i128, so that nanoseconds of a second and more are taken too.
+pub fn system_time_from_time(secs: i64, nanos: u32) -> SystemTime
+    ensures { result.0 ≡ time_in secs nanos }
+{
+    SystemTime(secs as i128 * SECOND + nanos as i128)
 }
 
 #[cfg(test)]
@@ -48,6 +67,29 @@ mod tests {
         ] {
             let found = time_from_system_time(&SystemTime(nanos));
             assert_eq!(rt; found, expected, "at {nanos}");
+        }
+        Ok(())
+    }
+
+    #[test]
+    fn seconds_and_nanoseconds_make_a_time(rt: HostRuntime) -> Result<(), Fail> {
+        for (secs, nanos, expected) in [
+            (0, 0, 0),
+            (0, 999_999_999, 999_999_999),
+            (-1, 0, -1_000_000_000),
+            (-2, 800_000_000, -1_200_000_000),
+            (i64::MIN, 0, -9_223_372_036_854_775_808_000_000_000),
+            (
+                i64::MIN,
+                200_000_000,
+                -9_223_372_036_854_775_807_800_000_000,
+            ),
+            (i64::MIN + 1, 0, -9_223_372_036_854_775_807_000_000_000),
+            (i64::MAX, 999_999_999, 9_223_372_036_854_775_807_999_999_999),
+        ] {
+            let found = system_time_from_time(secs, nanos);
+            assert_eq!(rt; found.0, expected, "at {secs}, {nanos}");
+            assert_eq!(rt; time_from_system_time(&found), (secs, nanos), "back");
         }
         Ok(())
     }

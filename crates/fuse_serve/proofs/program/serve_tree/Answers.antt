@@ -1,44 +1,98 @@
-use Rattle.std.proofs.Common.{◌≡◌, ◌∙◌, subst, sym, refl, ap, Some, Bool, ℕ, Ok, Err, inr}
+use Rattle.std.proofs.Common.{◌≡◌, ◌≢◌, ◌⊎◌, ◌<◌, ◌+◌, ◌≤◌, ◌∙◌, subst, sym, refl, ap, Some, Bool, Ok, Err, inr}
+use Rattle.fuse_wire.specs.Faults.{last_count}
 use Rattle.fuse_wire.specs.Source.{SourceState}
 use Rattle.fuse_wire.specs.Sink.{SinkState}
+use Rattle.fuse_wire.specs.ByteSource.{ByteSourceState}
+use Rattle.fuse_wire.specs.ByteSink.{ByteSinkState}
 use Rattle.fuse_wire.specs.StreamSource.{stream_told}
 use Rattle.fuse_wire.specs.StreamSink.{Stands, stream_told as sink_told}
+use Rattle.fuse_session.specs.Complete.{NothingAmiss}
 use Rattle.fuse_session.specs.Converses.{Session}
 use Rattle.fuse_session.specs.Headline.{Headline, Lossless}
+use Rattle.fuse_session.specs.declared.error.SessionError.TheVariants.{Memory}
+use Rattle.fuse_session.proofs.Flat.{Flat-session}
 use Rattle.fuse_serve.specs.Status.{status}
-use Rattle.fuse_serve.specs.Tree.{tree_may_init, tree_may_destroy}
+use Rattle.fuse_serve.specs.Tree.{tree_promise, tree_may_init}
+use Rattle.fuse_serve.proofs.Conversing.{ByteSession-flat, EachAnswered-headline, NothingAmiss-bytes, complete-status, never-init}
 use Rattle.fuse_serve.proofs.Statuses.{zero-status}
 use Rattle.fuse_serve.proofs.Streams.{source-same, sink-same, carried}
+use Rattle.fuse_serve.proofs.program.serve_tree.Given.{Over}
 use Rattle.fuse_serve.proofs.program.serve_tree.Goals as goal
 
-pub returns-clause-served : goal.returns-clause-served
-returns-clause-served g c =
-    let m = c.mount-source.result in
+-- what the input tells at first and at last, and the output
+abbrev first_in : (g : Over) → goal.After-into_inner-2 g → ByteSourceState
+first_in g c = g.I.ByteSource.told c.args.input
+
+abbrev last_in : (g : Over) → goal.After-into_inner-2 g → ByteSourceState
+last_in g c = g.I.ByteSource.told c.into_inner.result
+
+abbrev first_out : (g : Over) → goal.After-into_inner-2 g → ByteSinkState
+first_out g c = g.O.ByteSink.told c.args.output
+
+abbrev last_out : (g : Over) → goal.After-into_inner-2 g → ByteSinkState
+last_out g c = g.O.ByteSink.told c.into_inner-2.result
+
+-- what the sink tells at last
+abbrev sink_at : (g : Over) → goal.After-into_inner-2 g → SinkState
+sink_at g c =
+    let m = c.mount-source.result in sink_told (g.O.ByteSink.told m.sink.origin.value) (g.O.ByteSink.told m.sink.inner) m.sink.refused
+
+-- what holds of the streams that were mounted holds of what the program was given and hands back
+over_streams : (g : Over) (c : goal.After-into_inner-2 g) (P : SourceState → SourceState → SinkState → Type 0)
+    → P (stream_told (g.I.ByteSource.told c.new.result.inner)) (stream_told (g.I.ByteSource.told c.mount-source.result.source.inner))
+    (sink_told (g.O.ByteSink.told c.new-2.result.origin.value) (g.O.ByteSink.told c.new-2.result.inner) c.new-2.result.refused)
+    → P (stream_told (first_in g c)) (stream_told (last_in g c)) (sink_told (first_out g c) (first_out g c) 0)
+over_streams g c P p =
     let told_in = g.I.ByteSource.told in
-    let told_out = g.O.ByteSink.told in
-    let at_first = source-same told_in c.new.result.inner c.args.input c.new.ensures in
-    let at_last = source-same told_in m.source.inner c.into_inner.result (sym c.into_inner.ensures) in
-    let sink_first = sink-same told_out c.new-2.result.origin.value c.new-2.result.inner c.args.output c.args.output c.new-2.result.refused 0
-    c.new-2.ensures.origin c.new-2.ensures.held c.new-2.ensures.fresh in
-    let sink_last = sink-same told_out m.sink.origin.value c.into_inner-2.result m.sink.origin.value m.sink.inner m.sink.refused m.sink.refused
-    refl c.into_inner-2.ensures.held refl in
-    let sink : SinkState = sink_told (told_out m.sink.origin.value) (told_out m.sink.inner) m.sink.refused in
-    record {
-      tree = _;
-      tree' = m.filesystem;
-      outcome = m.outcome;
-      transcript = m.transcript;
-      sink = sink;
-      broken = m.sink.broken;
-      exit_is = subst (λ (b : Bool). c.status_of.result ≡ status m.outcome m.transcript.lost b) c.broken-broken.ensures c.status_of.ensures;
-      session = λ memory. carried (λ a b k. Session tree_may_init tree_may_destroy c.args.form.page (Some c.args.form.threads) c.args.form.acl c.args.form.owner
-          _ m.filesystem m.outcome a b k sink m.transcript) _ _ _ _ _ _ at_first at_last sink_first (c.mount-source.ensures.session memory);
-      headline = λ well.
-          let said = zero-status m.outcome m.transcript.lost m.sink.broken
-          (sym (subst (λ (b : Bool). c.status_of.result ≡ status m.outcome m.transcript.lost b) c.broken-broken.ensures c.status_of.ensures) ∙ well) in
-          carried (λ a b k. Lossless k sink m.transcript → Headline tree_may_init c.args.form.page c.args.form.acl c.args.form.owner _ a b k sink)
-          _ _ _ _ _ _ at_first at_last sink_first (c.mount-source.ensures.headline said.0) (inr said.1);
-      memory = λ memory. carried (λ a b k. (b ≡ a) × (sink ≡ k)) _ _ _ _ _ _ at_first at_last sink_first
-          ((c.mount-source.ensures.memory memory).1, (c.mount-source.ensures.memory memory).2);
-      stands = subst (λ (k : SinkState). ∥ Stands k (told_out c.into_inner-2.result) m.sink.broken ∥₁) sink_last c.into_inner-2.ensures.stands;
-    }
+    carried P _ _ _ _ _ _ (source-same told_in c.new.result.inner c.args.input c.new.ensures)
+    (source-same told_in c.mount-source.result.source.inner c.into_inner.result (sym c.into_inner.ensures))
+    (sink-same g.O.ByteSink.told c.new-2.result.origin.value c.new-2.result.inner c.args.output c.args.output c.new-2.result.refused 0
+    c.new-2.ensures.origin c.new-2.ensures.held c.new-2.ensures.fresh) p
+
+-- how the output stands at last
+stands_at : (g : Over) (c : goal.After-into_inner-2 g) → ∥ Stands (sink_at g c) (last_out g c) c.mount-source.result.sink.broken ∥₁
+stands_at g c =
+    let m = c.mount-source.result in
+    subst (λ (k : SinkState). ∥ Stands k (last_out g c) m.sink.broken ∥₁)
+    (sink-same g.O.ByteSink.told m.sink.origin.value c.into_inner-2.result m.sink.origin.value m.sink.inner m.sink.refused m.sink.refused
+    refl c.into_inner-2.ensures.held refl) c.into_inner-2.ensures.stands
+
+exit_is : (g : Over) (c : goal.After-into_inner-2 g)
+    → c.status_of.result ≡ status c.mount-source.result.outcome c.mount-source.result.transcript.lost c.mount-source.result.sink.broken
+exit_is g c =
+    let m = c.mount-source.result in
+    subst (λ (b : Bool). c.status_of.result ≡ status m.outcome m.transcript.lost b) c.broken-broken.ensures c.status_of.ensures
+
+pub returns-clause-answered : goal.returns-clause-answered
+returns-clause-answered g c = λ well.
+    let m = c.mount-source.result in
+    let said = zero-status m.outcome m.transcript.lost m.sink.broken (sym (exit_is g c) ∙ well) in
+    let headline =
+    over_streams g c (λ a b k. Lossless k (sink_at g c) m.transcript → Headline tree_promise c.args.form.page c.args.form.acl c.args.form.owner _ a b k (sink_at g c))
+    (c.mount-source.ensures.headline said.0) (inr said.1) in
+    EachAnswered-headline c.args.form (first_in g c) (last_in g c) (first_out g c) (last_out g c) (sink_at g c) m.sink.broken _ headline (stands_at g c) said.2
+
+pub returns-clause-session : goal.returns-clause-session
+returns-clause-session g c = λ other.
+    let m = c.mount-source.result in
+    let some_memory : m.outcome ≢ Err Memory = λ memory. other (exit_is g c ∙ ap (λ o. status o m.transcript.lost m.sink.broken) memory) in
+    let session : Session tree_promise c.args.form.page (Some c.args.form.threads) c.args.form.acl c.args.form.owner _ m.filesystem m.outcome
+    (stream_told (first_in g c)) (stream_told (last_in g c)) (sink_told (first_out g c) (first_out g c) 0) (sink_at g c) m.transcript =
+    over_streams g c (λ a b k. Session tree_promise c.args.form.page (Some c.args.form.threads) c.args.form.acl c.args.form.owner
+    _ m.filesystem m.outcome a b k (sink_at g c) m.transcript) (c.mount-source.ensures.session some_memory) in
+    ByteSession-flat c.args.form c.status_of.result m.outcome (first_in g c) (last_in g c) (first_out g c) (last_out g c)
+    (sink_at g c) m.sink.broken m.transcript _ session.fs1 m.filesystem
+    (Flat-session tree_promise c.args.form.page c.args.form.threads c.args.form.acl c.args.form.owner _ m.filesystem m.outcome _ _ _ (sink_at g c) m.transcript session)
+    (stands_at g c) (exit_is g c) session.destroyed
+    (never-init c.args.form.page (Some c.args.form.threads) c.args.form.acl c.args.form.owner _ m.outcome _ _ (c.mount-source.ensures.cause some_memory))
+
+pub returns-clause-complete : goal.returns-clause-complete
+returns-clause-complete g c = λ fine.
+    let m = c.mount-source.result in
+    let ended =
+    over_streams g c (λ a b k. NothingAmiss tree_may_init (Some c.args.form.threads) _ a b → (m.outcome ≡ Ok tt) ⊎ (m.outcome ≡ Err Memory)) c.mount-source.ensures.complete
+    (NothingAmiss-bytes c.args.form (first_in g c) (last_in g c) (first_out g c) (last_out g c) _ fine) in
+    let origin : (sink_at g c).origin ≡ first_out g c =
+    over_streams g c (λ a b k. (sink_at g c).origin ≡ k.origin) c.mount-source.ensures.counts.appended.origin in
+    let lost = over_streams g c (λ a b k. (sink_at g c).faults < last_count → m.transcript.lost + k.faults ≤ (sink_at g c).faults) c.mount-source.ensures.lost in
+    complete-status c.status_of.result m.outcome m.transcript m.sink.broken (first_out g c) (last_out g c) (sink_at g c) (exit_is g c) origin lost (stands_at g c) fine.output_still ended

@@ -8,17 +8,17 @@ use Rattle.fuse_wire.proofs.stream_source.StreamSourceSource.receive.Goals as go
 pub slice_bounds-fill-end-2 : goal.slice_bounds-fill-end-2
 slice_bounds-fill-end-2 g c = omega (arith, length-take 40 c.args.buffer.now, c.requires)
 
-pub returns-then-count-eq0 : goal.returns-then-count-eq0
-returns-then-count-eq0 g c =
+pub returns-then-count-eq0-clause-received : goal.returns-then-count-eq0-clause-received
+returns-then-count-eq0-clause-received g c =
     Gone-from_filled _ _ _ _ _ c.in-Some.ensures (omega arith) (omega (arith, length-take 40 c.args.buffer.now, c.requires))
 
-pub returns-then-count-lt-HEADER_SIZE : goal.returns-then-count-lt-HEADER_SIZE
-returns-then-count-lt-HEADER_SIZE g c =
+pub returns-then-count-lt-HEADER_SIZE-clause-received : goal.returns-then-count-lt-HEADER_SIZE-clause-received
+returns-then-count-lt-HEADER_SIZE-clause-received g c =
     let header : length (take 40 c.args.buffer.now) ≡ 40 = omega (arith, length-take 40 c.args.buffer.now, c.requires) in
     TakesMessage-short _ _ _ _ _ (drop 40 c.args.buffer.now) c.in-Some.ensures (omega arith) (omega arith) header (omega arith)
 
-pub returns-in-Some-fill : goal.returns-in-Some-fill
-returns-in-Some-fill g c =
+pub returns-in-Some-fill-clause-received : goal.returns-in-Some-fill-clause-received
+returns-in-Some-fill-clause-received g c =
     let buffer = c.args.buffer.now in
     let first = c.fill.new.piece in
     let held = first ++ drop 40 buffer in

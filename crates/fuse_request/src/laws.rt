@@ -1,0 +1,19 @@
+//! Laws of the definitions. Each function here does nothing: its contract is the law, which holds of all its arguments.
+ghost use Rattle.fuse_request.specs.Behind.{UnreadBehind};
+
+/// What stands behind the bytes that a good header counts changes neither the header, nor the body, nor what is asked.
+pub fn bytes_behind_are_not_read(message: &[u8], others: &[u8])
+    ensures { UnreadBehind message.now others.now }
+{}
+
+#[cfg(test)]
+mod tests {
+    use super::*;
+    use std::test::Fail;
+
+    #[test]
+    fn the_law_can_be_called(_rt: HostRuntime) -> Result<(), Fail> {
+        bytes_behind_are_not_read(b"message", b"others");
+        Ok(())
+    }
+}

@@ -1,0 +1,111 @@
+// What is asked about locks.
+ghost use Rattle.std.specs.Prelude.{◌≡◌};
+
+use fuse_args::GetLkArguments;
+use fuse_wire::{FileHandle, LockOwner};
+
+/// A lock on a range of a file.
+#[derive(Clone, Copy, Debug, PartialEq, Eq)]
+pub struct Lock {
+    /// The first and the last byte of the range.
+    pub range: (u64, u64),
+    /// The kind of lock: the `l_type` of `fcntl(2)`.
+    pub typ: i32,
+    /// The process that holds it.
+    pub pid: u32,
+}
+
+/// GETLK: whether a lock could be taken.
+#[derive(Clone, Copy, Debug, PartialEq, Eq)]
+pub struct GetLk {
+    arguments: GetLkArguments,
+}
+
+impl GetLk {
+    ghost use Rattle.fuse_request.specs.Arguments.{getlk_of};
+    ghost use Rattle.fuse_request.specs.Fields.{lock_of};
+
+    /// The operation of these arguments.
+    pub(crate) fn new(arguments: GetLkArguments) -> GetLk
+        ensures { getlk_of result ≡ arguments }
+    {
+        GetLk { arguments }
+    }
+
+    /// The open file.
+    pub fn file_handle(&self) -> FileHandle
+        ensures { result.0 ≡ (getlk_of self.now).fh }
+    {
+        FileHandle(self.arguments.fh)
+    }
+
+    /// The lock.
+    pub fn lock(&self) -> Lock
+        ensures { result ≡ lock_of (getlk_of self.now) }
+    {
+        Lock {
+            range: (self.arguments.start, self.arguments.end),
+            typ: self.arguments.typ,
+            pid: self.arguments.pid,
+        }
+    }
+
+    /// Who asks for it.
+    pub fn lock_owner(&self) -> LockOwner
+        ensures { result.0 ≡ (getlk_of self.now).owner }
+    {
+        LockOwner(self.arguments.owner)
+    }
+}
+
+/// SETLK and SETLKW: a lock is taken or given back.
+#[derive(Clone, Copy, Debug, PartialEq, Eq)]
+pub struct SetLk {
+    arguments: GetLkArguments,
+    sleep: bool,
+}
+
+impl SetLk {
+    ghost use Rattle.fuse_request.specs.Arguments.{setlk_of, setlk_sleep};
+    ghost use Rattle.fuse_request.specs.Fields.{lock_of};
+
+    /// The operation of these arguments.
+    pub(crate) fn new(arguments: GetLkArguments, sleep: bool) -> SetLk
+        ensures arguments { setlk_of result ≡ arguments }
+        ensures sleep { setlk_sleep result ≡ sleep }
+    {
+        SetLk { arguments, sleep }
+    }
+
+    /// The open file.
+    pub fn file_handle(&self) -> FileHandle
+        ensures { result.0 ≡ (setlk_of self.now).fh }
+    {
+        FileHandle(self.arguments.fh)
+    }
+
+    /// The lock.
+    pub fn lock(&self) -> Lock
+        ensures { result ≡ lock_of (setlk_of self.now) }
+    {
+        Lock {
+            range: (self.arguments.start, self.arguments.end),
+            typ: self.arguments.typ,
+            pid: self.arguments.pid,
+        }
+    }
+
+    /// Who asks for it.
+    pub fn lock_owner(&self) -> LockOwner
+        ensures { result.0 ≡ (setlk_of self.now).owner }
+    {
+        LockOwner(self.arguments.owner)
+    }
+
+    /// Whether to wait until it can be taken: SETLKW.
+    pub fn sleep(&self) -> bool
+        ensures { result ≡ setlk_sleep self.now }
+    {
+        self.sleep
+    }
+}

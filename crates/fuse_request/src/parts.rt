@@ -1,0 +1,34 @@
+// Parts of a body that have to be all there.
+ghost use Rattle.std.specs.Prelude.{◌≡◌, ok_or};
+ghost use Rattle.fuse_args.specs.Arguments.{FetchesSlice};
+ghost use Rattle.fuse_request.specs.Operation.{at_least, exactly};
+
+use crate::RequestError;
+use fuse_args::ArgumentIterator;
+
+/// A part of the arguments, which has to be all there.
+pub(crate) fn whole<X: Drop>(part: Option<X>) -> Result<X, RequestError>
+    ensures { result ≡ ok_or part RequestError.InsufficientData }
+{
+    part.ok_or(RequestError::InsufficientData)
+}
+
+/// All bytes that are left, where there are exactly so many.
+pub(crate) fn exactly<'a>(arguments: &mut ArgumentIterator<'a>, size: u32) -> Option<&'a [u8]>
+    ensures { FetchesSlice result arguments.old arguments.new (exactly size arguments.old) }
+{
+    if arguments.len() != size as usize {
+        return None;
+    }
+    Some(arguments.fetch_all())
+}
+
+/// The first of the bytes that are left, where there are so many.
+pub(crate) fn at_least<'a>(arguments: &mut ArgumentIterator<'a>, size: u32) -> Option<&'a [u8]>
+    ensures { FetchesSlice result arguments.old arguments.new (at_least size arguments.old) }
+{
+    if arguments.len() < size as usize {
+        return None;
+    }
+    Some(&arguments.fetch_all()[..size as usize])
+}

@@ -1,0 +1,175 @@
+// What is asked about two places in directories.
+ghost use Rattle.std.specs.Prelude.{◌≡◌};
+
+use bitflags::Flags;
+use fuse_args::Rename2Arguments;
+use fuse_wire::{INodeNo, RenameFlags};
+
+/// A name in a directory.
+#[derive(Clone, Copy, Debug, PartialEq, Eq)]
+pub struct FilenameInDir<'a> {
+    /// The directory.
+    pub dir: INodeNo,
+    /// The name, without the zero byte that ends it.
+    pub name: &'a [u8],
+}
+
+/// RENAME: a name moves to another place.
+#[derive(Clone, Copy, Debug, PartialEq, Eq)]
+pub struct Rename<'a> {
+    node: INodeNo,
+    newdir: u64,
+    old_name: &'a [u8],
+    new_name: &'a [u8],
+}
+
+impl<'a> Rename<'a> {
+    ghost use Rattle.fuse_request.specs.Arguments.{rename_new_name, rename_newdir, rename_node, rename_old_name};
+
+    /// The operation of these arguments.
+    pub(crate) fn new(
+        node: INodeNo,
+        newdir: u64,
+        old_name: &'a [u8],
+        new_name: &'a [u8],
+    ) -> Rename<'a>
+        ensures node { rename_node result ≡ node }
+        ensures newdir { rename_newdir result ≡ newdir }
+        ensures old_name { rename_old_name result ≡ old_name.now }
+        ensures new_name { rename_new_name result ≡ new_name.now }
+    {
+        Rename {
+            node,
+            newdir,
+            old_name,
+            new_name,
+        }
+    }
+
+    /// The place that it moves from, which is in the node of the request.
+    pub fn src(&self) -> FilenameInDir<'a>
+        ensures dir { result.dir ≡ rename_node self.now }
+        ensures name { result.name.now ≡ rename_old_name self.now }
+    {
+        FilenameInDir {
+            dir: self.node,
+            name: self.old_name,
+        }
+    }
+
+    /// The place that it moves to.
+    pub fn dest(&self) -> FilenameInDir<'a>
+        ensures dir { result.dir.0 ≡ rename_newdir self.now }
+        ensures name { result.name.now ≡ rename_new_name self.now }
+    {
+        FilenameInDir {
+            dir: INodeNo(self.newdir),
+            name: self.new_name,
+        }
+    }
+}
+
+/// RENAME2: a name moves to another place, in a way that flags say.
+#[derive(Clone, Copy, Debug, PartialEq, Eq)]
+pub struct Rename2<'a> {
+    arguments: Rename2Arguments,
+    node: INodeNo,
+    old_name: &'a [u8],
+    new_name: &'a [u8],
+}
+
+impl<'a> Rename2<'a> {
+    ghost use Rattle.fuse_request.specs.Arguments.{rename2_new_name, rename2_node, rename2_of, rename2_old_name};
+
+    /// The operation of these arguments.
+    pub(crate) fn new(
+        arguments: Rename2Arguments,
+        node: INodeNo,
+        old_name: &'a [u8],
+        new_name: &'a [u8],
+    ) -> Rename2<'a>
+        ensures arguments { rename2_of result ≡ arguments }
+        ensures node { rename2_node result ≡ node }
+        ensures old_name { rename2_old_name result ≡ old_name.now }
+        ensures new_name { rename2_new_name result ≡ new_name.now }
+    {
+        Rename2 {
+            arguments,
+            node,
+            old_name,
+            new_name,
+        }
+    }
+
+    /// The place that it moves from, which is in the node of the request.
+    pub fn from(&self) -> FilenameInDir<'a>
+        ensures dir { result.dir ≡ rename2_node self.now }
+        ensures name { result.name.now ≡ rename2_old_name self.now }
+    {
+        FilenameInDir {
+            dir: self.node,
+            name: self.old_name,
+        }
+    }
+
+    /// The place that it moves to.
+    pub fn to(&self) -> FilenameInDir<'a>
+        ensures dir { result.dir.0 ≡ (rename2_of self.now).newdir }
+        ensures name { result.name.now ≡ rename2_new_name self.now }
+    {
+        FilenameInDir {
+            dir: INodeNo(self.arguments.newdir),
+            name: self.new_name,
+        }
+    }
+
+    /// How it moves.
+    pub fn flags(&self) -> RenameFlags
+        ensures { result.0 ≡ (rename2_of self.now).flags }
+    {
+        RenameFlags::from_bits_retain(self.arguments.flags)
+    }
+}
+
+/// LINK: an inode gets another name.
+#[derive(Clone, Copy, Debug, PartialEq, Eq)]
+pub struct Link<'a> {
+    node: INodeNo,
+    oldnodeid: u64,
+    new_name: &'a [u8],
+}
+
+impl<'a> Link<'a> {
+    ghost use Rattle.fuse_request.specs.Arguments.{link_new_name, link_node, link_oldnodeid};
+
+    /// The operation of these arguments.
+    pub(crate) fn new(node: INodeNo, oldnodeid: u64, new_name: &'a [u8]) -> Link<'a>
+        ensures node { link_node result ≡ node }
+        ensures oldnodeid { link_oldnodeid result ≡ oldnodeid }
+        ensures new_name { link_new_name result ≡ new_name.now }
+    {
+        Link {
+            node,
+            oldnodeid,
+            new_name,
+        }
+    }
+
+    /// The inode.
+    pub fn inode_no(&self) -> INodeNo
+        ensures { result.0 ≡ link_oldnodeid self.now }
+    {
+        INodeNo(self.oldnodeid)
+    }
+
+    /// The place of the new name, which is in the node of the request.
+    pub fn dest(&self) -> FilenameInDir<'a>
+        ensures dir { result.dir ≡ link_node self.now }
+        ensures name { result.name.now ≡ link_new_name self.now }
+    {
+        FilenameInDir {
+            dir: self.node,
+            name: self.new_name,
+        }
+    }
+}

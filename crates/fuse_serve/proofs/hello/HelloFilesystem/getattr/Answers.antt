@@ -1,0 +1,20 @@
+use Rattle.std.proofs.Common.{◌∙◌, ℕ, sym, ap, lit<, Option, Some}
+use Rattle.fuse_wire.specs.declared.file_attr.FileAttr.{FileAttr}
+use Rattle.fuse_reply.specs.Answer.Answer.{Attr}
+use Rattle.fuse_reply.specs.Frame.{reply}
+use Rattle.fuse_reply.specs.declared.out.Out.TheVariants.{Frame}
+use Rattle.fuse_session.proofs.Answering.{Answered-frame, Answered-error}
+use Rattle.fuse_serve.specs.Tree.{attributes}
+use Rattle.fuse_serve.proofs.hello.HelloFilesystem.getattr.Goals as goal
+
+pub returns-in-Some : goal.returns-in-Some
+returns-in-Some c =
+    Answered-frame _ _ _ _ _ _ (Attr 1000000000 c.in-Some.found) tt (lit< tt, c.attr.ensures.answer.1)
+    (ap (λ (found : Option FileAttr). Some (attributes found)) (sym c.node_attr.ensures ∙ c.in-Some.is))
+    (c.attr.ensures.reply ∙ ap (λ (valid : ℕ). Frame (reply c.args.reply (Attr valid c.in-Some.found))) c.a_second.ensures)
+
+pub returns-in-None : goal.returns-in-None
+returns-in-None c =
+    Answered-error _ _ _ _ _ _ 2 (lit< tt) (lit< tt)
+    (ap (λ (found : Option FileAttr). Some (attributes found)) (sym c.node_attr.ensures ∙ c.in-None.is))
+    c.error.ensures.reply

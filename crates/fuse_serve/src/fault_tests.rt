@@ -1,0 +1,96 @@
+// Inputs and outputs that fail, one call at a time, over a stream of ten messages.
+use crate::program::serve;
+use fuse_wire::{MemoryBytes, MemoryOut};
+use std::alloc::{AllocError, Global};
+use std::process::Abort;
+use std::sync::Wait;
+use std::test::Fail;
+
+/// The words of a form with one thread.
+const FORM: [&[u8]; 5] = [b"serve", b"1", b"all", b"0", b"4096"];
+
+/// INIT of version 7.8 with the id 1, but for 48 zero bytes at its end.
+const INIT: &[u8; 56] =
+    b"\x68\0\0\0\x1a\0\0\0\x01\0\0\0\0\0\0\0\0\0\0\0\0\0\0\0\0\0\0\0\0\0\0\0\0\0\0\0\0\0\0\0\x07\0\0\0\x08\0\0\0\0\x10\0\0\0\0\0\0";
+
+/// Its reply.
+const REPLY: &[u8; 40] =
+    b"\x28\0\0\0\0\0\0\0\x01\0\0\0\0\0\0\0\x07\0\0\0\x28\0\0\0\0\x10\0\0\0\0\0\0\x10\0\x0c\0\0\0\0\x01";
+
+/// INIT, eight LOOKUPs of a name that is not there, and DESTROY.
+fn stream(alloc: Global) -> Result<Vec<u8>, AllocError> {
+    let mut bytes = INIT.to_vec(alloc)?;
+    bytes.extend_from_slice(&[0; 48])?;
+    for _ in 0..8 {
+        bytes.extend_from_slice(b"\x2d\0\0\0\x01\0\0\0\x02\0\0\0\0\0\0\0\x01\0\0\0\0\0\0\0")?;
+        bytes.extend_from_slice(b"\0\0\0\0\0\0\0\0\0\0\0\0\0\0\0\0none\0")?;
+    }
+    bytes.extend_from_slice(b"\x28\0\0\0\x26\0\0\0\x02\0\0\0\0\0\0\0\0\0\0\0\0\0\0\0")?;
+    bytes.extend_from_slice(&[0; 16])?;
+    Ok(bytes)
+}
+
+/// All that the program writes for them.
+fn replies(alloc: Global) -> Result<Vec<u8>, AllocError> {
+    let mut bytes = REPLY.to_vec(alloc)?;
+    for _ in 0..8 {
+        bytes.extend_from_slice(b"\x10\0\0\0\xfe\xff\xff\xff\x02\0\0\0\0\0\0\0")?;
+    }
+    bytes.extend_from_slice(b"\x10\0\0\0\0\0\0\0\x02\0\0\0\0\0\0\0")?;
+    Ok(bytes)
+}
+
+/// Over streams that fail at these calls the program ends with this status, and has written so many of the bytes.
+fn ends_so<R: Wait + AllocGlobal + Abort>(
+    rt: &R,
+    reads: &[u64],
+    writes: &[u64],
+    status: u8,
+    count: usize,
+) -> Result<(), AllocError> {
+    let alloc = rt.alloc();
+    let input = MemoryBytes::new(stream(alloc)?, 1000, reads.to_vec(alloc)?);
+    let output = MemoryOut::new(alloc, 1000, writes.to_vec(alloc)?);
+    let served = serve(rt, &FORM, input, output);
+    assert_eq!(rt; served.status, status, "reads {reads:?}, writes {writes:?}");
+    assert_eq!(rt;
+        Some(served.output.bytes()),
+        replies(alloc)?.get(..count),
+        "reads {reads:?}, writes {writes:?}"
+    );
+    Ok(())
+}
+
+#[test]
+fn each_read_may_fail(rt: HostRuntime) -> Result<(), Fail> {
+    // Two reads for each message but the last, which has no body.
+    let mut written: usize = 0;
+    for message in 0..10u64 {
+        let first = message.saturating_mul(2).saturating_add(1);
+        ends_so(&rt, &[first], &[], 7, written)?;
+        if message < 9 {
+            ends_so(&rt, &[first.saturating_add(1)], &[], 7, written)?;
+        }
+        written = if message == 0 {
+            40
+        } else {
+            written.saturating_add(16)
+        };
+    }
+    ends_so(&rt, &[20], &[], 0, 184)?;
+    Ok(())
+}
+
+#[test]
+fn each_write_may_fail(rt: HostRuntime) -> Result<(), Fail> {
+    // Two writes for the reply to INIT, and one for each frame without a payload.
+    ends_so(&rt, &[], &[1], 8, 0)?;
+    ends_so(&rt, &[], &[2], 8, 16)?;
+    let mut written: usize = 40;
+    for write in 3..12u64 {
+        ends_so(&rt, &[], &[write], 8, written)?;
+        written = written.saturating_add(16);
+    }
+    ends_so(&rt, &[], &[12], 0, 184)?;
+    Ok(())
+}

@@ -1,0 +1,282 @@
+// The tree in sessions from memory to memory: each request, and what it gets.
+use crate::hello::Hello;
+use fuse_config::{Config, SessionACL};
+use fuse_session::{Ended, mount};
+use fuse_wire::{Items, MemorySink, MemorySource, RequestId, Turn};
+use std::alloc::{AllocError, Global};
+use std::process::Abort;
+use std::sync::Wait;
+use std::test::Fail;
+
+/// A length below 256.
+fn short(length: usize) -> u8 {
+    length.min(255) as u8
+}
+
+/// A message with the id 2, gid and pid 0, and this body.
+fn message(
+    alloc: Global,
+    opcode: u8,
+    node: u8,
+    uid: u8,
+    body: &[u8],
+) -> Result<Vec<u8>, AllocError> {
+    let mut bytes = vec![in alloc; 0; 40]?;
+    bytes[0] = short(body.len().saturating_add(40));
+    bytes[4] = opcode;
+    bytes[8] = 2;
+    bytes[16] = node;
+    bytes[24] = uid;
+    bytes.extend_from_slice(body)?;
+    Ok(bytes)
+}
+
+/// The body of a READ.
+fn read(offset: [u8; 8], size: u8) -> [u8; 40] {
+    let mut bytes = [0; 40];
+    bytes[8..16].copy_from_slice(&offset);
+    bytes[16] = size;
+    bytes
+}
+
+/// An offset below 256.
+fn near(offset: u8) -> [u8; 8] {
+    [offset, 0, 0, 0, 0, 0, 0, 0]
+}
+
+/// A frame for the id 2: this status, whose lowest byte is given, and this payload.
+fn frame(alloc: Global, status: u8, payload: &[u8]) -> Result<Vec<u8>, AllocError> {
+    let above = if status == 0 { 0 } else { 0xff };
+    let length = short(payload.len().saturating_add(16));
+    let mut bytes = [length, 0, 0, 0, status, above, above, above].to_vec(alloc)?;
+    bytes.extend_from_slice(&[2, 0, 0, 0, 0, 0, 0, 0])?;
+    bytes.extend_from_slice(payload)?;
+    Ok(bytes)
+}
+
+/// The attributes of a node: number, size, blocks, and the two lower bytes of its mode, and how many names it has.
+fn attributes(ino: u8, size: u8, blocks: u8, mode: [u8; 2], nlink: u8) -> [u8; 88] {
+    let mut bytes = [0; 88];
+    bytes[0] = ino;
+    bytes[8] = size;
+    bytes[16] = blocks;
+    bytes[60..62].copy_from_slice(&mode);
+    bytes[64] = nlink;
+    bytes[81] = 2;
+    bytes
+}
+
+/// An entry that holds for a second.
+fn entry(ino: u8, attributes: [u8; 88]) -> [u8; 128] {
+    let mut bytes = [0; 128];
+    bytes[0] = ino;
+    bytes[16] = 1;
+    bytes[24] = 1;
+    bytes[40..].copy_from_slice(&attributes);
+    bytes
+}
+
+/// Attributes that hold for a second.
+fn held(attributes: [u8; 88]) -> [u8; 104] {
+    let mut bytes = [0; 104];
+    bytes[0] = 1;
+    bytes[16..].copy_from_slice(&attributes);
+    bytes
+}
+
+/// INIT of version 7.8, with the id 1.
+fn init(alloc: Global) -> Result<Vec<u8>, AllocError> {
+    let mut bytes = [0; 104];
+    bytes[0] = 104;
+    bytes[4] = 26;
+    bytes[8] = 1;
+    bytes[40] = 7;
+    bytes[44] = 8;
+    bytes[49] = 0x10;
+    bytes.to_vec(alloc)
+}
+
+/// Serves these requests behind an INIT, in one session of the user 7, which sends these frames and notes.
+fn serves<R: Wait + AllocGlobal + Abort>(
+    rt: &R,
+    acl: SessionACL,
+    requests: &[&[u8]],
+    frames: &[&[u8]],
+    notes: &[(RequestId, u64)],
+) -> Result<(), AllocError> {
+    let alloc = rt.alloc();
+    let mut turns = Vec::new(alloc);
+    turns.push(Turn::Message(Items::from_vec(init(alloc)?)))?;
+    for request in requests {
+        turns.push(Turn::Message(Items::from_vec(request.to_vec(alloc)?)))?;
+    }
+    let config = Config {
+        acl,
+        n_threads: None,
+    };
+    let Ended {
+        filesystem: _,
+        source: _,
+        sink,
+        outcome,
+        transcript,
+    } = mount(
+        rt,
+        Hello,
+        MemorySource::new(turns),
+        MemorySink::new(alloc, Vec::new(alloc)),
+        7,
+        4096,
+        &config,
+    );
+    assert_eq!(rt; outcome, Ok(()));
+    assert_eq!(rt;
+        transcript.received,
+        (requests.len() as u64).saturating_add(1)
+    );
+    assert_eq!(rt; transcript.lost, 0);
+    assert_eq!(rt; sink.frames().len(), frames.len().saturating_add(1));
+    for (at, (sent, expected)) in sink.frames().iter().skip(1).zip(frames).enumerate() {
+        assert_eq!(rt; sent.as_slice(), *expected, "frame {at}");
+    }
+    assert_eq!(rt; sink.notes(), notes);
+    Ok(())
+}
+
+/// Serves requests of anybody, each with its one frame.
+fn serve_all<R: Wait + AllocGlobal + Abort>(
+    rt: &R,
+    cases: &[(Vec<u8>, Vec<u8>)],
+) -> Result<(), AllocError> {
+    let alloc = rt.alloc();
+    let mut requests: Vec<&[u8]> = Vec::new(alloc);
+    let mut frames: Vec<&[u8]> = Vec::new(alloc);
+    for (request, frame) in cases {
+        requests.push(request)?;
+        frames.push(frame)?;
+    }
+    serves(rt, SessionACL::All, &requests, &frames, &[])
+}
+
+#[test]
+fn names_and_attributes(rt: HostRuntime) -> Result<(), Fail> {
+    let alloc = rt.alloc();
+    let hello = attributes(2, 13, 1, [0xa4, 0x81], 1);
+    let big = attributes(3, 200, 1, [0xa4, 0x81], 1);
+    let root = attributes(1, 0, 0, [0xed, 0x41], 2);
+    let cases = [
+        (
+            message(alloc, 1, 1, 0, b"hello.txt\0")?,
+            frame(alloc, 0, &entry(2, hello))?,
+        ),
+        (
+            message(alloc, 1, 1, 0, b"big\0hello.txt\0")?,
+            frame(alloc, 0, &entry(3, big))?,
+        ),
+        (
+            message(alloc, 1, 1, 0, b"none\0")?,
+            frame(alloc, 0xfe, b"")?,
+        ),
+        (message(alloc, 1, 2, 0, b"big\0")?, frame(alloc, 0xfe, b"")?),
+        (message(alloc, 1, 1, 0, b"big")?, frame(alloc, 0xda, b"")?),
+        (
+            message(alloc, 3, 1, 0, &[0; 16])?,
+            frame(alloc, 0, &held(root))?,
+        ),
+        (
+            message(alloc, 3, 2, 0, &[1; 16])?,
+            frame(alloc, 0, &held(hello))?,
+        ),
+        (
+            message(alloc, 3, 3, 0, &[0; 16])?,
+            frame(alloc, 0, &held(big))?,
+        ),
+        (message(alloc, 3, 4, 0, &[0; 16])?, frame(alloc, 0xfe, b"")?),
+        (message(alloc, 3, 1, 0, &[0; 15])?, frame(alloc, 0xda, b"")?),
+    ];
+    serve_all(&rt, &cases)?;
+    Ok(())
+}
+
+#[test]
+fn contents(rt: HostRuntime) -> Result<(), Fail> {
+    let alloc = rt.alloc();
+    let far = [0, 0, 0, 0, 0, 0, 0, 0x80];
+    let mut farthest = [0xff; 8];
+    farthest[7] = 0x7f;
+    let mut numbers = Vec::new(alloc);
+    for number in 0..200u8 {
+        numbers.push(number)?;
+    }
+    let cases = [
+        (
+            message(alloc, 15, 2, 0, &read(near(0), 100))?,
+            frame(alloc, 0, b"Hello World!\n")?,
+        ),
+        (
+            message(alloc, 15, 2, 0, &read(near(6), 5))?,
+            frame(alloc, 0, b"World")?,
+        ),
+        (
+            message(alloc, 15, 2, 0, &read(near(13), 5))?,
+            frame(alloc, 0, b"")?,
+        ),
+        (
+            message(alloc, 15, 2, 0, &read(farthest, 5))?,
+            frame(alloc, 0, b"")?,
+        ),
+        (
+            message(alloc, 15, 2, 0, &read(far, 5))?,
+            frame(alloc, 0xea, b"")?,
+        ),
+        (
+            message(alloc, 15, 3, 0, &read(near(0), 255))?,
+            frame(alloc, 0, &numbers)?,
+        ),
+        (
+            message(alloc, 15, 3, 0, &read(near(141), 100))?,
+            frame(alloc, 0, numbers.get(141..).unwrap_or(&[]))?,
+        ),
+        (
+            message(alloc, 15, 1, 0, &read(near(0), 5))?,
+            frame(alloc, 0xfe, b"")?,
+        ),
+    ];
+    serve_all(&rt, &cases)?;
+    Ok(())
+}
+
+#[test]
+fn forgets_and_whom_it_serves(rt: HostRuntime) -> Result<(), Fail> {
+    let alloc = rt.alloc();
+    let forget = message(alloc, 2, 2, 5, &[1, 0, 0, 0, 0, 0, 0, 0])?;
+    let short = message(alloc, 2, 2, 5, &[1, 0, 0, 0, 0, 0, 0])?;
+    let unknown = message(alloc, 7, 1, 5, b"")?;
+    let lookup = message(alloc, 1, 1, 5, b"big\0")?;
+    let of_root = message(alloc, 1, 1, 0, b"none\0")?;
+    let of_owner = message(alloc, 1, 1, 7, b"none\0")?;
+    let text = message(alloc, 15, 2, 5, &read(near(0), 100))?;
+    let no_entry = frame(alloc, 0xfe, b"")?;
+    let no_access = frame(alloc, 0xf3, b"")?;
+    let no_call = frame(alloc, 0xda, b"")?;
+    let greeting = frame(alloc, 0, b"Hello World!\n")?;
+    serves(
+        &rt,
+        SessionACL::Owner,
+        &[
+            &forget, &short, &unknown, &lookup, &of_root, &of_owner, &text,
+        ],
+        &[
+            &no_call, &no_call, &no_access, &no_access, &no_entry, &greeting,
+        ],
+        &[(RequestId(2), 1)],
+    )?;
+    serves(
+        &rt,
+        SessionACL::RootAndOwner,
+        &[&of_root, &of_owner, &lookup, &of_root, &of_root],
+        &[&no_entry, &no_entry, &no_access, &no_entry, &no_entry],
+        &[],
+    )?;
+    Ok(())
+}

@@ -1,0 +1,26 @@
+-- Another operation than INIT is answered by EIO.
+use Rattle.std.proofs.Common.{◌≡◌, ◌∙◌, sym, ap, subst, List, ℕ, Ok}
+use Rattle.std.specs.Prelude.{option_map}
+use Rattle.fuse_request.specs.InitOperation.{arguments_of}
+use Rattle.fuse_request.specs.Header.{header_of}
+use Rattle.fuse_request.specs.Operation.{operation, plain}
+use Rattle.fuse_reply.specs.Answer.Answer.{Error}
+use Rattle.fuse_reply.specs.Frame.{reply}
+use Rattle.fuse_reply.specs.declared.out.Out.TheVariants.{Frame}
+use Rattle.fuse_session.specs.Shakes.{GreetsAs}
+use Rattle.fuse_session.specs.declared.handshake.Greeting.TheVariants as comes
+use Rattle.fuse_session.specs.declared.error.InvalidData.TheVariants as invalid
+use Rattle.fuse_session.specs.declared.error.SessionError.TheVariants as session
+use Rattle.fuse_session.proofs.ShakeSteps.{GreetsAs-other}
+use Rattle.fuse_session.proofs.handshake.greet.Goals as goal
+
+pub returns-in-None : goal.returns-in-None
+returns-in-None g c =
+    let h = header_of c.in-Ok.request in
+    let op = plain c.in-Ok-operation.operation in
+    subst (λ (n : ℕ). GreetsAs g.FS.Filesystem.may_init c.args.page_size c.args.filesystem.now c.args.filesystem.now c.args.message.now
+    (comes.Refused c.into_out.result (session.InvalidData (invalid.NotInit n)))) (sym c.opcode.ensures)
+    (GreetsAs-other g.FS.Filesystem.may_init c.args.page_size c.args.filesystem.now c.args.message.now h op c.into_out.result
+    c.in-Ok.ensures.0 (subst (λ (b : List ℕ). operation h.opcode b ≡ Ok op) c.in-Ok.ensures.1 c.in-Ok-operation.ensures.operation)
+    (sym c.init_of.ensures ∙ ap (λ r. option_map arguments_of r) c.in-None.is)
+    (let out = c.into_out.ensures in let error = c.error-reply.ensures.reply in let new = c.new.ensures in let id = c.unique.ensures in cc))

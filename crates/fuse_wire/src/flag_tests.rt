@@ -1,0 +1,234 @@
+// The names and values of `fuse.h`, of `poll(2)`, `renameat2(2)` and `access(2)`.
+use crate::{
+    AccessFlags, BsdFileFlags, CopyFileRangeFlags, CuseInitFlags, FattrFlags, FopenFlags,
+    FsyncFlags, GetattrFlags, InitFlags, IoctlFlags, PollEvents, PollFlags, ReadFlags,
+    ReleaseFlags, RenameFlags, WriteFlags,
+};
+use bitflags::Flags;
+use std::process::Abort;
+use std::test::Fail;
+
+// Says whether the names of a set and their bits are these.
+fn names<F: Flags<Bits = u32>>(rt: &impl Abort, expected: &[(&str, u32)]) {
+    let flags = F::flags();
+    assert_eq!(rt; flags.len(), expected.len());
+    for i in 0..flags.len() {
+        assert_eq!(rt; flags[i].name(), expected[i].0);
+        assert_eq!(rt; flags[i].value().bits(), expected[i].1);
+    }
+}
+
+// The same, where the names have the bits 0, 1, 2 and so on.
+fn names_in_order<F: Flags<Bits = u64>>(rt: &impl Abort, expected: &[&str]) {
+    let flags = F::flags();
+    assert_eq!(rt; flags.len(), expected.len());
+    let mut bit = 1u64;
+    for i in 0..flags.len() {
+        assert_eq!(rt; flags[i].name(), expected[i]);
+        assert_eq!(rt; flags[i].value().bits(), bit);
+        bit = bit.wrapping_mul(2);
+    }
+}
+
+const RENAME_FLAGS: [(&str, u32); 3] = [
+    ("RENAME_NOREPLACE", 1 << 0),
+    ("RENAME_EXCHANGE", 1 << 1),
+    ("RENAME_WHITEOUT", 1 << 2),
+];
+
+const POLL_EVENTS: [(&str, u32); 10] = [
+    ("POLLIN", 1 << 0),
+    ("POLLPRI", 1 << 1),
+    ("POLLOUT", 1 << 2),
+    ("POLLERR", 1 << 3),
+    ("POLLHUP", 1 << 4),
+    ("POLLNVAL", 1 << 5),
+    ("POLLRDNORM", 1 << 6),
+    ("POLLRDBAND", 1 << 7),
+    ("POLLWRNORM", 1 << 8),
+    ("POLLWRBAND", 1 << 9),
+];
+
+const FOPEN_FLAGS: [(&str, u32); 8] = [
+    ("FOPEN_DIRECT_IO", 1 << 0),
+    ("FOPEN_KEEP_CACHE", 1 << 1),
+    ("FOPEN_NONSEEKABLE", 1 << 2),
+    ("FOPEN_CACHE_DIR", 1 << 3),
+    ("FOPEN_STREAM", 1 << 4),
+    ("FOPEN_NOFLUSH", 1 << 5),
+    ("FOPEN_PARALLEL_DIRECT_WRITES", 1 << 6),
+    ("FOPEN_PASSTHROUGH", 1 << 7),
+];
+
+const IOCTL_FLAGS: [(&str, u32); 6] = [
+    ("FUSE_IOCTL_COMPAT", 1 << 0),
+    ("FUSE_IOCTL_UNRESTRICTED", 1 << 1),
+    ("FUSE_IOCTL_RETRY", 1 << 2),
+    ("FUSE_IOCTL_32BIT", 1 << 3),
+    ("FUSE_IOCTL_DIR", 1 << 4),
+    ("FUSE_IOCTL_COMPAT_X32", 1 << 5),
+];
+
+const WRITE_FLAGS: [(&str, u32); 3] = [
+    ("FUSE_WRITE_CACHE", 1 << 0),
+    ("FUSE_WRITE_LOCKOWNER", 1 << 1),
+    ("FUSE_WRITE_KILL_SUIDGID", 1 << 2),
+];
+
+const FATTR_FLAGS: [(&str, u32); 11] = [
+    ("FATTR_MODE", 1 << 0),
+    ("FATTR_UID", 1 << 1),
+    ("FATTR_GID", 1 << 2),
+    ("FATTR_SIZE", 1 << 3),
+    ("FATTR_ATIME", 1 << 4),
+    ("FATTR_MTIME", 1 << 5),
+    ("FATTR_FH", 1 << 6),
+    ("FATTR_ATIME_NOW", 1 << 7),
+    ("FATTR_MTIME_NOW", 1 << 8),
+    ("FATTR_LOCKOWNER", 1 << 9),
+    ("FATTR_CTIME", 1 << 10),
+];
+
+const RELEASE_FLAGS: [(&str, u32); 2] = [
+    ("FUSE_RELEASE_FLUSH", 1 << 0),
+    ("FUSE_RELEASE_FLOCK_UNLOCK", 1 << 1),
+];
+
+const FSYNC_FLAGS: [(&str, u32); 1] = [("FUSE_FSYNC_FDATASYNC", 1 << 0)];
+
+const POLL_FLAGS: [(&str, u32); 1] = [("FUSE_POLL_SCHEDULE_NOTIFY", 1 << 0)];
+
+const READ_FLAGS: [(&str, u32); 1] = [("FUSE_READ_LOCKOWNER", 1 << 1)];
+
+const GETATTR_FLAGS: [(&str, u32); 1] = [("FUSE_GETATTR_FH", 1 << 0)];
+
+const CUSE_INIT_FLAGS: [(&str, u32); 1] = [("CUSE_UNRESTRICTED_IOCTL", 1 << 0)];
+
+const INIT_FLAGS: [&str; 43] = [
+    "FUSE_ASYNC_READ",
+    "FUSE_POSIX_LOCKS",
+    "FUSE_FILE_OPS",
+    "FUSE_ATOMIC_O_TRUNC",
+    "FUSE_EXPORT_SUPPORT",
+    "FUSE_BIG_WRITES",
+    "FUSE_DONT_MASK",
+    "FUSE_SPLICE_WRITE",
+    "FUSE_SPLICE_MOVE",
+    "FUSE_SPLICE_READ",
+    "FUSE_FLOCK_LOCKS",
+    "FUSE_HAS_IOCTL_DIR",
+    "FUSE_AUTO_INVAL_DATA",
+    "FUSE_DO_READDIRPLUS",
+    "FUSE_READDIRPLUS_AUTO",
+    "FUSE_ASYNC_DIO",
+    "FUSE_WRITEBACK_CACHE",
+    "FUSE_NO_OPEN_SUPPORT",
+    "FUSE_PARALLEL_DIROPS",
+    "FUSE_HANDLE_KILLPRIV",
+    "FUSE_POSIX_ACL",
+    "FUSE_ABORT_ERROR",
+    "FUSE_MAX_PAGES",
+    "FUSE_CACHE_SYMLINKS",
+    "FUSE_NO_OPENDIR_SUPPORT",
+    "FUSE_EXPLICIT_INVAL_DATA",
+    "FUSE_MAP_ALIGNMENT",
+    "FUSE_SUBMOUNTS",
+    "FUSE_HANDLE_KILLPRIV_V2",
+    "FUSE_SETXATTR_EXT",
+    "FUSE_INIT_EXT",
+    "FUSE_INIT_RESERVED",
+    "FUSE_SECURITY_CTX",
+    "FUSE_HAS_INODE_DAX",
+    "FUSE_CREATE_SUPP_GROUP",
+    "FUSE_HAS_EXPIRE_ONLY",
+    "FUSE_DIRECT_IO_ALLOW_MMAP",
+    "FUSE_PASSTHROUGH",
+    "FUSE_NO_EXPORT_SUPPORT",
+    "FUSE_HAS_RESEND",
+    "FUSE_ALLOW_IDMAP",
+    "FUSE_OVER_IO_URING",
+    "FUSE_REQUEST_TIMEOUT",
+];
+
+const ACCESS_FLAGS: [(AccessFlags, i32); 4] = [
+    (AccessFlags::F_OK, 0),
+    (AccessFlags::X_OK, 1),
+    (AccessFlags::W_OK, 2),
+    (AccessFlags::R_OK, 4),
+];
+
+#[test]
+fn names_and_values(rt: HostRuntime) {
+    names::<RenameFlags>(&rt, &RENAME_FLAGS);
+    names::<PollEvents>(&rt, &POLL_EVENTS);
+    names::<FopenFlags>(&rt, &FOPEN_FLAGS);
+    names::<IoctlFlags>(&rt, &IOCTL_FLAGS);
+    names::<WriteFlags>(&rt, &WRITE_FLAGS);
+    names::<FattrFlags>(&rt, &FATTR_FLAGS);
+    names::<ReleaseFlags>(&rt, &RELEASE_FLAGS);
+    names::<FsyncFlags>(&rt, &FSYNC_FLAGS);
+    names::<PollFlags>(&rt, &POLL_FLAGS);
+    names::<ReadFlags>(&rt, &READ_FLAGS);
+    names::<GetattrFlags>(&rt, &GETATTR_FLAGS);
+    names::<CuseInitFlags>(&rt, &CUSE_INIT_FLAGS);
+    names::<BsdFileFlags>(&rt, &[]);
+    names_in_order::<CopyFileRangeFlags>(&rt, &[]);
+    names_in_order::<InitFlags>(&rt, &INIT_FLAGS);
+    for (flag, value) in ACCESS_FLAGS {
+        assert_eq!(rt; flag.bits(), value);
+    }
+}
+
+#[test]
+fn texts_are_decimal(rt: HostRuntime) -> Result<(), Fail> {
+    let texts = [
+        (
+            format!(in rt.alloc(); "{}", AccessFlags::from_bits_retain(-2))?,
+            "-2",
+        ),
+        (format!(in rt.alloc(); "{}", PollEvents::POLLWRBAND)?, "512"),
+        (format!(in rt.alloc(); "{}", RenameFlags::all())?, "7"),
+        (format!(in rt.alloc(); "{}", CuseInitFlags::all())?, "1"),
+        (format!(in rt.alloc(); "{}", FsyncFlags::empty())?, "0"),
+        (
+            format!(in rt.alloc(); "{}", IoctlFlags::FUSE_IOCTL_32BIT)?,
+            "8",
+        ),
+        (
+            format!(in rt.alloc(); "{}", PollFlags::from_bits_retain(4294967295))?,
+            "4294967295",
+        ),
+        (format!(in rt.alloc(); "{}", ReleaseFlags::all())?, "3"),
+    ];
+    for (text, expected) in &texts {
+        assert_eq!(rt; text.as_str(), *expected);
+    }
+    Ok(())
+}
+
+#[test]
+fn sets_go_bit_by_bit(rt: HostRuntime) -> Result<(), Fail> {
+    let size = FattrFlags::FATTR_SIZE;
+    let odd = FattrFlags::from_bits_retain(0x1008);
+    assert_eq!(rt; FattrFlags::all().bits(), 0x7ff);
+    assert_eq!(rt; FattrFlags::from_bits(0x1008), None);
+    assert_eq!(rt; FattrFlags::from_bits(0x8), Some(size));
+    assert_eq!(rt; FattrFlags::from_bits_truncate(0x1008), size);
+    assert_eq!(rt; odd.complement().bits(), 0x7f7);
+    assert_eq!(rt; odd.difference(size).bits(), 0x1000);
+    assert!(rt; odd.contains(size) && !size.contains(odd) && size.intersects(odd));
+    assert!(rt; FattrFlags::from_bits_retain(0x17ff).is_all() && !odd.is_all());
+    assert_eq!(rt; ReadFlags::all().bits(), 2);
+    assert!(rt; BsdFileFlags::empty().is_all() && BsdFileFlags::from_bits(1).is_none());
+    assert_eq!(rt;
+        CopyFileRangeFlags::from_bits_retain(5).complement().bits(),
+        0
+    );
+    let read_write = AccessFlags::R_OK.union(AccessFlags::W_OK);
+    assert_eq!(rt; read_write.bits(), 6);
+    assert!(rt;
+        read_write.contains(AccessFlags::R_OK) && read_write.contains(AccessFlags::empty())
+    );
+    assert!(rt; !AccessFlags::R_OK.contains(read_write) && !read_write.contains(AccessFlags::X_OK));
+    Ok(())
+}
