@@ -1,287 +1,164 @@
-// Each part of fixed size, fetched from bytes of which each is one more than the last.
-use crate::{
-    AccessArguments, ArgumentIterator, BMapArguments, BatchForgetArguments, CopyFileRangeArguments,
-    CreateArguments, FAllocateArguments, FSyncArguments, FlushArguments, GetAttrArguments,
-    GetLkArguments, GetXAttrArguments, IoCtlArguments, LseekArguments, MkDirArguments,
-    MkNodArguments, OpenArguments, PollArguments, ReadArguments, ReleaseArguments,
-    Rename2Arguments, SetAttrArguments, SetXAttrArguments, WriteArguments,
-};
-use std::test::Fail;
+// Each part of fixed size, fetched from bytes of which each 4 are their number, from 1.
+use crate::ArgumentIterator;
+use std::alloc::{AllocError, Global};
 
-/// A part, as it was fetched.
-#[derive(Clone, Copy, Debug, PartialEq, Eq)]
-enum Part {
-    Number(u64),
-    CuseInit(()),
-    GetAttr(GetAttrArguments),
-    SetAttr(SetAttrArguments),
-    MkNod(MkNodArguments),
-    MkDir(MkDirArguments),
-    Rename2(Rename2Arguments),
-    Access(AccessArguments),
-    SetXAttr(SetXAttrArguments),
-    GetXAttr(GetXAttrArguments),
-    BatchForget(BatchForgetArguments),
-    Open(OpenArguments),
-    Create(CreateArguments),
-    Read(ReadArguments),
-    Write(WriteArguments),
-    Flush(FlushArguments),
-    FSync(FSyncArguments),
-    Release(ReleaseArguments),
-    FAllocate(FAllocateArguments),
-    Lseek(LseekArguments),
-    CopyFileRange(CopyFileRangeArguments),
-    GetLk(GetLkArguments),
-    BMap(BMapArguments),
-    IoCtl(IoCtlArguments),
-    Poll(PollArguments),
-}
-
-/// Fetches the part that this one is.
-fn fetch_as(part: Part, arguments: &mut ArgumentIterator) -> Option<Part> {
-    match part {
-        Part::Number(_) => arguments.fetch_u64().map(Part::Number),
-        Part::CuseInit(_) => arguments.fetch_cuse_init().map(Part::CuseInit),
-        Part::GetAttr(_) => arguments.fetch_getattr().map(Part::GetAttr),
-        Part::SetAttr(_) => arguments.fetch_setattr().map(Part::SetAttr),
-        Part::MkNod(_) => arguments.fetch_mknod().map(Part::MkNod),
-        Part::MkDir(_) => arguments.fetch_mkdir().map(Part::MkDir),
-        Part::Rename2(_) => arguments.fetch_rename2().map(Part::Rename2),
-        Part::Access(_) => arguments.fetch_access().map(Part::Access),
-        Part::SetXAttr(_) => arguments.fetch_setxattr().map(Part::SetXAttr),
-        Part::GetXAttr(_) => arguments.fetch_getxattr().map(Part::GetXAttr),
-        Part::BatchForget(_) => arguments.fetch_batch_forget().map(Part::BatchForget),
-        Part::Open(_) => arguments.fetch_open().map(Part::Open),
-        Part::Create(_) => arguments.fetch_create().map(Part::Create),
-        Part::Read(_) => arguments.fetch_read().map(Part::Read),
-        Part::Write(_) => arguments.fetch_write().map(Part::Write),
-        Part::Flush(_) => arguments.fetch_flush().map(Part::Flush),
-        Part::FSync(_) => arguments.fetch_fsync().map(Part::FSync),
-        Part::Release(_) => arguments.fetch_release().map(Part::Release),
-        Part::FAllocate(_) => arguments.fetch_fallocate().map(Part::FAllocate),
-        Part::Lseek(_) => arguments.fetch_lseek().map(Part::Lseek),
-        Part::CopyFileRange(_) => arguments.fetch_copy_file_range().map(Part::CopyFileRange),
-        Part::GetLk(_) => arguments.fetch_getlk().map(Part::GetLk),
-        Part::BMap(_) => arguments.fetch_bmap().map(Part::BMap),
-        Part::IoCtl(_) => arguments.fetch_ioctl().map(Part::IoCtl),
-        Part::Poll(_) => arguments.fetch_poll().map(Part::Poll),
+/// The part of a request of this opcode, as text.
+fn fetched(
+    alloc: Global,
+    opcode: u16,
+    arguments: &mut ArgumentIterator<'_>,
+) -> Result<String, AllocError> {
+    match opcode {
+        2 => format!(in alloc; "{:?}", arguments.fetch_u64()),
+        3 => format!(in alloc; "{:?}", arguments.fetch_getattr()),
+        4 => format!(in alloc; "{:?}", arguments.fetch_setattr()),
+        8 => format!(in alloc; "{:?}", arguments.fetch_mknod()),
+        9 => format!(in alloc; "{:?}", arguments.fetch_mkdir()),
+        14 => format!(in alloc; "{:?}", arguments.fetch_open()),
+        15 => format!(in alloc; "{:?}", arguments.fetch_read()),
+        16 => format!(in alloc; "{:?}", arguments.fetch_write()),
+        18 => format!(in alloc; "{:?}", arguments.fetch_release()),
+        20 => format!(in alloc; "{:?}", arguments.fetch_fsync()),
+        21 => format!(in alloc; "{:?}", arguments.fetch_setxattr()),
+        22 => format!(in alloc; "{:?}", arguments.fetch_getxattr()),
+        25 => format!(in alloc; "{:?}", arguments.fetch_flush()),
+        31 => format!(in alloc; "{:?}", arguments.fetch_getlk()),
+        34 => format!(in alloc; "{:?}", arguments.fetch_access()),
+        35 => format!(in alloc; "{:?}", arguments.fetch_create()),
+        37 => format!(in alloc; "{:?}", arguments.fetch_bmap()),
+        39 => format!(in alloc; "{:?}", arguments.fetch_ioctl()),
+        40 => format!(in alloc; "{:?}", arguments.fetch_poll()),
+        42 => format!(in alloc; "{:?}", arguments.fetch_batch_forget()),
+        43 => format!(in alloc; "{:?}", arguments.fetch_fallocate()),
+        45 => format!(in alloc; "{:?}", arguments.fetch_rename2()),
+        46 => format!(in alloc; "{:?}", arguments.fetch_lseek()),
+        47 => format!(in alloc; "{:?}", arguments.fetch_copy_file_range()),
+        _ => format!(in alloc; "{:?}", arguments.fetch_cuse_init()),
     }
 }
 
-/// The bytes from 1 on.
-const BYTES: [u8; 91] = [
-    1, 2, 3, 4, 5, 6, 7, 8, 9, 10, 11, 12, 13, 14, 15, 16, 17, 18, 19, 20, 21, 22, 23, 24, 25, 26,
-    27, 28, 29, 30, 31, 32, 33, 34, 35, 36, 37, 38, 39, 40, 41, 42, 43, 44, 45, 46, 47, 48, 49, 50,
-    51, 52, 53, 54, 55, 56, 57, 58, 59, 60, 61, 62, 63, 64, 65, 66, 67, 68, 69, 70, 71, 72, 73, 74,
-    75, 76, 77, 78, 79, 80, 81, 82, 83, 84, 85, 86, 87, 88, 89, 90, 91,
-];
+/// Bytes of which each 4 are their number, from 1.
+fn numbered() -> [u8; 91] {
+    let mut bytes = [0; 91];
+    for (place, byte) in (0..91).zip(bytes.iter_mut()) {
+        *byte = match place % 4 {
+            0 => place / 4 + 1,
+            _ => 0,
+        };
+    }
+    bytes
+}
 
-/// How many bytes a part has, and what it is at the front of these bytes.
-const PARTS: [(usize, Part); 25] = [
-    (8, Part::Number(0x0807_0605_0403_0201)),
-    (64, Part::CuseInit(())),
+/// Opcode, how many bytes its part has, and what it is at the front of these bytes.
+const PARTS: [(u16, usize, &str); 25] = [
+    (2, 8, "Some(8589934593)"),
     (
+        3,
         16,
-        Part::GetAttr(GetAttrArguments {
-            getattr_flags: 0x0403_0201,
-            fh: 0x100f_0e0d_0c0b_0a09,
-        }),
+        "Some(GetAttrArguments { getattr_flags: 1, fh: 17179869187 })",
     ),
     (
+        4,
         88,
-        Part::SetAttr(SetAttrArguments {
-            valid: 0x0403_0201,
-            fh: 0x100f_0e0d_0c0b_0a09,
-            size: 0x1817_1615_1413_1211,
-            lock_owner: 0x201f_1e1d_1c1b_1a19,
-            atime: 0x2827_2625_2423_2221,
-            mtime: 0x302f_2e2d_2c2b_2a29,
-            ctime: 0x3837_3635_3433_3231,
-            atimensec: 0x3c3b_3a39,
-            mtimensec: 0x403f_3e3d,
-            ctimensec: 0x4443_4241,
-            mode: 0x4847_4645,
-            uid: 0x504f_4e4d,
-            gid: 0x5453_5251,
-        }),
+        "Some(SetAttrArguments { valid: 1, fh: 17179869187, size: 25769803781, lock_owner: 34359738375, atime: 42949672969, mtime: 51539607563, ctime: 60129542157, atimensec: 15, mtimensec: 16, ctimensec: 17, mode: 18, uid: 20, gid: 21 })",
     ),
+    (8, 16, "Some(MkNodArguments { mode: 1, rdev: 2, umask: 3 })"),
+    (9, 8, "Some(MkDirArguments { mode: 1, umask: 2 })"),
+    (14, 8, "Some(OpenArguments { flags: 1 })"),
     (
-        16,
-        Part::MkNod(MkNodArguments {
-            mode: 0x0403_0201,
-            rdev: 0x0807_0605,
-            umask: 0x0c0b_0a09,
-        }),
-    ),
-    (
-        8,
-        Part::MkDir(MkDirArguments {
-            mode: 0x0403_0201,
-            umask: 0x0807_0605,
-        }),
-    ),
-    (
-        16,
-        Part::Rename2(Rename2Arguments {
-            newdir: 0x0807_0605_0403_0201,
-            flags: 0x0c0b_0a09,
-        }),
-    ),
-    (8, Part::Access(AccessArguments { mask: 0x0403_0201 })),
-    (
-        8,
-        Part::SetXAttr(SetXAttrArguments {
-            size: 0x0403_0201,
-            flags: 0x0807_0605,
-        }),
-    ),
-    (8, Part::GetXAttr(GetXAttrArguments { size: 0x0403_0201 })),
-    (
-        8,
-        Part::BatchForget(BatchForgetArguments { count: 0x0403_0201 }),
-    ),
-    (8, Part::Open(OpenArguments { flags: 0x0403_0201 })),
-    (
-        16,
-        Part::Create(CreateArguments {
-            flags: 0x0403_0201,
-            mode: 0x0807_0605,
-            umask: 0x0c0b_0a09,
-        }),
-    ),
-    (
+        15,
         40,
-        Part::Read(ReadArguments {
-            fh: 0x0807_0605_0403_0201,
-            offset: 0x100f_0e0d_0c0b_0a09,
-            size: 0x1413_1211,
-            read_flags: 0x1817_1615,
-            lock_owner: 0x201f_1e1d_1c1b_1a19,
-            flags: 0x2423_2221,
-        }),
-    ),
-    (
-        40,
-        Part::Write(WriteArguments {
-            fh: 0x0807_0605_0403_0201,
-            offset: 0x100f_0e0d_0c0b_0a09,
-            size: 0x1413_1211,
-            write_flags: 0x1817_1615,
-            lock_owner: 0x201f_1e1d_1c1b_1a19,
-            flags: 0x2423_2221,
-        }),
-    ),
-    (
-        24,
-        Part::Flush(FlushArguments {
-            fh: 0x0807_0605_0403_0201,
-            lock_owner: 0x1817_1615_1413_1211,
-        }),
+        "Some(ReadArguments { fh: 8589934593, offset: 17179869187, size: 5, read_flags: 6, lock_owner: 34359738375, flags: 9 })",
     ),
     (
         16,
-        Part::FSync(FSyncArguments {
-            fh: 0x0807_0605_0403_0201,
-            fsync_flags: 0x0c0b_0a09,
-        }),
+        40,
+        "Some(WriteArguments { fh: 8589934593, offset: 17179869187, size: 5, write_flags: 6, lock_owner: 34359738375, flags: 9 })",
     ),
     (
+        18,
         24,
-        Part::Release(ReleaseArguments {
-            fh: 0x0807_0605_0403_0201,
-            flags: 0x0c0b_0a09,
-            release_flags: 0x100f_0e0d,
-            lock_owner: 0x1817_1615_1413_1211,
-        }),
+        "Some(ReleaseArguments { fh: 8589934593, flags: 3, release_flags: 4, lock_owner: 25769803781 })",
     ),
     (
-        32,
-        Part::FAllocate(FAllocateArguments {
-            fh: 0x0807_0605_0403_0201,
-            offset: 0x100f_0e0d_0c0b_0a09,
-            length: 0x1817_1615_1413_1211,
-            mode: 0x1c1b_1a19,
-        }),
+        20,
+        16,
+        "Some(FSyncArguments { fh: 8589934593, fsync_flags: 3 })",
     ),
+    (21, 8, "Some(SetXAttrArguments { size: 1, flags: 2 })"),
+    (22, 8, "Some(GetXAttrArguments { size: 1 })"),
     (
+        25,
         24,
-        Part::Lseek(LseekArguments {
-            fh: 0x0807_0605_0403_0201,
-            offset: 0x100f_0e0d_0c0b_0a09,
-            whence: 0x1413_1211,
-        }),
+        "Some(FlushArguments { fh: 8589934593, lock_owner: 25769803781 })",
     ),
     (
-        56,
-        Part::CopyFileRange(CopyFileRangeArguments {
-            fh_in: 0x0807_0605_0403_0201,
-            off_in: 0x100f_0e0d_0c0b_0a09,
-            nodeid_out: 0x1817_1615_1413_1211,
-            fh_out: 0x201f_1e1d_1c1b_1a19,
-            off_out: 0x2827_2625_2423_2221,
-            len: 0x302f_2e2d_2c2b_2a29,
-            flags: 0x3837_3635_3433_3231,
-        }),
-    ),
-    (
+        31,
         48,
-        Part::GetLk(GetLkArguments {
-            fh: 0x0807_0605_0403_0201,
-            owner: 0x100f_0e0d_0c0b_0a09,
-            start: 0x1817_1615_1413_1211,
-            end: 0x201f_1e1d_1c1b_1a19,
-            typ: 0x2423_2221,
-            pid: 0x2827_2625,
-            lk_flags: 0x2c2b_2a29,
-        }),
+        "Some(GetLkArguments { fh: 8589934593, owner: 17179869187, start: 25769803781, end: 34359738375, typ: 9, pid: 10, lk_flags: 11 })",
     ),
+    (34, 8, "Some(AccessArguments { mask: 1 })"),
     (
+        35,
         16,
-        Part::BMap(BMapArguments {
-            block: 0x0807_0605_0403_0201,
-            blocksize: 0x0c0b_0a09,
-        }),
+        "Some(CreateArguments { flags: 1, mode: 2, umask: 3 })",
     ),
     (
+        37,
+        16,
+        "Some(BMapArguments { block: 8589934593, blocksize: 3 })",
+    ),
+    (
+        39,
         32,
-        Part::IoCtl(IoCtlArguments {
-            fh: 0x0807_0605_0403_0201,
-            flags: 0x0c0b_0a09,
-            cmd: 0x100f_0e0d,
-            arg: 0x1817_1615_1413_1211,
-            in_size: 0x1c1b_1a19,
-            out_size: 0x201f_1e1d,
-        }),
+        "Some(IoCtlArguments { fh: 8589934593, flags: 3, cmd: 4, arg: 25769803781, in_size: 7, out_size: 8 })",
     ),
     (
+        40,
         24,
-        Part::Poll(PollArguments {
-            fh: 0x0807_0605_0403_0201,
-            kh: 0x100f_0e0d_0c0b_0a09,
-            flags: 0x1413_1211,
-            events: 0x1817_1615,
-        }),
+        "Some(PollArguments { fh: 8589934593, kh: 17179869187, flags: 5, events: 6 })",
     ),
+    (42, 8, "Some(BatchForgetArguments { count: 1 })"),
+    (
+        43,
+        32,
+        "Some(FAllocateArguments { fh: 8589934593, offset: 17179869187, length: 25769803781, mode: 7 })",
+    ),
+    (
+        45,
+        16,
+        "Some(Rename2Arguments { newdir: 8589934593, flags: 3 })",
+    ),
+    (
+        46,
+        24,
+        "Some(LseekArguments { fh: 8589934593, offset: 17179869187, whence: 5 })",
+    ),
+    (
+        47,
+        56,
+        "Some(CopyFileRangeArguments { fh_in: 8589934593, off_in: 17179869187, nodeid_out: 25769803781, fh_out: 34359738375, off_out: 42949672969, len: 51539607563, flags: 60129542157 })",
+    ),
+    (4096, 64, "Some(())"),
 ];
 
 #[test]
-fn fetches_each_part(rt: HostRuntime) -> Result<(), Fail> {
-    for (size, part) in PARTS {
+fn fetches_each_part(rt: HostRuntime) -> Result<(), AllocError> {
+    let alloc = rt.alloc();
+    let bytes = numbered();
+    for (opcode, size, expected) in PARTS {
         for length in 0..size {
-            let mut arguments = ArgumentIterator::new(BYTES.get(..length).unwrap_or(&[]));
-            assert_eq!(rt;
-                fetch_as(part, &mut arguments),
-                None,
-                "of {length}: {part:?}"
-            );
-            assert_eq!(rt; arguments.len(), length, "of {length}: {part:?}");
+            let mut arguments = ArgumentIterator::new(bytes.get(..length).unwrap_or(&[]));
+            let found = fetched(alloc, opcode, &mut arguments)?;
+            assert_eq!(rt; found.as_str(), "None", "{opcode} of {length}");
+            assert_eq!(rt; arguments.len(), length, "{opcode} of {length}");
         }
         for more in [0, 3] {
-            let front = BYTES.get(..size.saturating_add(more)).unwrap_or(&[]);
+            let front = bytes.get(..size.saturating_add(more)).unwrap_or(&[]);
             let mut arguments = ArgumentIterator::new(front);
-            assert_eq!(rt; fetch_as(part, &mut arguments), Some(part));
-            assert_eq!(rt; arguments.len(), more, "behind {part:?}");
+            let found = fetched(alloc, opcode, &mut arguments)?;
+            assert_eq!(rt; found.as_str(), expected);
+            assert_eq!(rt; arguments.len(), more, "behind that of {opcode}");
         }
     }
     Ok(())

@@ -1,14 +1,16 @@
 -- Frames: what their fields read, and which of them are replies.
-use Rattle.std.proofs.Common.{◌≡◌, ◌≤◌, ◌<◌, ◌+◌, ◌-◌, ◌^◌, ◌++◌, ◌&&◌, ℕ, ℤ, pos, zero, suc, List, [], false, length, ap, sym, ◌∙◌, arith, negsuc, nat_lt, lit<, inl, inr, subst}
+use Rattle.std.proofs.Common.{◌≡◌, ◌≤◌, ◌<◌, ◌+◌, ◌-◌, ◌^◌, ◌++◌, ◌&&◌, ℕ, ℤ, pos, zero, suc, List, [], false, length, ap, sym, ◌∙◌, arith, negsuc, nat_lt, lit<, inl, inr, subst, FitsSigned}
 use Rattle.std.proofs.Math.Bool.{and-false}
 use Rattle.std.proofs.lemmas.Bool.{le-ltb}
-use Rattle.std.specs.Int.{w32, w64, to_le_bytes, cast_unsigned}
+use Rattle.std.proofs.lemmas.Int.{to_z-of_z}
+use Rattle.std.proofs.Math.Facts.{Fits-of_z}
+use Rattle.std.specs.Int.{w32, w64, to_le_bytes, cast_unsigned, cast_signed}
 use Rattle.fuse_wire.specs.Numbers.{number}
 use Rattle.fuse_wire.specs.Frames.{IsFrame}
 use Rattle.fuse_wire.proofs.NumberLaws.{number-to_le_bytes_4, number-append_right}
 use Rattle.fuse_reply.specs.Answer.{Answer, IsAnswer}
 use Rattle.fuse_reply.specs.Answer.Answer.{Error, Empty, Data, Entry, Attr}
-use Rattle.fuse_reply.specs.Frame.{frame, reply, payload, status, is_set_aside}
+use Rattle.fuse_reply.specs.Frame.{frame, reply, payload, status, frame_status, is_set_aside}
 use Rattle.fuse_reply.specs.Attributes.{entry_payload, attr_payload}
 use Rattle.fuse_reply.specs.Reply.{Replies}
 use Rattle.fuse_reply.specs.declared.out.Out.TheVariants.{Frame}
@@ -39,6 +41,11 @@ number-frame_status id status p fits =
     number-append_right (to_le_bytes w32 (16 + length p)) (to_le_bytes w32 (cast_unsigned w32 status) ++ to_le_bytes w64 id ++ p) 0 4
     ∙ number-to_le_bytes_4 (cast_unsigned w32 status) (to_le_bytes w64 id ++ p) fits
 
+-- a frame's status is the one that it was made of
+pub frame_status-frame : (id : ℕ) (status : ℤ) (p : List ℕ) → FitsSigned w32 status → frame_status (frame id status p) ≡ status
+frame_status-frame id status p fits =
+    ap (cast_signed w32) (number-frame_status id status p (Fits-of_z fits).fits) ∙ to_z-of_z w32 status fits
+
 -- a frame whose status is zero is a reply
 pub not_set_aside-frame_zero : (id : ℕ) (p : List ℕ) → is_set_aside (frame id (pos 0) p) ≡ false
 not_set_aside-frame_zero id p = ap (λ n. nat_lt 0 n && nat_lt n (2 ^ 31)) (number-frame_status id (pos 0) p (omega arith))
@@ -59,6 +66,19 @@ not_set_aside-reply id (Data bytes) valid = not_set_aside-frame_zero id bytes
 not_set_aside-reply id (Entry entry_valid attr_valid generation attr) valid =
     not_set_aside-frame_zero id (entry_payload entry_valid attr_valid generation attr)
 not_set_aside-reply id (Attr valid attr) fits = not_set_aside-frame_zero id (attr_payload valid attr)
+
+-- the status of an answer is in the range of 4 bytes
+status-fits : (a : Answer) → IsAnswer a → FitsSigned w32 (status a)
+status-fits (Error zero) valid = omega arith
+status-fits (Error (suc errno)) valid = omega (arith, valid.1)
+status-fits Empty valid = omega arith
+status-fits (Data bytes) valid = omega arith
+status-fits (Entry entry_valid attr_valid generation attr) valid = omega arith
+status-fits (Attr valid attr) fits = omega arith
+
+-- the status of a reply is its answer's
+pub frame_status-reply : (id : ℕ) (a : Answer) → IsAnswer a → frame_status (reply id a) ≡ status a
+frame_status-reply id a valid = frame_status-frame id (status a) (payload a) (status-fits a valid)
 
 -- a reply is one frame on a stream
 pub is_frame-reply : (id : ℕ) (a : Answer) → IsAnswer a → IsFrame (reply id a)

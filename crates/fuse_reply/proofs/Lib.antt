@@ -1,3 +1,4 @@
 pub mod FrameLength
 pub mod PayloadLength
 pub mod FrameLaws
+pub mod Splitting

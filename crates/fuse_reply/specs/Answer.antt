@@ -1,5 +1,6 @@
 -- Answers to requests, as plain values.
-use Rattle.std.specs.Prelude.{ℕ, ◌<◌, ◌≤◌, ◌^◌, ◌*◌, ◌-◌, List, length, slice_index}
+use Rattle.std.specs.Prelude.{ℕ, ◌<◌, ◌≤◌, ◌^◌, ◌*◌, ◌-◌, List, length, slice_index, FitsSigned}
+use Rattle.std.specs.Int.{w128}
 use Rattle.fuse_wire.specs.declared.file_attr.FileAttr.{FileAttr}
 
 pub data Answer : Type 0 where
@@ -14,17 +15,22 @@ pub data Answer : Type 0 where
   -- attributes, and how many nanoseconds they hold
   Attr : (valid : ℕ) (attr : FileAttr) → Answer
 
--- the numbers of attributes, each in the range of its type; times have no range here, since those that are out of it are sent as its ends
+-- the numbers of attributes, each in the range of its type
 pub record IsAttr (attr : FileAttr) : Type 0 where
   pub ino : attr.ino.0 < 2 ^ 64
   pub size : attr.size < 2 ^ 64
   pub blocks : attr.blocks < 2 ^ 64
+  pub atime : FitsSigned w128 attr.atime.0
+  pub mtime : FitsSigned w128 attr.mtime.0
+  pub ctime : FitsSigned w128 attr.ctime.0
+  pub crtime : FitsSigned w128 attr.crtime.0
   pub perm : attr.perm < 2 ^ 16
   pub nlink : attr.nlink < 2 ^ 32
   pub uid : attr.uid < 2 ^ 32
   pub gid : attr.gid < 2 ^ 32
   pub rdev : attr.rdev < 2 ^ 32
   pub blksize : attr.blksize < 2 ^ 32
+  pub flags : attr.flags < 2 ^ 32
 
 -- a span of nanoseconds whose seconds are below 2^64
 abbrev pub IsSpan : ℕ → Type 0

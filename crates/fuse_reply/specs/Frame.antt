@@ -1,8 +1,8 @@
 -- Frames: a header (`struct fuse_out_header` of `fuse.h`) and a payload.
-use Rattle.std.specs.Prelude.{ℕ, ◌+◌, ◌^◌, ◌++◌, ◌&&◌, List, [], Bool, length, nat_lt, ℤ, pos}
+use Rattle.std.specs.Prelude.{ℕ, ◌+◌, ◌^◌, ◌++◌, ◌&&◌, List, [], map, Bool, length, nat_lt, ℤ, pos}
 use Rattle.std.specs.Int.{w32, w64, to_le_bytes, cast_unsigned}
 use Rattle.std.specs.Prelude.{neg_ℤ}
-use Rattle.fuse_wire.specs.Numbers.{number}
+use Rattle.fuse_wire.specs.Numbers.{number, signed}
 use Rattle.fuse_reply.specs.Answer.{Answer}
 use Rattle.fuse_reply.specs.Answer.Answer.{Error, Empty, Data, Entry, Attr}
 use Rattle.fuse_reply.specs.Attributes.{entry_payload, attr_payload}
@@ -33,6 +33,14 @@ status (Attr valid attr) = pos 0
 -- the frame that carries an answer to the request of that id
 abbrev pub reply : (id : ℕ) → Answer → List ℕ
 reply id answer = frame id (status answer) (payload answer)
+
+-- the frames of answers, each with the id of its request
+abbrev pub replies : List (ℕ × Answer) → List (List ℕ)
+replies = map (λ answered. reply answered.0 answered.1)
+
+-- the status of a frame: behind the length, in two's complement
+abbrev pub frame_status : List ℕ → ℤ
+frame_status f = signed w32 f 4
 
 -- A frame is set aside, and is no reply, where its status is positive.
 abbrev pub is_set_aside : List ℕ → Bool

@@ -1,6 +1,5 @@
 // The payloads that carry attributes of a file.
 ghost use Rattle.std.specs.Prelude.{◌≡◌, ◌+◌, ◌++◌, ◌/◌, ◌%◌, ◌<◌, ◌^◌, length};
-ghost use Rattle.std.specs.Int.{w32, w64, to_le_bytes};
 ghost use Rattle.fuse_reply.specs.Answer.{IsAttr, IsSpan, IsAnswer};
 ghost use Rattle.fuse_reply.specs.Answer.Answer.{Entry, Attr};
 ghost use Rattle.fuse_reply.specs.Attributes.{kind_bits, mode, size_fields, second_fields, narrow_fields, attr_block, entry_front, entry_payload, attr_front, attr_payload};
@@ -42,33 +41,14 @@ fn span_parts(span: &Duration) -> (u64, u32)
     ((all / SECOND) as u64, (all % SECOND) as u32)
 }
 
-/// The bytes of a number of 8 bytes, low byte first.
-fn eight_bytes(number: u64) -> [u8; 8]
-    ensures bytes { result ≡ to_le_bytes w64 number }
-    ensures range { number < 2 ^ 64 }
-{
-    number.to_le_bytes()
-}
-
-/// The bytes of a number of 4 bytes, low byte first.
-fn four_bytes(number: u32) -> [u8; 4]
-    ensures bytes { result ≡ to_le_bytes w32 number }
-    ensures range { number < 2 ^ 32 }
-{
-    number.to_le_bytes()
-}
-
 #[tactic(auto, unfolding(crate::specs::Attributes::size_fields))]
 /// The numbers of 8 bytes.
 fn size_bytes(attr: &FileAttr) -> [u8; 24]
-    ensures bytes { result ≡ size_fields attr.now }
-    ensures ino { attr.now.ino.0 < 2 ^ 64 }
-    ensures size { attr.now.size < 2 ^ 64 }
-    ensures blocks { attr.now.blocks < 2 ^ 64 }
+    ensures { result ≡ size_fields attr.now }
 {
-    let [i0, i1, i2, i3, i4, i5, i6, i7] = eight_bytes(attr.ino.0);
-    let [s0, s1, s2, s3, s4, s5, s6, s7] = eight_bytes(attr.size);
-    let [b0, b1, b2, b3, b4, b5, b6, b7] = eight_bytes(attr.blocks);
+    let [i0, i1, i2, i3, i4, i5, i6, i7] = attr.ino.0.to_le_bytes();
+    let [s0, s1, s2, s3, s4, s5, s6, s7] = attr.size.to_le_bytes();
+    let [b0, b1, b2, b3, b4, b5, b6, b7] = attr.blocks.to_le_bytes();
     [
         i0, i1, i2, i3, i4, i5, i6, i7, s0, s1, s2, s3, s4, s5, s6, s7, b0, b1, b2, b3, b4, b5, b6,
         b7,
@@ -92,28 +72,27 @@ fn second_bytes(atime: i64, mtime: i64, ctime: i64) -> [u8; 24]
 #[tactic(auto, unfolding(crate::specs::Attributes::narrow_fields))]
 /// The nanoseconds of the three times, and the numbers of 4 bytes.
 fn narrow_bytes(atimensec: u32, mtimensec: u32, ctimensec: u32, attr: &FileAttr) -> [u8; 40]
-    ensures bytes { result ≡ narrow_fields atimensec mtimensec ctimensec attr.now }
-    ensures perm { attr.now.perm < 2 ^ 16 }
-    ensures nlink { attr.now.nlink < 2 ^ 32 }
-    ensures uid { attr.now.uid < 2 ^ 32 }
-    ensures gid { attr.now.gid < 2 ^ 32 }
-    ensures rdev { attr.now.rdev < 2 ^ 32 }
-    ensures blksize { attr.now.blksize < 2 ^ 32 }
+    ensures { result ≡ narrow_fields atimensec mtimensec ctimensec attr.now }
 {
     let [a0, a1, a2, a3] = atimensec.to_le_bytes();
     let [m0, m1, m2, m3] = mtimensec.to_le_bytes();
     let [c0, c1, c2, c3] = ctimensec.to_le_bytes();
     let [p0, p1, p2, p3] = mode_of(attr.kind, attr.perm).to_le_bytes();
-    let [n0, n1, n2, n3] = four_bytes(attr.nlink);
-    let [u0, u1, u2, u3] = four_bytes(attr.uid);
-    let [g0, g1, g2, g3] = four_bytes(attr.gid);
-    let [r0, r1, r2, r3] = four_bytes(attr.rdev);
-    let [z0, z1, z2, z3] = four_bytes(attr.blksize);
+    let [n0, n1, n2, n3] = attr.nlink.to_le_bytes();
+    let [u0, u1, u2, u3] = attr.uid.to_le_bytes();
+    let [g0, g1, g2, g3] = attr.gid.to_le_bytes();
+    let [r0, r1, r2, r3] = attr.rdev.to_le_bytes();
+    let [z0, z1, z2, z3] = attr.blksize.to_le_bytes();
     [
         a0, a1, a2, a3, m0, m1, m2, m3, c0, c1, c2, c3, p0, p1, p2, p3, n0, n1, n2, n3, u0, u1, u2,
         u3, g0, g1, g2, g3, r0, r1, r2, r3, z0, z1, z2, z3, 0, 0, 0, 0,
     ]
 }
+
+/// Each number of attributes is in the range of its type.
+fn in_range(attr: FileAttr)
+    ensures { IsAttr attr }
+{}
 
 #[tactic(auto, unfolding(crate::specs::Attributes::attr_block))]
 /// The attributes as a reply carries them: `struct fuse_attr`.
@@ -121,6 +100,7 @@ fn attr_bytes(attr: &FileAttr) -> [u8; 88]
     ensures bytes { result ≡ attr_block attr.now }
     ensures ranges { IsAttr attr.now }
 {
+    in_range(*attr);
     let (atime, atimensec) = time_from_system_time(&attr.atime);
     let (mtime, mtimensec) = time_from_system_time(&attr.mtime);
     let (ctime, ctimensec) = time_from_system_time(&attr.ctime);

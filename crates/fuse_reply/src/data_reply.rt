@@ -41,7 +41,7 @@ impl ReplyData {
         ensures inline { length bytes.now ≤ 144 → result ≡ Out.Frame (reply self (Data bytes.now)) }
     {
         let ReplyData { id, alloc } = self;
-        match Packed::new(alloc, id, 0, bytes) {
+        match Packed::of_data(alloc, id, bytes) {
             Ok(packed) => Replied::new(Out::Frame(packed)),
             Err(NoMemory) => Replied::failed(alloc, id, Errno::ENOMEM),
         }

@@ -7,6 +7,7 @@ mod attributes;
 mod data_reply;
 mod empty;
 mod entry;
+pub mod laws;
 mod no_memory;
 mod out;
 mod packed;

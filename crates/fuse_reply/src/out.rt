@@ -31,6 +31,7 @@ pub enum OutEnd {
 
 impl Out {
     /// A note in place of a frame.
+    #[inline(always)]
     pub fn note(id: RequestId, mark: u64) -> Out
         ensures { result ≡ Out.Note id mark }
     {
@@ -38,6 +39,7 @@ impl Out {
     }
 
     /// Hands it to a sink, once.
+    #[inline(always)]
     pub fn send<K: Sink>(self, sink: &mut K) -> OutEnd
         ensures { Delivers result self (K.told sink.old) (K.told sink.new) }
     {

@@ -46,7 +46,6 @@ fn header_of(id: RequestId, status: i32, payload: usize) -> [u8; 16]
 }
 
 impl Packed {
-    #[tactic(auto, unfolding(crate::specs::Frame::frame))]
     /// The frame of a request's id, a status and a payload. A payload of up to 144 bytes takes no memory.
     pub fn new(
         alloc: Global,
@@ -58,27 +57,47 @@ impl Packed {
         ensures ok { IfOk result (λ packed. packed ≡ frame id.0 status payload.now) }
         ensures inline { length payload.now ≤ 144 → IsOk result }
     {
-        match SmallVec::from_slice(alloc, payload) {
-            Ok(copied) => Ok(Packed {
-                header: header_of(id, status, payload.len()),
-                payload: copied,
-            }),
-            Err(_) => Err(NoMemory),
-        }
+        let copied = SmallVec::from_slice(alloc, payload)?;
+        Ok(Packed::around(id, status, copied))
     }
 
     #[tactic(auto, unfolding(crate::specs::Frame::frame))]
-    /// A frame without a payload.
-    pub(crate) fn bare(alloc: Global, id: RequestId, status: i32) -> Packed
-        ensures { result ≡ frame id.0 status [] }
+    /// The frame of a payload that is held already.
+    #[inline(always)]
+    fn around(id: RequestId, status: i32, payload: SmallVec<u8, INLINE_SIZE>) -> Packed
+        requires { length payload.items ≤ 2 ^ 32 - 17 }
+        ensures { result ≡ frame id.0 status payload.items }
     {
         Packed {
-            header: header_of(id, status, 0),
-            payload: SmallVec::new(alloc),
+            header: header_of(id, status, payload.len()),
+            payload,
         }
     }
 
+    /// The frame of status 0 and these bytes, as by `new`. It stands where they are copied to, so that they are not moved
+    /// again.
+    #[inline(always)]
+    pub(crate) fn of_data(alloc: Global, id: RequestId, bytes: &[u8]) -> Result<Packed, NoMemory>
+        requires { length bytes.now ≤ 2 ^ 32 - 17 }
+        ensures ok { IfOk result (λ packed. packed ≡ frame id.0 (pos 0) bytes.now) }
+        ensures inline { length bytes.now ≤ 144 → IsOk result }
+    {
+        let mut payload = SmallVec::new(alloc);
+        payload.reserve_exact(bytes.len())?;
+        payload.extend_from_slice(bytes)?;
+        Ok(Packed::around(id, 0, payload))
+    }
+
+    /// A frame without a payload.
+    #[inline(always)]
+    pub(crate) fn bare(alloc: Global, id: RequestId, status: i32) -> Packed
+        ensures { result ≡ frame id.0 status [] }
+    {
+        Packed::around(id, status, SmallVec::new(alloc))
+    }
+
     /// The frame of status 0 and a payload that is held without an allocation.
+    #[inline(always)]
     pub(crate) fn short(alloc: Global, id: RequestId, payload: &[u8]) -> Packed
         requires { length payload.now ≤ 144 }
         ensures { result ≡ frame id.0 (pos 0) payload.now }
@@ -87,6 +106,7 @@ impl Packed {
     }
 
     /// Sends the frame.
+    #[inline(always)]
     pub(crate) fn send<K: Sink>(&self, sink: &mut K) -> Sending
         ensures { Sends result self.now (K.told sink.old) (K.told sink.new) }
     {

@@ -25,6 +25,7 @@ impl Model for Replied {
 
 impl Replied {
     /// What this reply came to.
+    #[inline(always)]
     pub(crate) fn new(out: Out) -> Replied
         ensures { result ≡ out }
     {
@@ -32,6 +33,7 @@ impl Replied {
     }
 
     /// The request of this id failed.
+    #[inline(always)]
     pub(crate) fn failed(alloc: Global, id: RequestId, error: Errno) -> Replied
         ensures reply { result ≡ Out.Frame (reply id.0 (Error error)) }
         ensures answer { IsAnswer (Error error) }
@@ -40,6 +42,7 @@ impl Replied {
     }
 
     /// What goes out.
+    #[inline(always)]
     pub fn into_out(self) -> Out
         ensures { result ≡ self }
     {

@@ -233,15 +233,50 @@ fn answers_by_bytes_of_any_number(rt: HostRuntime) {
     }
 }
 
+/// What goes out for 145 bytes. The first memory that is asked for is theirs.
+fn long_reply(alloc: Global) -> Out {
+    ReplyData::new(alloc, ID).data(&[7; 145]).into_out()
+}
+
+/// The frame of these bytes.
+fn long_frame() -> [u8; 161] {
+    let mut frame = [7; 161];
+    let header = [161, 0, 0, 0, 0, 0, 0, 0, 0xef, 0xbe, 0xad, 0xde, 0, 0, 0, 0];
+    frame[..16].copy_from_slice(&header);
+    frame
+}
+
 #[test]
 fn packs_more_than_is_held_inline(rt: HostRuntime) -> Result<(), Fail> {
     let alloc = rt.alloc();
     let packed = Packed::new(alloc, ID, 0, &[7; 145])?;
-    let mut expected = [7; 161];
-    let header = [161, 0, 0, 0, 0, 0, 0, 0, 0xef, 0xbe, 0xad, 0xde, 0, 0, 0, 0];
-    expected[..16].copy_from_slice(&header);
-    sends_frame(&rt, alloc, Out::Frame(packed), &expected);
+    sends_frame(&rt, alloc, Out::Frame(packed), &long_frame());
     Ok(())
+}
+
+#[test]
+fn answers_by_many_bytes_whole(rt: HostRuntime) {
+    let alloc = rt.alloc();
+    sends_frame(&rt, alloc, long_reply(alloc), &long_frame());
+}
+
+/// Takes the whole frame, and the error's. Where the script `checks/refused-memory` refuses the memory, it is the error's.
+#[test]
+fn answers_by_many_bytes_whole_or_by_the_want_of_memory(rt: HostRuntime) {
+    let alloc = rt.alloc();
+    let refused = [
+        16, 0, 0, 0, 0xf4, 0xff, 0xff, 0xff, 0xef, 0xbe, 0xad, 0xde, 0, 0, 0, 0,
+    ];
+    let (sink, end) = sent(alloc, long_reply(alloc));
+    assert_eq!(rt; end, OutEnd::Written);
+    assert_eq!(rt; sink.frames().len(), 1);
+    for frame in sink.frames() {
+        if frame.as_slice().len() == 16 {
+            assert_eq!(rt; frame.as_slice(), refused.as_slice());
+        } else {
+            assert_eq!(rt; frame.as_slice(), long_frame().as_slice());
+        }
+    }
 }
 
 #[test]

@@ -6,7 +6,7 @@ use fuse_args::{IoCtlArguments, PollArguments};
 use fuse_wire::{FileHandle, IoctlFlags, PollEvents, PollFlags, PollHandle};
 
 /// IOCTL: a command to a device.
-#[derive(Clone, Copy, Debug, PartialEq, Eq)]
+#[derive(Clone, Copy, Debug)]
 pub struct IoCtl<'a> {
     arguments: IoCtlArguments,
     in_bytes: &'a [u8],
@@ -71,7 +71,7 @@ impl<'a> IoCtl<'a> {
 }
 
 /// POLL: whether an open file is ready.
-#[derive(Clone, Copy, Debug, PartialEq, Eq)]
+#[derive(Clone, Copy, Debug)]
 pub struct Poll {
     arguments: PollArguments,
 }

@@ -6,7 +6,7 @@ use fuse_args::{FSyncArguments, OpenArguments, ReadArguments, ReleaseArguments};
 use fuse_wire::{FileHandle, LockOwner, OpenFlags, ReleaseFlags};
 
 /// OPENDIR: a directory is opened.
-#[derive(Clone, Copy, Debug, PartialEq, Eq)]
+#[derive(Clone, Copy, Debug)]
 pub struct OpenDir {
     arguments: OpenArguments,
 }
@@ -30,7 +30,7 @@ impl OpenDir {
 }
 
 /// READDIR: entries of an open directory.
-#[derive(Clone, Copy, Debug, PartialEq, Eq)]
+#[derive(Clone, Copy, Debug)]
 pub struct ReadDir {
     arguments: ReadArguments,
 }
@@ -68,7 +68,7 @@ impl ReadDir {
 }
 
 /// READDIRPLUS: entries of an open directory, with their attributes.
-#[derive(Clone, Copy, Debug, PartialEq, Eq)]
+#[derive(Clone, Copy, Debug)]
 pub struct ReadDirPlus {
     arguments: ReadArguments,
 }
@@ -106,7 +106,7 @@ impl ReadDirPlus {
 }
 
 /// RELEASEDIR: the last use of an open directory ends.
-#[derive(Clone, Copy, Debug, PartialEq, Eq)]
+#[derive(Clone, Copy, Debug)]
 pub struct ReleaseDir {
     arguments: ReleaseArguments,
 }
@@ -163,7 +163,7 @@ impl ReleaseDir {
 }
 
 /// FSYNCDIR: what an open directory holds back is written.
-#[derive(Clone, Copy, Debug, PartialEq, Eq)]
+#[derive(Clone, Copy, Debug)]
 pub struct FSyncDir {
     arguments: FSyncArguments,
 }

@@ -9,7 +9,7 @@ use fuse_args::{
 use fuse_wire::{Errno, FileHandle, LockOwner, OpenFlags, ReadFlags, ReleaseFlags, WriteFlags};
 
 /// OPEN: a file is opened.
-#[derive(Clone, Copy, Debug, PartialEq, Eq)]
+#[derive(Clone, Copy, Debug)]
 pub struct Open {
     arguments: OpenArguments,
 }
@@ -33,7 +33,7 @@ impl Open {
 }
 
 /// READ: bytes of an open file.
-#[derive(Clone, Copy, Debug, PartialEq, Eq)]
+#[derive(Clone, Copy, Debug)]
 pub struct Read {
     arguments: ReadArguments,
 }
@@ -97,7 +97,7 @@ impl Read {
 }
 
 /// WRITE: bytes go into an open file.
-#[derive(Clone, Copy, Debug, PartialEq, Eq)]
+#[derive(Clone, Copy, Debug)]
 pub struct Write<'a> {
     arguments: WriteArguments,
     written: &'a [u8],
@@ -163,7 +163,7 @@ impl<'a> Write<'a> {
 }
 
 /// RELEASE: the last use of an open file ends.
-#[derive(Clone, Copy, Debug, PartialEq, Eq)]
+#[derive(Clone, Copy, Debug)]
 pub struct Release {
     arguments: ReleaseArguments,
 }
@@ -220,7 +220,7 @@ impl Release {
 }
 
 /// FSYNC: what an open file holds back is written.
-#[derive(Clone, Copy, Debug, PartialEq, Eq)]
+#[derive(Clone, Copy, Debug)]
 pub struct FSync {
     arguments: FSyncArguments,
 }
@@ -252,7 +252,7 @@ impl FSync {
 }
 
 /// FLUSH: one of the descriptors of an open file is closed.
-#[derive(Clone, Copy, Debug, PartialEq, Eq)]
+#[derive(Clone, Copy, Debug)]
 pub struct Flush {
     arguments: FlushArguments,
 }

@@ -62,7 +62,7 @@ impl<'a> ForgetList<'a> {
 }
 
 /// BATCH_FORGET: the kernel gives back some of its lookups of several inodes. It waits for no reply.
-#[derive(Clone, Copy, Debug, PartialEq, Eq)]
+#[derive(Clone, Copy, Debug)]
 pub struct BatchForget<'a> {
     nodes: ForgetList<'a>,
 }

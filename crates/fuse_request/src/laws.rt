@@ -5,15 +5,3 @@ ghost use Rattle.fuse_request.specs.Behind.{UnreadBehind};
 pub fn bytes_behind_are_not_read(message: &[u8], others: &[u8])
     ensures { UnreadBehind message.now others.now }
 {}
-
-#[cfg(test)]
-mod tests {
-    use super::*;
-    use std::test::Fail;
-
-    #[test]
-    fn the_law_can_be_called(_rt: HostRuntime) -> Result<(), Fail> {
-        bytes_behind_are_not_read(b"message", b"others");
-        Ok(())
-    }
-}

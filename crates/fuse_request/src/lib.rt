@@ -4,8 +4,6 @@
 
 mod any_request;
 mod decoding;
-#[cfg(test)]
-mod decoding_tests;
 mod devices;
 mod directories;
 mod error;
@@ -22,8 +20,6 @@ mod places;
 mod ranges;
 mod request;
 mod setting;
-#[cfg(test)]
-mod tests;
 mod xattrs;
 
 pub use any_request::{AnyRequest, Header};

@@ -16,7 +16,7 @@ pub struct Lock {
 }
 
 /// GETLK: whether a lock could be taken.
-#[derive(Clone, Copy, Debug, PartialEq, Eq)]
+#[derive(Clone, Copy, Debug)]
 pub struct GetLk {
     arguments: GetLkArguments,
 }
@@ -59,7 +59,7 @@ impl GetLk {
 }
 
 /// SETLK and SETLKW: a lock is taken or given back.
-#[derive(Clone, Copy, Debug, PartialEq, Eq)]
+#[derive(Clone, Copy, Debug)]
 pub struct SetLk {
     arguments: GetLkArguments,
     sleep: bool,

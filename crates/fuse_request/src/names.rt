@@ -4,7 +4,7 @@ ghost use Rattle.std.specs.Prelude.{◌≡◌};
 use fuse_args::{CreateArguments, MkDirArguments, MkNodArguments};
 
 /// LOOKUP: which inode a name in a directory means.
-#[derive(Clone, Copy, Debug, PartialEq, Eq)]
+#[derive(Clone, Copy, Debug)]
 pub struct Lookup<'a> {
     name: &'a [u8],
 }
@@ -28,7 +28,7 @@ impl<'a> Lookup<'a> {
 }
 
 /// SYMLINK: a symbolic link is made.
-#[derive(Clone, Copy, Debug, PartialEq, Eq)]
+#[derive(Clone, Copy, Debug)]
 pub struct SymLink<'a> {
     link_name: &'a [u8],
     target: &'a [u8],
@@ -61,7 +61,7 @@ impl<'a> SymLink<'a> {
 }
 
 /// MKNOD: a file or a device is made.
-#[derive(Clone, Copy, Debug, PartialEq, Eq)]
+#[derive(Clone, Copy, Debug)]
 pub struct MkNod<'a> {
     arguments: MkNodArguments,
     name: &'a [u8],
@@ -108,7 +108,7 @@ impl<'a> MkNod<'a> {
 }
 
 /// MKDIR: a directory is made.
-#[derive(Clone, Copy, Debug, PartialEq, Eq)]
+#[derive(Clone, Copy, Debug)]
 pub struct MkDir<'a> {
     arguments: MkDirArguments,
     name: &'a [u8],
@@ -148,7 +148,7 @@ impl<'a> MkDir<'a> {
 }
 
 /// UNLINK: a name of a file goes away.
-#[derive(Clone, Copy, Debug, PartialEq, Eq)]
+#[derive(Clone, Copy, Debug)]
 pub struct Unlink<'a> {
     name: &'a [u8],
 }
@@ -172,7 +172,7 @@ impl<'a> Unlink<'a> {
 }
 
 /// RMDIR: a directory goes away.
-#[derive(Clone, Copy, Debug, PartialEq, Eq)]
+#[derive(Clone, Copy, Debug)]
 pub struct RmDir<'a> {
     name: &'a [u8],
 }
@@ -196,7 +196,7 @@ impl<'a> RmDir<'a> {
 }
 
 /// CREATE: a file is made and opened.
-#[derive(Clone, Copy, Debug, PartialEq, Eq)]
+#[derive(Clone, Copy, Debug)]
 pub struct Create<'a> {
     arguments: CreateArguments,
     name: &'a [u8],

@@ -6,7 +6,7 @@ use fuse_args::{AccessArguments, GetAttrArguments};
 use fuse_wire::{AccessFlags, FileHandle, GetattrFlags};
 
 /// FORGET: the kernel gives back some of its lookups of an inode. It waits for no reply.
-#[derive(Clone, Copy, Debug, PartialEq, Eq)]
+#[derive(Clone, Copy, Debug)]
 pub struct Forget {
     nlookup: u64,
 }
@@ -30,7 +30,7 @@ impl Forget {
 }
 
 /// GETATTR: what the attributes of an inode are.
-#[derive(Clone, Copy, Debug, PartialEq, Eq)]
+#[derive(Clone, Copy, Debug)]
 pub struct GetAttr {
     arguments: GetAttrArguments,
 }
@@ -66,15 +66,15 @@ impl GetAttr {
 }
 
 /// READLINK: where a symbolic link leads.
-#[derive(Clone, Copy, Debug, PartialEq, Eq)]
+#[derive(Clone, Copy, Debug)]
 pub struct ReadLink;
 
 /// STATFS: how much room the filesystem has.
-#[derive(Clone, Copy, Debug, PartialEq, Eq)]
+#[derive(Clone, Copy, Debug)]
 pub struct StatFs;
 
 /// ACCESS: whether the caller may use an inode so.
-#[derive(Clone, Copy, Debug, PartialEq, Eq)]
+#[derive(Clone, Copy, Debug)]
 pub struct Access {
     arguments: AccessArguments,
 }

@@ -12,7 +12,7 @@ use fuse_args::InitArguments;
 use fuse_wire::{InitFlags, RequestId, Version};
 
 /// INIT: a kernel offers to speak.
-#[derive(Clone, Copy, Debug, PartialEq, Eq)]
+#[derive(Clone, Copy, Debug)]
 pub struct Init {
     arguments: InitArguments,
 }
@@ -54,11 +54,11 @@ impl Init {
 }
 
 /// DESTROY: the kernel takes its leave.
-#[derive(Clone, Copy, Debug, PartialEq, Eq)]
+#[derive(Clone, Copy, Debug)]
 pub struct Destroy;
 
 /// INTERRUPT: a request need not be answered any more.
-#[derive(Clone, Copy, Debug, PartialEq, Eq)]
+#[derive(Clone, Copy, Debug)]
 pub struct Interrupt {
     unique: u64,
 }
@@ -82,15 +82,15 @@ impl Interrupt {
 }
 
 /// NOTIFY_REPLY: the answer to a notice.
-#[derive(Clone, Copy, Debug, PartialEq, Eq)]
+#[derive(Clone, Copy, Debug)]
 pub struct NotifyReply;
 
 /// CUSE_INIT: a kernel offers to speak of a character device.
-#[derive(Clone, Copy, Debug, PartialEq, Eq)]
+#[derive(Clone, Copy, Debug)]
 pub struct CuseInit;
 
 /// What is asked, with its arguments.
-#[derive(Clone, Copy, Debug, PartialEq, Eq)]
+#[derive(Clone, Copy, Debug)]
 pub enum Operation<'a> {
     /// Which inode a name means.
     Lookup(Lookup<'a>),

@@ -14,13 +14,43 @@ pub struct FilenameInDir<'a> {
     pub name: &'a [u8],
 }
 
-/// RENAME: a name moves to another place.
-#[derive(Clone, Copy, Debug, PartialEq, Eq)]
-pub struct Rename<'a> {
+/// A name in the node of a request that moves, and the name that it gets.
+#[derive(Clone, Copy, Debug)]
+struct Move<'a> {
     node: INodeNo,
-    newdir: u64,
     old_name: &'a [u8],
     new_name: &'a [u8],
+}
+
+impl<'a> Move<'a> {
+    /// The place that it moves from.
+    fn from(&self) -> FilenameInDir<'a>
+        ensures dir { result.dir ≡ self.now.node }
+        ensures name { result.name.now ≡ self.now.old_name.now }
+    {
+        FilenameInDir {
+            dir: self.node,
+            name: self.old_name,
+        }
+    }
+
+    /// The place in this directory that it moves to.
+    fn to(&self, newdir: u64) -> FilenameInDir<'a>
+        ensures dir { result.dir.0 ≡ newdir }
+        ensures name { result.name.now ≡ self.now.new_name.now }
+    {
+        FilenameInDir {
+            dir: INodeNo(newdir),
+            name: self.new_name,
+        }
+    }
+}
+
+/// RENAME: a name moves to another place.
+#[derive(Clone, Copy, Debug)]
+pub struct Rename<'a> {
+    newdir: u64,
+    names: Move<'a>,
 }
 
 impl<'a> Rename<'a> {
@@ -38,12 +68,12 @@ impl<'a> Rename<'a> {
         ensures old_name { rename_old_name result ≡ old_name.now }
         ensures new_name { rename_new_name result ≡ new_name.now }
     {
-        Rename {
+        let names = Move {
             node,
-            newdir,
             old_name,
             new_name,
-        }
+        };
+        Rename { newdir, names }
     }
 
     /// The place that it moves from, which is in the node of the request.
@@ -51,10 +81,7 @@ impl<'a> Rename<'a> {
         ensures dir { result.dir ≡ rename_node self.now }
         ensures name { result.name.now ≡ rename_old_name self.now }
     {
-        FilenameInDir {
-            dir: self.node,
-            name: self.old_name,
-        }
+        self.names.from()
     }
 
     /// The place that it moves to.
@@ -62,20 +89,15 @@ impl<'a> Rename<'a> {
         ensures dir { result.dir.0 ≡ rename_newdir self.now }
         ensures name { result.name.now ≡ rename_new_name self.now }
     {
-        FilenameInDir {
-            dir: INodeNo(self.newdir),
-            name: self.new_name,
-        }
+        self.names.to(self.newdir)
     }
 }
 
 /// RENAME2: a name moves to another place, in a way that flags say.
-#[derive(Clone, Copy, Debug, PartialEq, Eq)]
+#[derive(Clone, Copy, Debug)]
 pub struct Rename2<'a> {
     arguments: Rename2Arguments,
-    node: INodeNo,
-    old_name: &'a [u8],
-    new_name: &'a [u8],
+    names: Move<'a>,
 }
 
 impl<'a> Rename2<'a> {
@@ -93,12 +115,12 @@ impl<'a> Rename2<'a> {
         ensures old_name { rename2_old_name result ≡ old_name.now }
         ensures new_name { rename2_new_name result ≡ new_name.now }
     {
-        Rename2 {
-            arguments,
+        let names = Move {
             node,
             old_name,
             new_name,
-        }
+        };
+        Rename2 { arguments, names }
     }
 
     /// The place that it moves from, which is in the node of the request.
@@ -106,10 +128,7 @@ impl<'a> Rename2<'a> {
         ensures dir { result.dir ≡ rename2_node self.now }
         ensures name { result.name.now ≡ rename2_old_name self.now }
     {
-        FilenameInDir {
-            dir: self.node,
-            name: self.old_name,
-        }
+        self.names.from()
     }
 
     /// The place that it moves to.
@@ -117,10 +136,7 @@ impl<'a> Rename2<'a> {
         ensures dir { result.dir.0 ≡ (rename2_of self.now).newdir }
         ensures name { result.name.now ≡ rename2_new_name self.now }
     {
-        FilenameInDir {
-            dir: INodeNo(self.arguments.newdir),
-            name: self.new_name,
-        }
+        self.names.to(self.arguments.newdir)
     }
 
     /// How it moves.
@@ -132,7 +148,7 @@ impl<'a> Rename2<'a> {
 }
 
 /// LINK: an inode gets another name.
-#[derive(Clone, Copy, Debug, PartialEq, Eq)]
+#[derive(Clone, Copy, Debug)]
 pub struct Link<'a> {
     node: INodeNo,
     oldnodeid: u64,

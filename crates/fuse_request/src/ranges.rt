@@ -18,7 +18,7 @@ pub struct CopyFileRangeFile {
 }
 
 /// FALLOCATE: room for a range of a file.
-#[derive(Clone, Copy, Debug, PartialEq, Eq)]
+#[derive(Clone, Copy, Debug)]
 pub struct FAllocate {
     arguments: FAllocateArguments,
 }
@@ -64,7 +64,7 @@ impl FAllocate {
 }
 
 /// LSEEK: where in an open file the next data or the next hole is.
-#[derive(Clone, Copy, Debug, PartialEq, Eq)]
+#[derive(Clone, Copy, Debug)]
 pub struct Lseek {
     arguments: LseekArguments,
 }
@@ -102,7 +102,7 @@ impl Lseek {
 }
 
 /// COPY_FILE_RANGE: a range of a file is copied into another.
-#[derive(Clone, Copy, Debug, PartialEq, Eq)]
+#[derive(Clone, Copy, Debug)]
 pub struct CopyFileRange {
     arguments: CopyFileRangeArguments,
     node: INodeNo,
@@ -158,7 +158,7 @@ impl CopyFileRange {
 }
 
 /// BMAP: which block of the device a block of a file is.
-#[derive(Clone, Copy, Debug, PartialEq, Eq)]
+#[derive(Clone, Copy, Debug)]
 pub struct BMap {
     arguments: BMapArguments,
 }

@@ -18,7 +18,7 @@ pub enum GetXAttrSizeEnum {
 }
 
 /// SETXATTR: an extended attribute is set.
-#[derive(Clone, Copy, Debug, PartialEq, Eq)]
+#[derive(Clone, Copy, Debug)]
 pub struct SetXAttr<'a> {
     arguments: SetXAttrArguments,
     name: &'a [u8],
@@ -71,7 +71,7 @@ impl<'a> SetXAttr<'a> {
 }
 
 /// GETXATTR: the value of an extended attribute.
-#[derive(Clone, Copy, Debug, PartialEq, Eq)]
+#[derive(Clone, Copy, Debug)]
 pub struct GetXAttr<'a> {
     arguments: GetXAttrArguments,
     name: &'a [u8],
@@ -115,7 +115,7 @@ impl<'a> GetXAttr<'a> {
 }
 
 /// LISTXATTR: the names of the extended attributes.
-#[derive(Clone, Copy, Debug, PartialEq, Eq)]
+#[derive(Clone, Copy, Debug)]
 pub struct ListXAttr {
     arguments: GetXAttrArguments,
 }
@@ -139,7 +139,7 @@ impl ListXAttr {
 }
 
 /// REMOVEXATTR: an extended attribute goes away.
-#[derive(Clone, Copy, Debug, PartialEq, Eq)]
+#[derive(Clone, Copy, Debug)]
 pub struct RemoveXAttr<'a> {
     name: &'a [u8],
 }

@@ -1,9 +1,13 @@
 // The program from bytes to bytes.
 ghost use Rattle.std.specs.Prelude.{None};
 
+use crate::hello::Hello;
 use crate::program::serve;
+use fuse_config::{Config, SessionACL};
+use fuse_session::{Ended, mount};
 use fuse_wire::{
     ByteRead, ByteSink, ByteSource, ByteWrite, MemoryBytes, MemoryOut, StdSink, StdSource,
+    StreamSink, StreamSource,
 };
 use std::alloc::{AllocError, Global};
 use std::sync::Wait;
@@ -38,6 +42,14 @@ const DESTROY: &[u8; 40] =
 /// A message with the id 2 and an opcode that names no operation.
 const UNKNOWN: &[u8; 40] =
     b"\x28\0\0\0\x07\0\0\0\x02\0\0\0\0\0\0\0\0\0\0\0\0\0\0\0\0\0\0\0\0\0\0\0\0\0\0\0\0\0\0\0";
+
+/// A LOOKUP of the name `none` with the id 2.
+const LOOKUP: &[u8; 45] =
+    b"\x2d\0\0\0\x01\0\0\0\x02\0\0\0\0\0\0\0\x01\0\0\0\0\0\0\0\0\0\0\0\0\0\0\0\0\0\0\0\0\0\0\0none\0";
+
+/// The same with the id 3.
+const NEXT_LOOKUP: &[u8; 45] =
+    b"\x2d\0\0\0\x01\0\0\0\x03\0\0\0\0\0\0\0\x01\0\0\0\0\0\0\0\0\0\0\0\0\0\0\0\0\0\0\0\0\0\0\0none\0";
 
 /// These parts joined.
 fn joined(alloc: Global, parts: &[&[u8]]) -> Result<Vec<u8>, AllocError> {
@@ -281,6 +293,57 @@ fn an_output_that_fails_has_its_status(rt: HostRuntime) -> Result<(), Fail> {
     let served = serve(&rt, &FORM, input, output);
     assert_eq!(rt; served.status, 8);
     assert_eq!(rt; served.output.inner.bytes(), REPLY.as_slice());
+    Ok(())
+}
+
+/// INIT and two LOOKUPs, and an output that fails at its third write, which is the first behind the reply to INIT.
+fn two_lookups(alloc: Global) -> Result<(MemoryBytes, MemoryOut), AllocError> {
+    let bytes = joined(alloc, &[INIT, ZEROS, LOOKUP, NEXT_LOOKUP])?;
+    let faults = [3].to_vec(alloc)?;
+    Ok((
+        MemoryBytes::new(bytes, 1000, Vec::new(alloc)),
+        MemoryOut::new(alloc, 1000, faults),
+    ))
+}
+
+#[test]
+fn all_behind_a_failed_write_is_lost(rt: HostRuntime) -> Result<(), Fail> {
+    let (input, output) = two_lookups(rt.alloc())?;
+    let served = serve(&rt, &FORM, input, output);
+    assert_eq!(rt; served.status, 8);
+    assert_eq!(rt; served.output.bytes(), REPLY.as_slice());
+    Ok(())
+}
+
+#[test]
+fn all_behind_a_failed_write_counts_as_lost(rt: HostRuntime) -> Result<(), Fail> {
+    let (input, output) = two_lookups(rt.alloc())?;
+    let config = Config {
+        acl: SessionACL::All,
+        n_threads: Some(1),
+    };
+    let Ended {
+        filesystem: _,
+        source,
+        sink,
+        outcome,
+        transcript,
+    } = mount(
+        &rt,
+        Hello,
+        StreamSource::new(input),
+        StreamSink::new(output),
+        0,
+        4096,
+        &config,
+    );
+    drop(source.into_inner());
+    assert_eq!(rt; outcome, Ok(()));
+    assert_eq!(rt; transcript.received, 3);
+    assert_eq!(rt; transcript.frames, 1);
+    assert_eq!(rt; transcript.lost, 2);
+    assert!(rt; sink.broken(), "a write failed");
+    assert_eq!(rt; sink.into_inner().bytes(), REPLY.as_slice());
     Ok(())
 }
 

@@ -11,7 +11,6 @@ use Rattle.fuse_args.specs.declared.fixed.InitArguments.{InitArguments}
 use Rattle.fuse_request.specs.InitOperation.{offered, version}
 use Rattle.fuse_request.specs.Header.{header, body, header_fields, request_of}
 use Rattle.fuse_request.specs.Operation.{Op, operation}
-use Rattle.fuse_request.specs.Operation.Op.{Init, Destroy}
 use Rattle.fuse_request.specs.declared.any_request.Header.{Header}
 use Rattle.fuse_request.specs.declared.error.RequestError.{RequestError}
 use Rattle.fuse_wire.specs.declared.newtypes.Version.{Version}

@@ -1,12 +1,11 @@
 -- A request that goes to the filesystem: its verdict, and that what it comes to is what its message is owed.
-use Rattle.std.proofs.Common.{◌≡◌, ◌^◌, ℕ, List, length, sym, ◌∙◌, ap, subst, refl, Bool, true, false, nat_lt, Option, None, Some, Result, Ok, Err}
-use Rattle.std.specs.Prelude.{◌-◌, if◌then◌else◌, option_map}
+use Rattle.std.proofs.Common.{◌≡◌, ℕ, List, length, sym, ◌∙◌, ap, subst, refl, Bool, true, false, nat_lt, Option, None, Some, Result, Ok, Err}
+use Rattle.std.specs.Prelude.{if◌then◌else◌, option_map}
 use Rattle.fuse_wire.specs.Numbers.{number}
 use Rattle.fuse_config.specs.declared.session_acl.SessionACL.{SessionACL}
 use Rattle.fuse_request.specs.declared.error.RequestError.{RequestError}
 use Rattle.fuse_request.specs.declared.error.RequestError.TheVariants.{ShortReadHeader, ShortRead, InsufficientData}
 use Rattle.fuse_request.specs.declared.any_request.Header.{Header}
-use Rattle.fuse_request.specs.declared.request.Request.{Request}
 use Rattle.fuse_request.specs.Header.{header, header_fields, body, request_of}
 use Rattle.fuse_request.specs.Operation.{Op, operation}
 use Rattle.fuse_request.specs.Call.{Call, call}
@@ -17,7 +16,7 @@ use Rattle.fuse_reply.specs.declared.out.Out.TheVariants.{Frame}
 use Rattle.fuse_session.specs.Promise.{Promise}
 use Rattle.fuse_session.specs.Verdict.{Verdict, verdict, judged, asked, admitted, Refusal, errno_of, calling, is_forget, has_method, refused, unless, served, is_destroy, id_of}
 use Rattle.fuse_session.specs.Verdict.Verdict.{Broken, Ends, Fixed, Forgets, Calls}
-use Rattle.fuse_session.specs.Owed.{Owed, OwedBy, IsBroken, IsBrokenBy, GoesOn, GoesOnBy}
+use Rattle.fuse_session.specs.Owed.{Owed, OwedBy, IsBrokenBy, GoesOn, GoesOnBy}
 use Rattle.fuse_session.specs.Turn.{Pays, IsPrompt}
 
 ok-header : (a b c : Bool) (x y z : RequestError) (f h : Header)

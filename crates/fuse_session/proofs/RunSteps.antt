@@ -21,36 +21,22 @@ use Rattle.fuse_session.specs.declared.verdict.Turn.TheVariants as turn
 use Rattle.fuse_session.specs.declared.serving.End.{End}
 use Rattle.fuse_session.specs.declared.serving.End.TheVariants.{Gone, Destroyed, Broken, Failed}
 use Rattle.std.proofs.lemmas.List.{map-append, length-map}
-use Rattle.fuse_session.proofs.Taking.{Begins-from_takes, Begins-after, Faults-after}
+use Rattle.fuse_session.proofs.Taking.{Begins-after, Faults-after}
 use Rattle.fuse_session.proofs.Moving.{Moves-none, Moves-received, Moves-then, Handed, Handed-frame, Handed-note, took, lost}
 use Rattle.fuse_session.proofs.Order.{InOrder-framed, InOrder-noted, InOrder-lost, InOrder-append}
 
--- the source had nothing left
-pub Serves-gone : (owed : Owing) (acl : SessionACL) (owner place : ℕ) (a b : SourceState) (k : SinkState) (t u : Transcript) (buffer : List ℕ)
-    → TakesNext taken.Gone a b t u buffer → Serves owed place Gone acl owner a b k k t u
-Serves-gone owed acl owner place a b k t u buffer next = record {
+-- no message came
+pub Serves-none : (owed : Owing) (acl : SessionACL) (owner place : ℕ) (end : End) (a b : SourceState) (k : SinkState) (t u : Transcript)
+    → u ≡ t → RunEnds end acl owner [] [] a b → Serves owed place end acl owner a b k k t u
+Serves-none owed acl owner place end a b k t u same ends = record {
   turns = [];
   answered = [];
   frames = [];
   notes = [];
   lost = 0;
   order = (refl, refl, refl);
-  moved = subst (λ (v : Transcript). Moves 0 [] [] 0 k k t v) (sym next.2) (Moves-none k t);
-  ended = (refl, tt, next.0, next.1);
-}
-
--- the source failed
-pub Serves-failed : (owed : Owing) (acl : SessionACL) (owner place : ℕ) (a b : SourceState) (k : SinkState) (t u : Transcript) (buffer : List ℕ)
-    → TakesNext taken.Failed a b t u buffer → Serves owed place Failed acl owner a b k k t u
-Serves-failed owed acl owner place a b k t u buffer next = record {
-  turns = [];
-  answered = [];
-  frames = [];
-  notes = [];
-  lost = 0;
-  order = (refl, refl, refl);
-  moved = subst (λ (v : Transcript). Moves 0 [] [] 0 k k t v) (sym next.1) (Moves-none k t);
-  ended = (refl, tt, Begins-from_takes [] a a (Takes-none a), next.0);
+  moved = subst (λ (v : Transcript). Moves 0 [] [] 0 k k t v) (sym same) (Moves-none k t);
+  ended = ends;
 }
 
 -- a message without a good header came

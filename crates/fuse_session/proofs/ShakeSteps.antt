@@ -11,7 +11,6 @@ use Rattle.fuse_request.specs.declared.error.RequestError.{RequestError}
 use Rattle.fuse_request.specs.declared.any_request.Header.{Header}
 use Rattle.fuse_request.specs.InitOperation.{offered, version}
 use Rattle.fuse_request.specs.Operation.{Op, operation}
-use Rattle.fuse_request.specs.Operation.Op.{Init, Destroy, Lookup, Forget, GetAttr, Read}
 use Rattle.fuse_request.specs.Header.{header, body, header_fields, request_of}
 use Rattle.fuse_reply.specs.declared.out.Out.{Out}
 use Rattle.fuse_reply.specs.declared.out.Out.TheVariants.{Frame}
@@ -32,7 +31,7 @@ use Rattle.fuse_session.specs.declared.error.InvalidData.TheVariants as invalid
 use Rattle.fuse_session.specs.declared.error.SessionError.{SessionError}
 use Rattle.fuse_session.specs.declared.error.SessionError.TheVariants as session
 use Rattle.fuse_session.proofs.Dispatching.{header-fields}
-use Rattle.fuse_session.proofs.Taking.{Begins-from_takes, Begins-after, Faults-after}
+use Rattle.fuse_session.proofs.Taking.{Begins-after, Faults-after}
 use Rattle.fuse_session.proofs.Moving.{Moves-none, Moves-received, Moves-then, Handed-frame, took, lost}
 
 -- frames without those that were lost, and then others
@@ -45,10 +44,10 @@ LeavesOut-append j k (f ∷ fs) gs ws vs (inl p) second =
 LeavesOut-append j k (f ∷ fs) gs ws vs (inr p) second =
     inr (p.0 + k, (let e : j ≡ suc p.0 = p.1 in omega arith), LeavesOut-append p.0 k fs gs ws vs p.2 second)
 
--- nothing came
-pub Shakes-gone : {F : Type 0} (may_init : Inits F) (page : ℕ) (fs : F) (a b : SourceState) (k : SinkState) (t u : Transcript) (buffer : List ℕ)
-    → TakesNext taken.Gone a b t u buffer → Shakes (Err session.NotConnected) may_init page fs fs a b k k t u
-Shakes-gone may_init page fs a b k t u buffer next = record {
+-- no message came
+pub Shakes-none : {F : Type 0} (may_init : Inits F) (page : ℕ) (fs : F) (e : SessionError) (a b : SourceState) (k : SinkState) (t u : Transcript)
+    → u ≡ t → Fails e Open [] a b → Shakes (Err e) may_init page fs fs a b k k t u
+Shakes-none may_init page fs e a b k t u same fails = record {
   turns = [];
   frames = [];
   written = [];
@@ -56,23 +55,8 @@ Shakes-gone may_init page fs a b k t u buffer next = record {
   end = Open;
   shaken = (refl, refl, refl);
   left_out = (refl, refl);
-  moved = subst (λ (v : Transcript). Moves 0 [] [] 0 k k t v) (sym next.2) (Moves-none k t);
-  ended = (refl, next.0, next.1);
-}
-
--- the source failed
-pub Shakes-failed : {F : Type 0} (may_init : Inits F) (page : ℕ) (fs : F) (a b : SourceState) (k : SinkState) (t u : Transcript) (buffer : List ℕ)
-    → TakesNext taken.Failed a b t u buffer → Shakes (Err session.Receive) may_init page fs fs a b k k t u
-Shakes-failed may_init page fs a b k t u buffer next = record {
-  turns = [];
-  frames = [];
-  written = [];
-  lost = 0;
-  end = Open;
-  shaken = (refl, refl, refl);
-  left_out = (refl, refl);
-  moved = subst (λ (v : Transcript). Moves 0 [] [] 0 k k t v) (sym next.1) (Moves-none k t);
-  ended = (refl, Begins-from_takes [] a a (Takes-none a), next.0);
+  moved = subst (λ (v : Transcript). Moves 0 [] [] 0 k k t v) (sym same) (Moves-none k t);
+  ended = fails;
 }
 
 -- a message that ends the handshake with a frame
@@ -186,7 +170,7 @@ refused-answer may_init page fs fs1 m i out e out' (Err d) a h = by_result a.res
         (
           reply (id_of m) (Error errno),
           parts.0 ∙ answered.0,
-          record { config = a.config; result = Err errno; allowed = allowed; replies = (refl, ap (λ (x : SessionError). Failed x) is_e) },
+          record { config = a.config; result = Err errno; allowed = allowed; replies = (refl, ap (λ (x : SessionError). Failed x) is_e, answered.2) },
         ),
       )
 

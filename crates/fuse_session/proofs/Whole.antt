@@ -1,5 +1,5 @@
 -- A session that ends well, as one whole.
-use Rattle.std.proofs.Common.{◌≡◌, ◌+◌, ◌≤◌, ◌<◌, ◌^◌, ◌++◌, ℕ, zero, suc, List, [], ◌∷◌, sym, ◌∙◌, ap, subst, arith, refl, length, map, Option, None, Some, Result, Ok, Err, inl, inr, Bool, true, false, not, cond, lit<, append-nil, min, nat_lt}
+use Rattle.std.proofs.Common.{◌≡◌, ◌+◌, ◌≤◌, ◌<◌, ◌++◌, ℕ, zero, suc, List, [], ◌∷◌, sym, ◌∙◌, ap, subst, arith, refl, length, map, Option, None, Some, Result, Ok, Err, inl, inr, Bool, true, false, not, cond, lit<, append-nil, min}
 use Rattle.std.specs.Prelude.{if◌then◌else◌}
 use Rattle.std.specs.List.{AllByRecursion}
 use Rattle.fuse_wire.specs.Faults.{last_count}

@@ -9,6 +9,7 @@ use Rattle.fuse_request.specs.Header.{header, header_fields, body, request_of}
 use Rattle.fuse_request.specs.InitOperation.{offered, version}
 use Rattle.fuse_request.specs.Operation.{Op, operation}
 use Rattle.fuse_request.specs.Operation.Op.{Init}
+use Rattle.fuse_reply.specs.Answer.{IsAnswer}
 use Rattle.fuse_reply.specs.Answer.Answer.{Error}
 use Rattle.fuse_reply.specs.Frame.{frame, reply}
 use Rattle.fuse_session.specs.Promise.{Inits}
@@ -61,9 +62,9 @@ pub data HandshakeEnd : Type 0 where
   Accepted : HandshakeEnd
   Failed : (e : SessionError) → HandshakeEnd
 
--- what `init` answered is the reply: an error, or what was negotiated
+-- what `init` answered is the reply: an error with a number in range, or what was negotiated
 abbrev pub Replies : (id : ℕ) → InitArguments → (page : ℕ) → Configuration → Result (Unit {0}) ℕ → List (List ℕ) → HandshakeEnd → Type 0
-Replies id i page config (Err e) frames end = (frames ≡ reply id (Error e) ∷ []) × (end ≡ Failed (session.Init e))
+Replies id i page config (Err e) frames end = (frames ≡ reply id (Error e) ∷ []) × (end ≡ Failed (session.Init e)) × IsAnswer (Error e)
 Replies id i page config (Ok u) frames end =
     (frames ≡ frame id (pos 0) (init_payload config (offered i) i.minor page) ∷ []) × (end ≡ Accepted)
 

@@ -8,6 +8,7 @@ use Rattle.fuse_config.specs.Configuration.{start, init_payload, version_payload
 use Rattle.fuse_request.specs.declared.request.Request.{Request}
 use Rattle.fuse_request.specs.Header.{header_fields, request_of}
 use Rattle.fuse_request.specs.InitOperation.{offered, version}
+use Rattle.fuse_reply.specs.Answer.{IsAnswer}
 use Rattle.fuse_reply.specs.Answer.Answer.{Error}
 use Rattle.fuse_reply.specs.Frame.{frame, reply}
 use Rattle.fuse_reply.specs.declared.out.Out.{Out}
@@ -25,7 +26,7 @@ use Rattle.fuse_session.specs.declared.error.SessionError.TheVariants as session
 
 -- what `init` answered is what goes out
 abbrev pub AnswersBy : (id : ℕ) → InitArguments → (page : ℕ) → Configuration → Result (Unit {0}) ℕ → Out → Result (Unit {0}) SessionError → Type 0
-AnswersBy id i page config (Err e) out outcome = (out ≡ Frame (reply id (Error e))) × (outcome ≡ Err (session.Init e))
+AnswersBy id i page config (Err e) out outcome = (out ≡ Frame (reply id (Error e))) × (outcome ≡ Err (session.Init e)) × IsAnswer (Error e)
 AnswersBy id i page config (Ok u) out outcome = (out ≡ Frame (frame id (pos 0) (init_payload config (offered i) i.minor page))) × (outcome ≡ Ok tt)
 
 -- `init` was called, as its promise allows

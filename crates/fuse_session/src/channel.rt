@@ -44,6 +44,7 @@ pub(crate) fn take_message<R: Wait, S: Source>(
 }
 
 /// Hands something to the sink, and counts what became of it.
+#[inline(always)]
 pub(crate) fn deliver<K: Sink>(out: Out, sink: &mut K, transcript: &mut Transcript)
     ensures { Hands out (K.told sink.old) (K.told sink.new) transcript.old transcript.new }
 {

@@ -124,3 +124,33 @@ fn a_sink_may_refuse(rt: HostRuntime) -> Result<(), Fail> {
     }
     Ok(())
 }
+
+/// A session without a message: its outcome, and how often its filesystem was destroyed.
+fn serves_nothing<R: Wait + AllocGlobal>(rt: &R) -> (Result<(), SessionError>, u64) {
+    let alloc = rt.alloc();
+    let source = MemorySource::new(Vec::new(alloc));
+    let sink = MemorySink::new(alloc, Vec::new(alloc));
+    let Ended {
+        filesystem,
+        source: _,
+        sink: _,
+        outcome,
+        transcript: _,
+    } = mount(rt, Counting::new(), source, sink, 0, 4096, &Config::new());
+    (outcome, filesystem.destroyed)
+}
+
+#[test]
+fn without_a_message_is_not_connected(rt: HostRuntime) {
+    assert_eq!(rt; serves_nothing(&rt), (Err(SessionError::NotConnected), 1));
+}
+
+#[test]
+fn without_a_message_is_not_connected_or_wants_memory(rt: HostRuntime) {
+    let (outcome, destroyed) = serves_nothing(&rt);
+    let expected = match destroyed {
+        0 => Err(SessionError::Memory),
+        _ => Err(SessionError::NotConnected),
+    };
+    assert_eq!(rt; outcome, expected);
+}

@@ -13,13 +13,13 @@ use fuse_wire::{Errno, FileHandle, INodeNo, LockOwner, OpenFlags};
 
 /// A filesystem. Its ghost members are its promise: what it may do and answer, over plain data.
 pub trait Filesystem: Send + Sync {
-    /// `init` may leave this filesystem and configuration and give this result.
+    /// `init` may give this result to a request, and leave this filesystem and configuration.
     ghost may_init: { Self → Asker → Configuration → Result (Unit {0}) ℕ → Self → Configuration → Type 0 };
 
-    /// This answer to a call.
+    /// A call of a request may have this answer.
     ghost may_answer: { Self → Asker → Call → Answer → Type 0 };
 
-    /// This mark to a forget.
+    /// A forget of a request may have this mark.
     ghost may_note: { Self → Asker → Call → ℕ → Type 0 };
 
     /// `destroy` may leave this filesystem.

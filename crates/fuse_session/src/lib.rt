@@ -10,6 +10,8 @@ mod error;
 mod fault_tests;
 mod filesystem;
 mod handshake;
+#[cfg(test)]
+mod refusal_tests;
 mod serving;
 mod session;
 #[cfg(test)]

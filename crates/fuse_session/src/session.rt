@@ -145,8 +145,8 @@ fn serve_session<R: Wait + AllocGlobal, FS: Filesystem, S: Source, K: Sink>(
 }
 
 /// Serves a filesystem: the handshake with the kernel, then each message, until the source ends or the kernel sends
-/// DESTROY. All memory is taken before the first message is. `owner` is the user whose session it is, and `page_size`
-/// is in bytes. `destroy` is called once, unless no memory was to be had.
+/// DESTROY. The receive buffer is the only memory that it takes itself, and it is taken before the first message is. `owner`
+/// is the user whose session it is, and `page_size` is in bytes. `destroy` is called once, unless no memory was to be had.
 pub fn mount<R: Wait + AllocGlobal, FS: Filesystem, S: Source, K: Sink + Send>(
     rt: &R,
     filesystem: FS,

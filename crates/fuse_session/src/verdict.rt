@@ -67,6 +67,7 @@ fn is_destroy(operation: &Operation<'_>) -> bool
 }
 
 /// The reply of an error.
+#[inline(always)]
 fn refusal(alloc: Global, id: RequestId, error: Errno) -> Out
     ensures { result ≡ Out.Frame (reply id.0 (Error error)) }
 {
@@ -92,6 +93,7 @@ fn refused(operation: &Operation<'_>) -> Option<Errno>
 }
 
 /// What an operation comes to that is not refused.
+#[inline(always)]
 fn dispatch<FS: Filesystem>(
     alloc: Global,
     filesystem: &FS,
@@ -145,6 +147,7 @@ fn dispatch<FS: Filesystem>(
 }
 
 /// What a message behind the handshake comes to.
+#[inline(always)]
 pub(crate) fn turn_of<FS: Filesystem>(
     alloc: Global,
     filesystem: &FS,

@@ -10,3 +10,4 @@ pub mod Listed
 pub mod NumberLaws
 pub mod Frames
 pub mod StreamLaws
+pub mod Below

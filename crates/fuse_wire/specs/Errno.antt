@@ -1,5 +1,5 @@
 -- Error numbers of Linux.
-use Rattle.std.specs.Prelude.{ℕ, ℤ, [], ◌∷◌, List, pos, negsuc, zero, suc}
+use Rattle.std.specs.Prelude.{ℕ, ℤ, [], ◌∷◌, List, codes, pos, negsuc, zero, suc}
 
 -- the error of a number: `EIO`, 5, where it is not positive
 abbrev pub errno_from : ℤ → ℕ
@@ -7,11 +7,95 @@ errno_from (pos zero) = 5
 errno_from (pos (suc n)) = suc n
 errno_from (negsuc n) = 5
 
--- the numbers that Linux has for the names of its errors, in the order of `named`
-abbrev pub named_numbers : List ℕ
+-- the names of errors, each with the number that Linux has for it (`asm-generic/errno-base.h` and `asm-generic/errno.h`);
+-- `ENOTSUP` is the C library's, and `NO_XATTR` is this library's, for what a file without an attribute answers
+abbrev pub named_numbers : List (List ℕ × ℕ)
 named_numbers =
-    1 ∷ 2 ∷ 3 ∷ 4 ∷ 5 ∷ 6 ∷ 7 ∷ 8 ∷ 9 ∷ 10 ∷ 11 ∷ 12 ∷ 13 ∷ 14 ∷ 15 ∷ 16 ∷ 17 ∷ 18 ∷ 19 ∷ 20 ∷ 21 ∷ 22 ∷ 23 ∷
-    24 ∷ 25 ∷ 26 ∷ 27 ∷ 28 ∷ 29 ∷ 30 ∷ 31 ∷ 32 ∷ 33 ∷ 34 ∷ 35 ∷ 36 ∷ 37 ∷ 38 ∷ 39 ∷ 40 ∷ 11 ∷ 42 ∷ 43 ∷ 61 ∷
-    61 ∷ 66 ∷ 67 ∷ 71 ∷ 72 ∷ 74 ∷ 75 ∷ 84 ∷ 87 ∷ 88 ∷ 89 ∷ 90 ∷ 91 ∷ 92 ∷ 93 ∷ 94 ∷ 95 ∷ 95 ∷ 96 ∷ 97 ∷ 98 ∷
-    99 ∷ 100 ∷ 101 ∷ 102 ∷ 103 ∷ 104 ∷ 105 ∷ 106 ∷ 107 ∷ 108 ∷ 109 ∷ 110 ∷ 111 ∷ 112 ∷ 113 ∷ 114 ∷ 115 ∷ 116 ∷
-    122 ∷ 125 ∷ 130 ∷ 131 ∷ []
+    (codes "EPERM", 1)
+    ∷ (codes "ENOENT", 2)
+    ∷ (codes "ESRCH", 3)
+    ∷ (codes "EINTR", 4)
+    ∷ (codes "EIO", 5)
+    ∷ (codes "ENXIO", 6)
+    ∷ (codes "E2BIG", 7)
+    ∷ (codes "ENOEXEC", 8)
+    ∷ (codes "EBADF", 9)
+    ∷ (codes "ECHILD", 10)
+    ∷ (codes "EAGAIN", 11)
+    ∷ (codes "ENOMEM", 12)
+    ∷ (codes "EACCES", 13)
+    ∷ (codes "EFAULT", 14)
+    ∷ (codes "ENOTBLK", 15)
+    ∷ (codes "EBUSY", 16)
+    ∷ (codes "EEXIST", 17)
+    ∷ (codes "EXDEV", 18)
+    ∷ (codes "ENODEV", 19)
+    ∷ (codes "ENOTDIR", 20)
+    ∷ (codes "EISDIR", 21)
+    ∷ (codes "EINVAL", 22)
+    ∷ (codes "ENFILE", 23)
+    ∷ (codes "EMFILE", 24)
+    ∷ (codes "ENOTTY", 25)
+    ∷ (codes "ETXTBSY", 26)
+    ∷ (codes "EFBIG", 27)
+    ∷ (codes "ENOSPC", 28)
+    ∷ (codes "ESPIPE", 29)
+    ∷ (codes "EROFS", 30)
+    ∷ (codes "EMLINK", 31)
+    ∷ (codes "EPIPE", 32)
+    ∷ (codes "EDOM", 33)
+    ∷ (codes "ERANGE", 34)
+    ∷ (codes "EDEADLK", 35)
+    ∷ (codes "ENAMETOOLONG", 36)
+    ∷ (codes "ENOLCK", 37)
+    ∷ (codes "ENOSYS", 38)
+    ∷ (codes "ENOTEMPTY", 39)
+    ∷ (codes "ELOOP", 40)
+    ∷ (codes "EWOULDBLOCK", 11)
+    ∷ (codes "ENOMSG", 42)
+    ∷ (codes "EIDRM", 43)
+    ∷ (codes "ENODATA", 61)
+    ∷ (codes "NO_XATTR", 61)
+    ∷ (codes "EREMOTE", 66)
+    ∷ (codes "ENOLINK", 67)
+    ∷ (codes "EPROTO", 71)
+    ∷ (codes "EMULTIHOP", 72)
+    ∷ (codes "EBADMSG", 74)
+    ∷ (codes "EOVERFLOW", 75)
+    ∷ (codes "EILSEQ", 84)
+    ∷ (codes "EUSERS", 87)
+    ∷ (codes "ENOTSOCK", 88)
+    ∷ (codes "EDESTADDRREQ", 89)
+    ∷ (codes "EMSGSIZE", 90)
+    ∷ (codes "EPROTOTYPE", 91)
+    ∷ (codes "ENOPROTOOPT", 92)
+    ∷ (codes "EPROTONOSUPPORT", 93)
+    ∷ (codes "ESOCKTNOSUPPORT", 94)
+    ∷ (codes "EOPNOTSUPP", 95)
+    ∷ (codes "ENOTSUP", 95)
+    ∷ (codes "EPFNOSUPPORT", 96)
+    ∷ (codes "EAFNOSUPPORT", 97)
+    ∷ (codes "EADDRINUSE", 98)
+    ∷ (codes "EADDRNOTAVAIL", 99)
+    ∷ (codes "ENETDOWN", 100)
+    ∷ (codes "ENETUNREACH", 101)
+    ∷ (codes "ENETRESET", 102)
+    ∷ (codes "ECONNABORTED", 103)
+    ∷ (codes "ECONNRESET", 104)
+    ∷ (codes "ENOBUFS", 105)
+    ∷ (codes "EISCONN", 106)
+    ∷ (codes "ENOTCONN", 107)
+    ∷ (codes "ESHUTDOWN", 108)
+    ∷ (codes "ETOOMANYREFS", 109)
+    ∷ (codes "ETIMEDOUT", 110)
+    ∷ (codes "ECONNREFUSED", 111)
+    ∷ (codes "EHOSTDOWN", 112)
+    ∷ (codes "EHOSTUNREACH", 113)
+    ∷ (codes "EALREADY", 114)
+    ∷ (codes "EINPROGRESS", 115)
+    ∷ (codes "ESTALE", 116)
+    ∷ (codes "EDQUOT", 122)
+    ∷ (codes "ECANCELED", 125)
+    ∷ (codes "EOWNERDEAD", 130)
+    ∷ (codes "ENOTRECOVERABLE", 131)
+    ∷ []

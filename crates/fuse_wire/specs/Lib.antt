@@ -25,3 +25,4 @@ pub mod AttrFlags
 pub mod PollFlags
 pub mod IoctlFlags
 pub mod AccessFlags
+pub mod StdDevices

@@ -1,7 +1,7 @@
 // What ACCESS asks.
 ghost use Rattle.std.specs.Prelude.{◌≡◌, pos, Some};
 ghost use Rattle.std.specs.Int.{w32, int_bit_or};
-ghost use Rattle.std.specs.Fmt.{signed_decimal};
+ghost use Rattle.std.specs.Fmt.{signed_decimal, styled_signed_decimal};
 ghost use Rattle.fuse_wire.specs.AccessFlags.{has_access};
 
 use std::fmt;
@@ -61,6 +61,8 @@ impl AccessFlags {
 
 impl fmt::Display for AccessFlags {
     ghost output = { λ f. Some (signed_decimal f.0) };
+
+    ghost styled_output = { λ f style. Some (styled_signed_decimal style f.0) };
 
     fn fmt<W: fmt::Write>(&self, f: &mut fmt::Formatter<W>) -> fmt::Result {
         fmt::Display::fmt(&self.0, f)

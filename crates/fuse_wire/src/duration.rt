@@ -39,6 +39,6 @@ impl Duration {
         ensures nanos { result ≡ self.now }
         ensures within { result < 2 ^ 64 * 1000000000 }
     {
-        self.secs as u128 * 1000000000 + self.nanos as u128
+        self.secs as u128 * 1_000_000_000 + self.nanos as u128
     }
 }

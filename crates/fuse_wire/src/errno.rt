@@ -4,8 +4,8 @@ ghost use Rattle.fuse_wire.specs.Errno.{errno_from, named_numbers};
 
 use std::marker::Model;
 
-/// An error number of Linux, as in `asm-generic/errno.h`: from 1 to the last value of an i32. A reply carries its
-/// negative. A contract sees the number.
+/// An error number of Linux, as in `asm-generic/errno-base.h` and `asm-generic/errno.h`: from 1 to the last value of an
+/// i32. A reply carries its negative. A contract sees the number.
 #[derive(Clone, Copy, Debug, PartialEq, Eq)]
 pub struct Errno {
     code: u32,
@@ -317,122 +317,106 @@ impl From<Errno> for i32 {
     }
 }
 
-/// The errors that have a name, each with the number that Linux has for that name.
-fn named() -> [(Errno, i32); 87]
-    ensures rows { map (λ row. row.1) result ≡ map (λ row. pos row.0) result }
-    ensures numbers { map (λ row. row.0) result ≡ named_numbers }
-{
-    [
-        (Errno::EPERM, 1),
-        (Errno::ENOENT, 2),
-        (Errno::ESRCH, 3),
-        (Errno::EINTR, 4),
-        (Errno::EIO, 5),
-        (Errno::ENXIO, 6),
-        (Errno::E2BIG, 7),
-        (Errno::ENOEXEC, 8),
-        (Errno::EBADF, 9),
-        (Errno::ECHILD, 10),
-        (Errno::EAGAIN, 11),
-        (Errno::ENOMEM, 12),
-        (Errno::EACCES, 13),
-        (Errno::EFAULT, 14),
-        (Errno::ENOTBLK, 15),
-        (Errno::EBUSY, 16),
-        (Errno::EEXIST, 17),
-        (Errno::EXDEV, 18),
-        (Errno::ENODEV, 19),
-        (Errno::ENOTDIR, 20),
-        (Errno::EISDIR, 21),
-        (Errno::EINVAL, 22),
-        (Errno::ENFILE, 23),
-        (Errno::EMFILE, 24),
-        (Errno::ENOTTY, 25),
-        (Errno::ETXTBSY, 26),
-        (Errno::EFBIG, 27),
-        (Errno::ENOSPC, 28),
-        (Errno::ESPIPE, 29),
-        (Errno::EROFS, 30),
-        (Errno::EMLINK, 31),
-        (Errno::EPIPE, 32),
-        (Errno::EDOM, 33),
-        (Errno::ERANGE, 34),
-        (Errno::EDEADLK, 35),
-        (Errno::ENAMETOOLONG, 36),
-        (Errno::ENOLCK, 37),
-        (Errno::ENOSYS, 38),
-        (Errno::ENOTEMPTY, 39),
-        (Errno::ELOOP, 40),
-        (Errno::EWOULDBLOCK, 11),
-        (Errno::ENOMSG, 42),
-        (Errno::EIDRM, 43),
-        (Errno::ENODATA, 61),
-        (Errno::NO_XATTR, 61),
-        (Errno::EREMOTE, 66),
-        (Errno::ENOLINK, 67),
-        (Errno::EPROTO, 71),
-        (Errno::EMULTIHOP, 72),
-        (Errno::EBADMSG, 74),
-        (Errno::EOVERFLOW, 75),
-        (Errno::EILSEQ, 84),
-        (Errno::EUSERS, 87),
-        (Errno::ENOTSOCK, 88),
-        (Errno::EDESTADDRREQ, 89),
-        (Errno::EMSGSIZE, 90),
-        (Errno::EPROTOTYPE, 91),
-        (Errno::ENOPROTOOPT, 92),
-        (Errno::EPROTONOSUPPORT, 93),
-        (Errno::ESOCKTNOSUPPORT, 94),
-        (Errno::EOPNOTSUPP, 95),
-        (Errno::ENOTSUP, 95),
-        (Errno::EPFNOSUPPORT, 96),
-        (Errno::EAFNOSUPPORT, 97),
-        (Errno::EADDRINUSE, 98),
-        (Errno::EADDRNOTAVAIL, 99),
-        (Errno::ENETDOWN, 100),
-        (Errno::ENETUNREACH, 101),
-        (Errno::ENETRESET, 102),
-        (Errno::ECONNABORTED, 103),
-        (Errno::ECONNRESET, 104),
-        (Errno::ENOBUFS, 105),
-        (Errno::EISCONN, 106),
-        (Errno::ENOTCONN, 107),
-        (Errno::ESHUTDOWN, 108),
-        (Errno::ETOOMANYREFS, 109),
-        (Errno::ETIMEDOUT, 110),
-        (Errno::ECONNREFUSED, 111),
-        (Errno::EHOSTDOWN, 112),
-        (Errno::EHOSTUNREACH, 113),
-        (Errno::EALREADY, 114),
-        (Errno::EINPROGRESS, 115),
-        (Errno::ESTALE, 116),
-        (Errno::EDQUOT, 122),
-        (Errno::ECANCELED, 125),
-        (Errno::EOWNERDEAD, 130),
-        (Errno::ENOTRECOVERABLE, 131),
-    ]
+// A row for each name: the name as a text, the constant, and its number. The text is made of the name of the constant, so
+// that a clause over the texts speaks of these constants.
+macro_rules! rows {
+    ($($name:ident = $number:literal,)*) => {
+        [$((stringify!($name), Errno::$name, $number)),*]
+    };
 }
 
-#[cfg(test)]
-mod tests {
-    use super::*;
-    use std::test::Fail;
-
-    #[test]
-    fn names_have_the_numbers_of_linux(rt: HostRuntime) -> Result<(), Fail> {
-        for (errno, number) in named() {
-            assert_eq!(rt; errno.code(), number);
-            assert_eq!(rt; i32::from(errno), number);
-            assert_eq!(rt; Errno::from_i32(number), errno);
-        }
-        Ok(())
-    }
-
-    #[test]
-    fn what_is_not_positive_is_eio(rt: HostRuntime) -> Result<(), Fail> {
-        for number in [0, -1, -2, -5, i32::MIN] {
-            assert_eq!(rt; Errno::from_i32(number), Errno::EIO, "of {number}");
-        }
-        Ok(())
-    }
+/// The errors that have a name, each with that name and the number that Linux has for it.
+pub fn named_errors() -> [(&'static str, Errno, i32); 87]
+    ensures names { map (λ row. (row.0.now, row.1)) result ≡ named_numbers }
+    ensures numbers { map (λ row. row.2) result ≡ map (λ row. pos row.1) result }
+{
+    rows![
+        EPERM = 1,
+        ENOENT = 2,
+        ESRCH = 3,
+        EINTR = 4,
+        EIO = 5,
+        ENXIO = 6,
+        E2BIG = 7,
+        ENOEXEC = 8,
+        EBADF = 9,
+        ECHILD = 10,
+        EAGAIN = 11,
+        ENOMEM = 12,
+        EACCES = 13,
+        EFAULT = 14,
+        ENOTBLK = 15,
+        EBUSY = 16,
+        EEXIST = 17,
+        EXDEV = 18,
+        ENODEV = 19,
+        ENOTDIR = 20,
+        EISDIR = 21,
+        EINVAL = 22,
+        ENFILE = 23,
+        EMFILE = 24,
+        ENOTTY = 25,
+        ETXTBSY = 26,
+        EFBIG = 27,
+        ENOSPC = 28,
+        ESPIPE = 29,
+        EROFS = 30,
+        EMLINK = 31,
+        EPIPE = 32,
+        EDOM = 33,
+        ERANGE = 34,
+        EDEADLK = 35,
+        ENAMETOOLONG = 36,
+        ENOLCK = 37,
+        ENOSYS = 38,
+        ENOTEMPTY = 39,
+        ELOOP = 40,
+        EWOULDBLOCK = 11,
+        ENOMSG = 42,
+        EIDRM = 43,
+        ENODATA = 61,
+        NO_XATTR = 61,
+        EREMOTE = 66,
+        ENOLINK = 67,
+        EPROTO = 71,
+        EMULTIHOP = 72,
+        EBADMSG = 74,
+        EOVERFLOW = 75,
+        EILSEQ = 84,
+        EUSERS = 87,
+        ENOTSOCK = 88,
+        EDESTADDRREQ = 89,
+        EMSGSIZE = 90,
+        EPROTOTYPE = 91,
+        ENOPROTOOPT = 92,
+        EPROTONOSUPPORT = 93,
+        ESOCKTNOSUPPORT = 94,
+        EOPNOTSUPP = 95,
+        ENOTSUP = 95,
+        EPFNOSUPPORT = 96,
+        EAFNOSUPPORT = 97,
+        EADDRINUSE = 98,
+        EADDRNOTAVAIL = 99,
+        ENETDOWN = 100,
+        ENETUNREACH = 101,
+        ENETRESET = 102,
+        ECONNABORTED = 103,
+        ECONNRESET = 104,
+        ENOBUFS = 105,
+        EISCONN = 106,
+        ENOTCONN = 107,
+        ESHUTDOWN = 108,
+        ETOOMANYREFS = 109,
+        ETIMEDOUT = 110,
+        ECONNREFUSED = 111,
+        EHOSTDOWN = 112,
+        EHOSTUNREACH = 113,
+        EALREADY = 114,
+        EINPROGRESS = 115,
+        ESTALE = 116,
+        EDQUOT = 122,
+        ECANCELED = 125,
+        EOWNERDEAD = 130,
+        ENOTRECOVERABLE = 131,
+    ]
 }

@@ -1,5 +1,6 @@
 // What is said of an open file, and what it is asked for.
 ghost use Rattle.std.specs.Prelude.{⊤, Some, decimal};
+ghost use Rattle.std.specs.Fmt.{styled_decimal};
 ghost use Rattle.fuse_wire.specs.FileFlags.{fopen_flags_table, fsync_flags_table, read_flags_table, write_flags_table, release_flags_table};
 
 use bitflags::{Flag, Flags};
@@ -126,6 +127,8 @@ impl Flags for FsyncFlags {
 
 impl fmt::Display for FsyncFlags {
     ghost output = { λ f. Some (decimal f.0) };
+
+    ghost styled_output = { λ f style. Some (styled_decimal style f.0) };
 
     fn fmt<W: fmt::Write>(&self, f: &mut fmt::Formatter<W>) -> fmt::Result {
         fmt::Display::fmt(&self.0, f)
@@ -261,6 +264,8 @@ impl Flags for ReleaseFlags {
 
 impl fmt::Display for ReleaseFlags {
     ghost output = { λ f. Some (decimal f.0) };
+
+    ghost styled_output = { λ f style. Some (styled_decimal style f.0) };
 
     fn fmt<W: fmt::Write>(&self, f: &mut fmt::Formatter<W>) -> fmt::Result {
         fmt::Display::fmt(&self.0, f)

@@ -1,5 +1,6 @@
 // How an `ioctl` is called, for files and for character devices.
 ghost use Rattle.std.specs.Prelude.{⊤, Some, decimal};
+ghost use Rattle.std.specs.Fmt.{styled_decimal};
 ghost use Rattle.fuse_wire.specs.IoctlFlags.{ioctl_flags_table, cuse_init_flags_table};
 
 use bitflags::{Flag, Flags};
@@ -79,6 +80,8 @@ impl Flags for IoctlFlags {
 impl fmt::Display for IoctlFlags {
     ghost output = { λ f. Some (decimal f.0) };
 
+    ghost styled_output = { λ f style. Some (styled_decimal style f.0) };
+
     fn fmt<W: fmt::Write>(&self, f: &mut fmt::Formatter<W>) -> fmt::Result {
         fmt::Display::fmt(&self.0, f)
     }
@@ -120,6 +123,8 @@ impl Flags for CuseInitFlags {
 
 impl fmt::Display for CuseInitFlags {
     ghost output = { λ f. Some (decimal f.0) };
+
+    ghost styled_output = { λ f style. Some (styled_decimal style f.0) };
 
     fn fmt<W: fmt::Write>(&self, f: &mut fmt::Formatter<W>) -> fmt::Result {
         fmt::Display::fmt(&self.0, f)

@@ -1,12 +1,17 @@
-//! Laws of the definitions. Each function here does nothing: its contract is the law, which holds of all its arguments.
-ghost use Rattle.std.specs.Prelude.{◌≡◌, ◌<◌, IsTrue, nat_eq};
+//! Laws of the definitions. Each function here does nothing, or gives constants: its contract is the law, which holds of all
+//! its arguments.
+ghost use Rattle.std.specs.Prelude.{◌≡◌, ◌<◌, ◌^◌, ◌+◌, [], ◌∷◌, map, pos, IsTrue, nat_eq};
 ghost use Rattle.std.specs.Ordering.{int_cmp, int_eq, nat_cmp};
 ghost use Rattle.fuse_wire.specs.Numbered.{AsNumber, AsTwoNumbers, OrderedAs};
 ghost use Rattle.fuse_wire.specs.Times.{time_in, time_out};
 
+use crate::consts::{
+    BUFFER_SIZE, FUSE_IOCTL_MAX_IOV, FUSE_KERNEL_MINOR_VERSION, FUSE_KERNEL_VERSION, FUSE_LK_FLOCK,
+    FUSE_MIN_READ_BUFFER, MAX_WRITE_SIZE,
+};
 use crate::{
-    Duration, FileHandle, Generation, INodeNo, LockOwner, PollHandle, RequestId, SystemTime,
-    Version,
+    AccessFlags, Duration, FileHandle, Generation, INodeNo, LockOwner, PollHandle, RequestId,
+    SystemTime, Version,
 };
 use std::cmp::Ordering;
 use std::hash::Hash;
@@ -50,17 +55,25 @@ pub fn times_come_back(secs: i64, nanos: u32)
     ensures { time_out (time_in secs nanos) ≡ (secs, nanos) }
 {}
 
-#[cfg(test)]
-mod tests {
-    use super::*;
-    use std::test::Fail;
+/// The constants of `consts` have the numbers of `fuse.h`, and the limits of this library.
+pub fn constants_have_their_numbers()
+    ensures version { (FUSE_KERNEL_VERSION ≡ 7) × (FUSE_KERNEL_MINOR_VERSION ≡ 40) }
+    ensures kernel { (FUSE_LK_FLOCK ≡ 1) × (FUSE_IOCTL_MAX_IOV ≡ 256) × (FUSE_MIN_READ_BUFFER ≡ 8192) }
+    ensures limits { (MAX_WRITE_SIZE ≡ 2 ^ 24) × (BUFFER_SIZE ≡ 2 ^ 24 + 4096) }
+{}
 
-    #[test]
-    fn laws_can_be_called(_rt: HostRuntime) -> Result<(), Fail> {
-        equals_order_and_hash_alike(&INodeNo::ROOT, &INodeNo(1));
-        compared_as_numbers();
-        compared_as_nanoseconds();
-        times_come_back(-2, 800_000_000);
-        Ok(())
-    }
+/// The root has the number of `fuse.h`, and `F_OK`, `X_OK`, `W_OK` and `R_OK` have those of `access(2)`.
+pub fn names_have_their_numbers() -> (INodeNo, [AccessFlags; 4])
+    ensures root { result.0.0 ≡ 1 }
+    ensures access { map (λ mask. mask.0) result.1 ≡ pos 0 ∷ pos 1 ∷ pos 2 ∷ pos 4 ∷ [] }
+{
+    (
+        INodeNo::ROOT,
+        [
+            AccessFlags::F_OK,
+            AccessFlags::X_OK,
+            AccessFlags::W_OK,
+            AccessFlags::R_OK,
+        ],
+    )
 }

@@ -12,8 +12,6 @@ mod duration;
 mod errno;
 mod file_attr;
 mod file_flags;
-#[cfg(test)]
-mod flag_tests;
 mod init_flags;
 mod ioctl_flags;
 mod items;
@@ -30,8 +28,6 @@ mod pieces;
 mod poll_flags;
 mod sink;
 mod source;
-#[cfg(test)]
-mod source_tests;
 mod std_sink;
 mod std_source;
 mod stream_sink;
@@ -43,7 +39,7 @@ pub use attr_flags::{FattrFlags, GetattrFlags};
 pub use byte_sink::{ByteSink, ByteWrite};
 pub use byte_source::{ByteRead, ByteSource};
 pub use duration::Duration;
-pub use errno::Errno;
+pub use errno::{Errno, named_errors};
 pub use file_attr::{FileAttr, FileType};
 pub use file_flags::{FopenFlags, FsyncFlags, ReadFlags, ReleaseFlags, WriteFlags};
 pub use init_flags::InitFlags;

@@ -77,36 +77,3 @@ impl ByteSource for MemoryBytes {
         ByteRead::Got(taken)
     }
 }
-
-#[cfg(test)]
-mod tests {
-    use super::*;
-    use crate::ByteRead::{End, Failed, Got};
-    use std::test::Fail;
-
-    #[test]
-    fn fails_at_the_reads_that_are_listed(rt: HostRuntime) -> Result<(), Fail> {
-        let cases = [
-            (1, [Got(1), Failed, Got(1), Got(1), End]),
-            (7, [Got(3), Failed, End, End, End]),
-            (2, [Got(2), Failed, Got(1), End, End]),
-        ];
-        for (step, answers) in cases {
-            let bytes = Vec::from_slice(rt.alloc(), &[1, 2, 3])?;
-            let faults = Vec::from_slice(rt.alloc(), &[9, 2, 2])?;
-            let mut stream = MemoryBytes::new(bytes, step, faults);
-            let mut read = Vec::new(rt.alloc());
-            for answer in answers {
-                let mut piece = [0; 4];
-                assert_eq!(rt; stream.read(&mut piece), answer, "step {step}");
-                if let Got(count) = answer {
-                    for byte in piece.iter().take(count) {
-                        read.push(*byte)?;
-                    }
-                }
-            }
-            assert_eq!(rt; read.as_slice(), [1, 2, 3].as_slice(), "step {step}");
-        }
-        Ok(())
-    }
-}

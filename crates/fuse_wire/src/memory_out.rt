@@ -93,29 +93,3 @@ impl ByteSink for MemoryOut {
         }
     }
 }
-
-#[cfg(test)]
-mod tests {
-    use super::*;
-    use crate::ByteWrite::{Failed, Wrote};
-    use std::test::Fail;
-
-    #[test]
-    fn a_write_that_fails_keeps_the_bytes_before(rt: HostRuntime) -> Result<(), Fail> {
-        let cases: [(usize, [ByteWrite; 4], &[u8]); 3] = [
-            (1, [Wrote(1), Failed, Wrote(1), Failed], &[1, 1]),
-            (2, [Wrote(2), Failed, Wrote(2), Failed], &[1, 2, 1, 2]),
-            (7, [Wrote(3), Failed, Wrote(3), Failed], &[1, 2, 3, 1, 2, 3]),
-        ];
-        for (step, answers, written) in cases {
-            let faults = Vec::from_slice(rt.alloc(), &[4, 2])?;
-            let mut stream = MemoryOut::new(rt.alloc(), step, faults);
-            for answer in answers {
-                assert_eq!(rt; stream.write(&[1, 2, 3]), answer, "step {step}");
-            }
-            assert_eq!(rt; stream.bytes(), written, "step {step}");
-            assert_eq!(rt; stream.starved(), 0);
-        }
-        Ok(())
-    }
-}

@@ -1,5 +1,6 @@
 // How files are renamed and copied, and what a file is marked with.
 ghost use Rattle.std.specs.Prelude.{⊤, Some, decimal};
+ghost use Rattle.std.specs.Fmt.{styled_decimal};
 ghost use Rattle.fuse_wire.specs.NodeFlags.{rename_flags_table, copy_file_range_flags_table, bsd_file_flags_table};
 
 use bitflags::{Flag, Flags};
@@ -57,6 +58,8 @@ impl Flags for RenameFlags {
 
 impl fmt::Display for RenameFlags {
     ghost output = { λ f. Some (decimal f.0) };
+
+    ghost styled_output = { λ f style. Some (styled_decimal style f.0) };
 
     fn fmt<W: fmt::Write>(&self, f: &mut fmt::Formatter<W>) -> fmt::Result {
         fmt::Display::fmt(&self.0, f)

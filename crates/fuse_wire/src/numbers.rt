@@ -3,7 +3,7 @@ ghost use Rattle.std.specs.Prelude.{◌≡◌, ◌+◌, ◌≤◌, ◌<◌, ◌^
 ghost use Rattle.std.specs.Int.{w32, w64};
 ghost use Rattle.fuse_wire.specs.Numbers.{number, signed};
 
-/// The `u32` at an offset.
+/// The little-endian `u32` in the 4 bytes from an offset on.
 #[tactic(auto, unfolding(crate::specs::Numbers::number))]
 pub fn u32_at(bytes: &[u8], at: usize) -> u32
     requires { at + 4 ≤ length bytes.now }
@@ -12,7 +12,7 @@ pub fn u32_at(bytes: &[u8], at: usize) -> u32
     u32::from_le_bytes([bytes[at], bytes[at + 1], bytes[at + 2], bytes[at + 3]])
 }
 
-/// The `u64` at an offset.
+/// The little-endian `u64` in the 8 bytes from an offset on.
 #[tactic(auto, unfolding(crate::specs::Numbers::number))]
 pub fn u64_at(bytes: &[u8], at: usize) -> u64
     requires { at + 8 ≤ length bytes.now }
@@ -30,7 +30,7 @@ pub fn u64_at(bytes: &[u8], at: usize) -> u64
     ])
 }
 
-/// The `i32` at an offset.
+/// The little-endian `i32` in the 4 bytes from an offset on, in two's complement.
 pub fn i32_at(bytes: &[u8], at: usize) -> i32
     requires { at + 4 ≤ length bytes.now }
     ensures { result ≡ signed w32 bytes.now at }
@@ -38,7 +38,7 @@ pub fn i32_at(bytes: &[u8], at: usize) -> i32
     u32_at(bytes, at).cast_signed()
 }
 
-/// The `i64` at an offset.
+/// The little-endian `i64` in the 8 bytes from an offset on, in two's complement.
 pub fn i64_at(bytes: &[u8], at: usize) -> i64
     requires { at + 8 ≤ length bytes.now }
     ensures { result ≡ signed w64 bytes.now at }
@@ -46,7 +46,7 @@ pub fn i64_at(bytes: &[u8], at: usize) -> i64
     u64_at(bytes, at).cast_signed()
 }
 
-/// The `u32` at an offset, where a byte that is not there counts as 0.
+/// The little-endian `u32` in the 4 bytes from an offset on, where a byte that is not there counts as 0.
 #[tactic(auto, unfolding(crate::specs::Numbers::number))]
 pub fn u32_or_zero_at(bytes: &[u8], at: usize) -> u32
     requires { at + 4 < 2 ^ 64 }
@@ -60,6 +60,7 @@ pub fn u32_or_zero_at(bytes: &[u8], at: usize) -> u32
     ])
 }
 
+/// The byte at an offset, or 0 where there is none.
 fn byte_or_zero_at(bytes: &[u8], at: usize) -> u8
     ensures { result ≡ slice_index bytes.now at }
 {

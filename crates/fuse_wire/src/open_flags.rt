@@ -30,32 +30,3 @@ impl OpenFlags {
         }
     }
 }
-
-#[cfg(test)]
-mod tests {
-    use super::*;
-    use std::test::Fail;
-
-    #[test]
-    fn the_low_two_bits_are_the_mode(rt: HostRuntime) -> Result<(), Fail> {
-        for (flags, mode) in [
-            (0, OpenAccMode::O_RDONLY),
-            (1, OpenAccMode::O_WRONLY),
-            (2, OpenAccMode::O_RDWR),
-            (3, OpenAccMode::O_RDONLY),
-            (0x8000, OpenAccMode::O_RDONLY),
-            (0x8401, OpenAccMode::O_WRONLY),
-            (0x8242, OpenAccMode::O_RDWR),
-            (i32::MAX, OpenAccMode::O_RDONLY),
-            (-1, OpenAccMode::O_RDONLY),
-            (-2, OpenAccMode::O_RDWR),
-            (-3, OpenAccMode::O_WRONLY),
-            (i32::MIN, OpenAccMode::O_RDONLY),
-            (i32::MIN + 1, OpenAccMode::O_WRONLY),
-            (i32::MIN + 2, OpenAccMode::O_RDWR),
-        ] {
-            assert_eq!(rt; OpenFlags(flags).acc_mode(), mode, "of {flags}");
-        }
-        Ok(())
-    }
-}

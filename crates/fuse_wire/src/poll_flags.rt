@@ -1,5 +1,6 @@
 // What is waited for, and how.
 ghost use Rattle.std.specs.Prelude.{⊤, Some, decimal};
+ghost use Rattle.std.specs.Fmt.{styled_decimal};
 ghost use Rattle.fuse_wire.specs.PollFlags.{poll_events_table, poll_flags_table};
 
 use bitflags::{Flag, Flags};
@@ -108,6 +109,8 @@ impl Flags for PollEvents {
 impl fmt::Display for PollEvents {
     ghost output = { λ f. Some (decimal f.0) };
 
+    ghost styled_output = { λ f style. Some (styled_decimal style f.0) };
+
     fn fmt<W: fmt::Write>(&self, f: &mut fmt::Formatter<W>) -> fmt::Result {
         fmt::Display::fmt(&self.0, f)
     }
@@ -149,6 +152,8 @@ impl Flags for PollFlags {
 
 impl fmt::Display for PollFlags {
     ghost output = { λ f. Some (decimal f.0) };
+
+    ghost styled_output = { λ f style. Some (styled_decimal style f.0) };
 
     fn fmt<W: fmt::Write>(&self, f: &mut fmt::Formatter<W>) -> fmt::Result {
         fmt::Display::fmt(&self.0, f)

@@ -1,10 +1,13 @@
 // Bytes to a writer of std.
-ghost use Rattle.std.specs.Prelude.{◌≡◌, None};
+ghost use Rattle.std.specs.Prelude.{◌≡◌, ◌<◌, None, length};
+ghost use Rattle.fuse_wire.specs.ByteSink.{Writes};
+ghost use Rattle.fuse_wire.specs.StdDevices.{CountsWrite, WritesBelow, failed_writes, writer_below};
 
 use crate::{ByteSink, ByteWrite};
 use std::io::Write;
 
-/// The bytes of a writer, which is flushed after each write. It tells none of them, and counts its errors.
+/// The bytes of a writer, which is flushed after each write. It tells none of them, and counts its errors: a write that
+/// takes no byte is one too. Where the flush behind a write fails, the writer may still have taken the bytes.
 #[derive(Debug, Drop)]
 pub struct StdSink<W> {
     writer: W,
@@ -13,7 +16,10 @@ pub struct StdSink<W> {
 
 impl<W: Write> StdSink<W> {
     /// Writes to this writer.
-    pub fn new(writer: W) -> StdSink<W> {
+    pub fn new(writer: W) -> StdSink<W>
+        ensures held { writer_below result ≡ writer }
+        ensures fresh { failed_writes result ≡ 0 }
+    {
         StdSink { writer, faults: 0 }
     }
 }
@@ -21,7 +27,13 @@ impl<W: Write> StdSink<W> {
 impl<W: Write> ByteSink for StdSink<W> {
     ghost told = { λ s. record { bytes = None; faults = s.faults } };
 
-    fn write(&mut self, piece: &[u8]) -> ByteWrite {
+    /// Writes once, and flushes. Where a flush fails, some of the piece may stand in the writer although the write failed.
+    fn write(&mut self, piece: &[u8]) -> ByteWrite
+        requires { 0 < length piece.now }
+        ensures writes { Writes result piece.now (record { bytes = None; faults = failed_writes self.old }) (record { bytes = None; faults = failed_writes self.new }) }
+        ensures below { WritesBelow result piece.now (W.contents (writer_below self.old)) (W.contents (writer_below self.new)) }
+        ensures counts { CountsWrite result (failed_writes self.old) (failed_writes self.new) }
+    {
         if let Ok(count) = self.writer.write(piece) {
             if count > 0 && self.writer.flush().is_ok() {
                 return ByteWrite::Wrote(count);
@@ -29,27 +41,5 @@ impl<W: Write> ByteSink for StdSink<W> {
         }
         self.faults = self.faults.saturating_add(1);
         ByteWrite::Failed
-    }
-}
-
-#[cfg(test)]
-mod tests {
-    use super::*;
-    use std::io::Cursor;
-
-    #[test]
-    fn writes_to_a_vector(rt: HostRuntime) {
-        let mut bytes = Vec::new(rt.alloc());
-        let mut sink = StdSink::new(&mut bytes);
-        assert_eq!(rt; sink.write(&[1, 2]), ByteWrite::Wrote(2));
-        assert_eq!(rt; sink.write(&[3]), ByteWrite::Wrote(1));
-        assert_eq!(rt; bytes.as_slice(), [1, 2, 3].as_slice());
-    }
-
-    #[test]
-    fn fails_where_nothing_is_taken(rt: HostRuntime) {
-        let mut sink = StdSink::new(Cursor::new([0; 2]));
-        assert_eq!(rt; sink.write(&[1, 2, 3]), ByteWrite::Wrote(2));
-        assert_eq!(rt; sink.write(&[3]), ByteWrite::Failed);
     }
 }

@@ -1,10 +1,12 @@
 // Bytes from a reader of std.
-ghost use Rattle.std.specs.Prelude.{◌≡◌, None};
+ghost use Rattle.std.specs.Prelude.{◌≡◌, ◌<◌, None, length};
+ghost use Rattle.fuse_wire.specs.ByteSource.{Reads};
+ghost use Rattle.fuse_wire.specs.StdDevices.{CountsRead, ReadsBelow, failed_reads, reader_below};
 
 use crate::{ByteRead, ByteSource};
 use std::io::Read;
 
-/// The bytes of a reader. It tells none of them, and counts its errors.
+/// The bytes of a reader. It tells none of them, and counts its errors, of which each is a fault: none is tried again.
 #[derive(Debug, Drop)]
 pub struct StdSource<R> {
     reader: R,
@@ -13,7 +15,10 @@ pub struct StdSource<R> {
 
 impl<R: Read> StdSource<R> {
     /// The bytes that this reader gives.
-    pub fn new(reader: R) -> StdSource<R> {
+    pub fn new(reader: R) -> StdSource<R>
+        ensures held { reader_below result ≡ reader }
+        ensures fresh { failed_reads result ≡ 0 }
+    {
         StdSource { reader, faults: 0 }
     }
 }
@@ -21,7 +26,13 @@ impl<R: Read> StdSource<R> {
 impl<R: Read> ByteSource for StdSource<R> {
     ghost told = { λ s. record { bytes = None; faults = s.faults } };
 
-    fn read(&mut self, piece: &mut [u8]) -> ByteRead {
+    /// Reads once. A failure passes over no byte that the reader knows of.
+    fn read(&mut self, piece: &mut [u8]) -> ByteRead
+        requires { 0 < length piece.old }
+        ensures reads { Reads result (record { bytes = None; faults = failed_reads self.old }) (record { bytes = None; faults = failed_reads self.new }) piece.new }
+        ensures below { ReadsBelow result piece.new (R.remaining (reader_below self.old)) (R.remaining (reader_below self.new)) }
+        ensures counts { CountsRead result (failed_reads self.old) (failed_reads self.new) }
+    {
         match self.reader.read(piece) {
             Ok(0) => ByteRead::End,
             Ok(count) => ByteRead::Got(count),
@@ -30,22 +41,5 @@ impl<R: Read> ByteSource for StdSource<R> {
                 ByteRead::Failed
             }
         }
-    }
-}
-
-#[cfg(test)]
-mod tests {
-    use super::*;
-
-    #[test]
-    fn reads_a_slice(rt: HostRuntime) {
-        let bytes: &[u8] = &[1, 2, 3];
-        let mut source = StdSource::new(bytes);
-        let mut piece = [0; 2];
-        assert_eq!(rt; source.read(&mut piece), ByteRead::Got(2));
-        assert_eq!(rt; piece, [1, 2]);
-        assert_eq!(rt; source.read(&mut piece), ByteRead::Got(1));
-        assert_eq!(rt; piece[0], 3);
-        assert_eq!(rt; source.read(&mut piece), ByteRead::End);
     }
 }

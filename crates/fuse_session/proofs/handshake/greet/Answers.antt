@@ -4,9 +4,6 @@ use Rattle.std.specs.Prelude.{option_map}
 use Rattle.fuse_request.specs.InitOperation.{arguments_of}
 use Rattle.fuse_request.specs.Header.{header_of}
 use Rattle.fuse_request.specs.Operation.{operation, plain}
-use Rattle.fuse_reply.specs.Answer.Answer.{Error}
-use Rattle.fuse_reply.specs.Frame.{reply}
-use Rattle.fuse_reply.specs.declared.out.Out.TheVariants.{Frame}
 use Rattle.fuse_session.specs.Shakes.{GreetsAs}
 use Rattle.fuse_session.specs.declared.handshake.Greeting.TheVariants as comes
 use Rattle.fuse_session.specs.declared.error.InvalidData.TheVariants as invalid

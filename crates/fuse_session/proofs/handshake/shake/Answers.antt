@@ -1,12 +1,20 @@
-use Rattle.std.proofs.Common.{refl}
-use Rattle.fuse_session.proofs.ShakeSteps.{Shakes-gone, Shakes-failed, Shakes-silent, Shakes-refused, Shakes-accepted, ShakesOn-again}
+use Rattle.std.proofs.Common.{[], refl}
+use Rattle.fuse_wire.proofs.Devices.{Takes-none}
+use Rattle.fuse_session.specs.declared.error.SessionError.TheVariants as session
+use Rattle.fuse_session.proofs.Taking.{Begins-from_takes}
+use Rattle.fuse_session.proofs.ShakeSteps.{Shakes-none, Shakes-silent, Shakes-refused, Shakes-accepted, ShakesOn-again}
 use Rattle.fuse_session.proofs.handshake.shake.Goals as goal
 
 pub returns-in-Gone : goal.returns-in-Gone
-returns-in-Gone g c = Shakes-gone _ _ _ _ _ _ _ _ c.take_message.new.buffer c.in-Gone.ensures
+returns-in-Gone g c =
+    let next = c.in-Gone.ensures in
+    Shakes-none _ _ _ session.NotConnected _ _ _ _ _ next.2 (refl, next.0, next.1)
 
 pub returns-in-Failed : goal.returns-in-Failed
-returns-in-Failed g c = Shakes-failed _ _ _ _ _ _ _ _ c.take_message.new.buffer c.in-Failed.ensures
+returns-in-Failed g c =
+    let next = c.in-Failed.ensures in
+    let before = g.S.Source.told c.args.source.now in
+    Shakes-none _ _ _ session.Receive _ _ _ _ _ next.1 (refl, Begins-from_takes [] before before (Takes-none before), next.0)
 
 pub returns-in-Silent : goal.returns-in-Silent
 returns-in-Silent g c = Shakes-silent _ _ _ _ _ _ _ _ _ _ _ c.take_message.new.buffer _ c.in-Message.ensures refl c.in-Silent.ensures

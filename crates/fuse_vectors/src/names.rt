@@ -1,12 +1,30 @@
-// The names and values of `fuse.h`, of `poll(2)`, `renameat2(2)` and `access(2)`.
-use crate::{
-    AccessFlags, BsdFileFlags, CopyFileRangeFlags, CuseInitFlags, FattrFlags, FopenFlags,
-    FsyncFlags, GetattrFlags, InitFlags, IoctlFlags, PollEvents, PollFlags, ReadFlags,
-    ReleaseFlags, RenameFlags, WriteFlags,
-};
+// Errors and flags: the names and values of `errno.h`, `fuse.h`, `poll(2)`, `renameat2(2)` and `access(2)`.
 use bitflags::Flags;
+use fuse_wire::{
+    AccessFlags, BsdFileFlags, CopyFileRangeFlags, CuseInitFlags, Errno, FattrFlags, FopenFlags,
+    FsyncFlags, GetattrFlags, InitFlags, IoctlFlags, PollEvents, PollFlags, ReadFlags,
+    ReleaseFlags, RenameFlags, WriteFlags, named_errors,
+};
 use std::process::Abort;
 use std::test::Fail;
+
+#[test]
+fn names_have_the_numbers_of_linux(rt: HostRuntime) -> Result<(), Fail> {
+    for (name, errno, number) in named_errors() {
+        assert_eq!(rt; errno.code(), number, "{name}");
+        assert_eq!(rt; i32::from(errno), number, "{name}");
+        assert_eq!(rt; Errno::from_i32(number), errno, "{name}");
+    }
+    Ok(())
+}
+
+#[test]
+fn what_is_not_positive_is_eio(rt: HostRuntime) -> Result<(), Fail> {
+    for number in [0, -1, -2, -5, i32::MIN] {
+        assert_eq!(rt; Errno::from_i32(number), Errno::EIO, "of {number}");
+    }
+    Ok(())
+}
 
 // Says whether the names of a set and their bits are these.
 fn names<F: Flags<Bits = u32>>(rt: &impl Abort, expected: &[(&str, u32)]) {

@@ -1,10 +1,10 @@
 // Messages from a stream of bytes, and from memory.
-ghost use Rattle.std.specs.Prelude.{◌≡◌, IfOk, length};
+ghost use Rattle.std.specs.Prelude.{◌≡◌, length};
 ghost use Rattle.fuse_wire.specs.declared.consts.TheConstants.{BUFFER_SIZE};
 
-use crate::Received::{Failed, Gone, Message, Retry};
-use crate::consts::BUFFER_SIZE;
-use crate::{Items, MemoryBytes, MemorySource, Received, Source, StreamSource, Turn};
+use crate::receive_buffer;
+use fuse_wire::Received::{Failed, Gone, Message, Retry};
+use fuse_wire::{Items, MemoryBytes, MemorySource, Received, Source, StreamSource, Turn};
 use std::alloc::{AllocError, Global};
 use std::process::Abort;
 use std::test::Fail;
@@ -12,13 +12,6 @@ use std::test::Fail;
 /// The length field of each message, and how many bytes of it there are: one is shorter than a header says that it is,
 /// one longer than the others, and the last ends where the stream does.
 const MESSAGES: [(u32, usize); 4] = [(48, 48), (39, 40), (1000, 1000), (64, 50)];
-
-/// A receive buffer.
-fn receive_buffer(alloc: Global) -> Result<Vec<u8>, AllocError>
-    ensures { IfOk result (λ buffer. length buffer.items ≡ BUFFER_SIZE) }
-{
-    vec![in alloc; 0u8; BUFFER_SIZE]
-}
 
 /// The bytes of one message.
 fn message(alloc: Global, field: u32, size: usize) -> Result<Vec<u8>, AllocError> {

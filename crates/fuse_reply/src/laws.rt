@@ -1,0 +1,76 @@
+//! Laws of the definitions. Each function here does nothing: its contract is the law, which holds of all requests and answers.
+ghost use Rattle.std.specs.Prelude.{◌≡◌, ◌<◌, ◌≤ℤ◌, ◌^◌, ◌++◌, ◌∷◌, ℕ, List, false, length, pos, neg_ℤ};
+ghost use Rattle.std.specs.List.{AllByRecursion, concat};
+ghost use Rattle.fuse_wire.specs.Frames.{frame_length, frames};
+ghost use Rattle.fuse_reply.specs.Answer.{Answer, IsAnswer};
+ghost use Rattle.fuse_reply.specs.Answer.Answer.{Error};
+ghost use Rattle.fuse_reply.specs.Frame.{frame_status, is_set_aside, replies, reply, status};
+
+/// No reply is set aside, whatever its request's id is: its frame's status is the answer's, which is at most 0.
+pub fn replies_are_not_set_aside()
+    ensures kept { (id : ℕ) (answer : Answer) → IsAnswer answer → is_set_aside (reply id answer) ≡ false }
+    ensures status { (id : ℕ) (answer : Answer) → IsAnswer answer → frame_status (reply id answer) ≡ status answer }
+    ensures sign { (answer : Answer) → status answer ≤ℤ pos 0 }
+{}
+
+/// The status of an error's frame is the error's number below zero.
+pub fn an_error_is_sent_below_zero()
+    ensures { (id errno : ℕ) → 0 < errno → errno < 2 ^ 31 → frame_status (reply id (Error errno)) ≡ neg_ℤ (pos errno) }
+{}
+
+/// Each reply begins with its own length. So it is the first frame of whatever stream it stands in front of, and replies
+/// on a stream, one behind the other, split into just those.
+pub fn frames_count_themselves()
+    ensures counted { (id : ℕ) (answer : Answer) → IsAnswer answer → frame_length (reply id answer) ≡ length (reply id answer) }
+    ensures first { (id : ℕ) (answer : Answer) (behind : List ℕ) → IsAnswer answer → frames (reply id answer ++ behind) ≡ reply id answer ∷ frames behind }
+    ensures split { (answered : List (ℕ × Answer)) → AllByRecursion (λ a. IsAnswer a.1) answered → frames (concat (replies answered)) ≡ replies answered }
+{}
+
+#[cfg(test)]
+mod tests {
+    use super::*;
+    use crate::{OutEnd, ReplyData, ReplyEmpty};
+    use fuse_wire::{Errno, MemoryOut, RequestId, StreamSink};
+
+    /// The frame in front, as its length field has it, and what stands behind it.
+    fn split_frame(bytes: &[u8]) -> Option<(&[u8], &[u8])> {
+        let [l0, l1, l2, l3, ..] = bytes else {
+            return None;
+        };
+        bytes.split_at_checked(u32::from_le_bytes([*l0, *l1, *l2, *l3]) as usize)
+    }
+
+    #[test]
+    fn frames_on_a_stream_split_at_their_lengths(rt: HostRuntime) {
+        replies_are_not_set_aside();
+        an_error_is_sent_below_zero();
+        frames_count_themselves();
+        let alloc = rt.alloc();
+        let frames: [&[u8]; 4] = [
+            &[16, 0, 0, 0, 0xff, 0xff, 0xff, 0xff, 1, 0, 0, 0, 0, 0, 0, 0],
+            &[16, 0, 0, 0, 0xda, 0xff, 0xff, 0xff, 2, 0, 0, 0, 0, 0, 0, 0],
+            &[19, 0, 0, 0, 0, 0, 0, 0, 3, 0, 0, 0, 0, 0, 0, 0, 16, 0, 0],
+            &[16, 0, 0, 0, 1, 0, 0, 0x80, 4, 0, 0, 0, 0, 0, 0, 0],
+        ];
+        let denied = ReplyEmpty::new(alloc, RequestId(1)).error(Errno::EPERM);
+        let missing = ReplyEmpty::new(alloc, RequestId(2)).error(Errno::ENOSYS);
+        let read = ReplyData::new(alloc, RequestId(3)).data(&[16, 0, 0]);
+        let lowest = ReplyEmpty::new(alloc, RequestId(4)).error(Errno::from_i32(0x7fff_ffff));
+        let mut sink = StreamSink::new(MemoryOut::new(alloc, 1000, Vec::new(alloc)));
+        let ends = [
+            denied.into_out().send(&mut sink),
+            missing.into_out().send(&mut sink),
+            read.into_out().send(&mut sink),
+            lowest.into_out().send(&mut sink),
+        ];
+        assert_eq!(rt; ends, [OutEnd::Written; 4]);
+        let stream = sink.into_inner();
+        let mut left = stream.bytes();
+        for frame in frames {
+            let (first, behind) = split_frame(left).unwrap_or((&[], &[]));
+            assert_eq!(rt; first, frame);
+            left = behind;
+        }
+        assert_eq!(rt; left.len(), 0);
+    }
+}

@@ -1,0 +1,19 @@
+//! Tables of the protocol's names, numbers and bytes, and the tests that walk them: what the crates below make of each. They
+//! stand apart from the code that they test, since the gate proves a crate once more for the tests that stand in it.
+#![tactic(auto)]
+
+mod buffer;
+#[cfg(test)]
+mod devices;
+#[cfg(test)]
+mod headers;
+#[cfg(test)]
+mod messages;
+#[cfg(test)]
+mod names;
+#[cfg(test)]
+mod numbers;
+#[cfg(test)]
+mod requests;
+
+pub use buffer::receive_buffer;

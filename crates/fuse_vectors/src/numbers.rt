@@ -1,0 +1,193 @@
+// Numbers under names of their own, times and spans: their texts, their order, and the way they come and go.
+use fuse_wire::laws::{compared_as_nanoseconds, compared_as_numbers, equals_order_and_hash_alike};
+use fuse_wire::{
+    Duration, FileHandle, Generation, INodeNo, LockOwner, OpenAccMode, OpenFlags, PollHandle,
+    RequestId, SystemTime, Version, system_time_from_time, time_from_system_time,
+};
+use std::cmp::Ordering;
+use std::cmp::Ordering::{Equal, Greater, Less};
+use std::hash::{DefaultHasher, Hash, Hasher};
+use std::process::Abort;
+use std::test::Fail;
+
+#[test]
+fn numbers_and_texts(rt: HostRuntime) -> Result<(), Fail> {
+    for (number, text) in [
+        (0, "0"),
+        (1, "1"),
+        (10, "10"),
+        (4096, "4096"),
+        (u64::MAX, "18446744073709551615"),
+    ] {
+        assert_eq!(rt; u64::from(Generation(number)), number);
+        assert_eq!(rt; u64::from(RequestId(number)), number);
+        assert_eq!(rt; u64::from(INodeNo(number)), number);
+        assert_eq!(rt; u64::from(FileHandle(number)), number);
+        let node = INodeNo(number).to_string(rt.alloc())?;
+        assert_eq!(rt; node.as_str(), text);
+        let handle = FileHandle(number).to_string(rt.alloc())?;
+        assert_eq!(rt; handle.as_str(), text);
+        let owner = LockOwner(number).to_string(rt.alloc())?;
+        assert_eq!(rt; owner.as_str(), text);
+    }
+    Ok(())
+}
+
+#[test]
+fn a_version_has_a_point(rt: HostRuntime) -> Result<(), Fail> {
+    for (version, text) in [
+        (Version(7, 40), "7.40"),
+        (Version(0, 0), "0.0"),
+        (Version(u32::MAX, 8), "4294967295.8"),
+    ] {
+        let found = version.to_string(rt.alloc())?;
+        assert_eq!(rt; found.as_str(), text);
+    }
+    Ok(())
+}
+
+/// What a hasher makes of one value alone.
+fn hash_of<T: Hash>(value: &T) -> u64 {
+    let mut hasher = DefaultHasher::new();
+    value.hash(&mut hasher);
+    hasher.finish()
+}
+
+/// The two values stand in this order, and are equal and hash alike just where it says so.
+fn expect_order<T: Ord + Hash>(rt: &impl Abort, one: &T, other: &T, expected: Ordering) {
+    equals_order_and_hash_alike(one, other);
+    assert_eq!(rt; one == other, expected == Equal);
+    assert_eq!(rt; one.partial_cmp(other), Some(expected));
+    assert_eq!(rt; one.cmp(other), expected);
+    assert_eq!(rt; hash_of(one) == hash_of(other), expected == Equal);
+}
+
+#[test]
+fn newtypes_are_ordered_and_hashed_as_their_numbers(rt: HostRuntime) {
+    compared_as_numbers();
+    for (one, other, expected) in [
+        (0, 0, Equal),
+        (0, 1, Less),
+        (256, 255, Greater),
+        (1 << 32, u32::MAX as u64, Greater),
+        (u64::MAX, 0, Greater),
+        (u64::MAX - 1, u64::MAX, Less),
+        (u64::MAX, u64::MAX, Equal),
+    ] {
+        expect_order(&rt, &Generation(one), &Generation(other), expected);
+        expect_order(&rt, &RequestId(one), &RequestId(other), expected);
+        expect_order(&rt, &INodeNo(one), &INodeNo(other), expected);
+        expect_order(&rt, &FileHandle(one), &FileHandle(other), expected);
+        expect_order(&rt, &LockOwner(one), &LockOwner(other), expected);
+        expect_order(&rt, &PollHandle(one), &PollHandle(other), expected);
+        assert_eq!(rt; hash_of(&INodeNo(one)), hash_of(&one));
+    }
+}
+
+#[test]
+fn an_earlier_major_version_comes_first(rt: HostRuntime) {
+    for (one, other, expected) in [
+        (Version(7, 40), Version(7, 40), Equal),
+        (Version(7, 40), Version(8, 0), Less),
+        (Version(7, 40), Version(7, 9), Greater),
+        (Version(8, 0), Version(7, u32::MAX), Greater),
+        (Version(0, 1), Version(1, 0), Less),
+    ] {
+        expect_order(&rt, &one, &other, expected);
+    }
+}
+
+#[test]
+fn an_earlier_time_and_a_shorter_span_come_first(rt: HostRuntime) {
+    compared_as_nanoseconds();
+    for (one, other, expected) in [
+        (0, 0, Equal),
+        (-1, 0, Less),
+        (-1, -2, Greater),
+        (i128::MIN, i128::MAX, Less),
+    ] {
+        expect_order(&rt, &SystemTime(one), &SystemTime(other), expected);
+    }
+    let second = Duration::new(1, 0);
+    expect_order(&rt, &second, &Duration::new(1, 0), Equal);
+    expect_order(&rt, &second, &Duration::new(0, 999_999_999), Greater);
+    expect_order(&rt, &second, &Duration::new(u64::MAX, 0), Less);
+}
+
+#[test]
+fn seconds_and_nanoseconds_are_added(rt: HostRuntime) {
+    assert_eq!(rt; Duration::new(0, 0).as_nanos(), 0);
+    assert_eq!(rt; Duration::new(2, 5).as_nanos(), 2_000_000_005);
+    assert_eq!(rt;
+        Duration::new(u64::MAX, 999_999_999).as_nanos(),
+        18_446_744_073_709_551_615_999_999_999
+    );
+}
+
+#[test]
+fn rounds_down_and_stays_in_range(rt: HostRuntime) -> Result<(), Fail> {
+    for (nanos, expected) in [
+        (-1_200_000_000, (-2, 800_000_000)),
+        (-9_223_372_036_854_775_808_000_000_000, (i64::MIN, 0)),
+        (-9_223_372_036_854_775_808_000_000_001, (i64::MIN, 0)),
+        (
+            9_223_372_036_854_775_808_000_000_000,
+            (i64::MAX, 999_999_999),
+        ),
+        (-9_223_372_036_854_775_807_000_000_000, (i64::MIN + 1, 0)),
+        (
+            -9_223_372_036_854_775_807_800_000_000,
+            (i64::MIN, 200_000_000),
+        ),
+    ] {
+        let found = time_from_system_time(&SystemTime(nanos));
+        assert_eq!(rt; found, expected, "at {nanos}");
+    }
+    Ok(())
+}
+
+#[test]
+fn seconds_and_nanoseconds_make_a_time(rt: HostRuntime) -> Result<(), Fail> {
+    for (secs, nanos, expected) in [
+        (0, 0, 0),
+        (0, 999_999_999, 999_999_999),
+        (-1, 0, -1_000_000_000),
+        (-2, 800_000_000, -1_200_000_000),
+        (i64::MIN, 0, -9_223_372_036_854_775_808_000_000_000),
+        (
+            i64::MIN,
+            200_000_000,
+            -9_223_372_036_854_775_807_800_000_000,
+        ),
+        (i64::MIN + 1, 0, -9_223_372_036_854_775_807_000_000_000),
+        (i64::MAX, 999_999_999, 9_223_372_036_854_775_807_999_999_999),
+    ] {
+        let found = system_time_from_time(secs, nanos);
+        assert_eq!(rt; found.0, expected, "at {secs}, {nanos}");
+        assert_eq!(rt; time_from_system_time(&found), (secs, nanos), "back");
+    }
+    Ok(())
+}
+
+#[test]
+fn the_low_two_bits_are_the_mode(rt: HostRuntime) -> Result<(), Fail> {
+    for (flags, mode) in [
+        (0, OpenAccMode::O_RDONLY),
+        (1, OpenAccMode::O_WRONLY),
+        (2, OpenAccMode::O_RDWR),
+        (3, OpenAccMode::O_RDONLY),
+        (0x8000, OpenAccMode::O_RDONLY),
+        (0x8401, OpenAccMode::O_WRONLY),
+        (0x8242, OpenAccMode::O_RDWR),
+        (i32::MAX, OpenAccMode::O_RDONLY),
+        (-1, OpenAccMode::O_RDONLY),
+        (-2, OpenAccMode::O_RDWR),
+        (-3, OpenAccMode::O_WRONLY),
+        (i32::MIN, OpenAccMode::O_RDONLY),
+        (i32::MIN + 1, OpenAccMode::O_WRONLY),
+        (i32::MIN + 2, OpenAccMode::O_RDWR),
+    ] {
+        assert_eq!(rt; OpenFlags(flags).acc_mode(), mode, "of {flags}");
+    }
+    Ok(())
+}
