@@ -4,6 +4,7 @@
 
 mod config;
 mod kernel_config;
+pub mod laws;
 mod session_acl;
 #[cfg(test)]
 mod tests;

@@ -1,7 +1,8 @@
 // What goes out, as bytes.
 use crate::{Out, OutEnd, Packed, ReplyAttr, ReplyData, ReplyEmpty, ReplyEntry};
 use fuse_wire::{
-    Duration, Errno, FileAttr, FileType, Generation, INodeNo, MemorySink, RequestId, SystemTime,
+    Duration, Errno, FileAttr, FileType, Generation, INodeNo, MemorySink, RequestId, Sending,
+    SystemTime,
 };
 use std::alloc::Global;
 use std::process::Abort;
@@ -289,4 +290,18 @@ fn sends_a_note_and_nothing_for_what_is_deferred(rt: HostRuntime) {
     assert_eq!(rt; end, OutEnd::Marked);
     assert_eq!(rt; sink.frames().len(), 0);
     assert_eq!(rt; sink.notes().len(), 0);
+}
+
+#[test]
+fn a_frame_that_is_refused_is_lost_and_not_sent_again(rt: HostRuntime) -> Result<(), Fail> {
+    let alloc = rt.alloc();
+    for fault in [Sending::Failed, Sending::Absent] {
+        let mut faults = Vec::new(alloc);
+        faults.push((1, fault))?;
+        let mut sink = MemorySink::new(alloc, faults);
+        let end = ReplyEmpty::new(alloc, ID).ok().into_out().send(&mut sink);
+        assert_eq!(rt; end, OutEnd::Lost);
+        assert_eq!(rt; sink.frames().len(), 0);
+    }
+    Ok(())
 }

@@ -181,17 +181,22 @@ place_operation opcode body =
     else if opcode == 45 then after (rename2_at body) (λ rename names. after (name_at names) (λ old_name rest. taking (name_at rest) (λ new_name. Rename2 rename old_name new_name)))
     else node_operation opcode body
 
+-- what is asked to be made under a name in a directory
+abbrev pub making_operation : ℕ → List ℕ → Result Op RequestError
+making_operation opcode body =
+    if opcode == 6 then after (name_at body) (λ link_name rest. taking (name_at rest) (λ target. SymLink link_name target))
+    else if opcode == 8 then after (mknod_at body) (λ mknod rest. taking (name_at rest) (λ name. MkNod mknod name))
+    else if opcode == 9 then after (mkdir_at body) (λ mkdir rest. taking (name_at rest) (λ name. MkDir mkdir name))
+    else if opcode == 35 then after (create_at body) (λ create rest. taking (name_at rest) (λ name. Create create name))
+    else place_operation opcode body
+
 -- what is asked about a name in a directory, and all else; one line for each opcode
 abbrev pub operation : ℕ → List ℕ → Result Op RequestError
 operation opcode body =
     if opcode == 1 then taking (name_at body) (λ name. Lookup name)
-    else if opcode == 6 then after (name_at body) (λ link_name rest. taking (name_at rest) (λ target. SymLink link_name target))
-    else if opcode == 8 then after (mknod_at body) (λ mknod rest. taking (name_at rest) (λ name. MkNod mknod name))
-    else if opcode == 9 then after (mkdir_at body) (λ mkdir rest. taking (name_at rest) (λ name. MkDir mkdir name))
     else if opcode == 10 then taking (name_at body) (λ name. Unlink name)
     else if opcode == 11 then taking (name_at body) (λ name. RmDir name)
-    else if opcode == 35 then after (create_at body) (λ create rest. taking (name_at rest) (λ name. Create create name))
-    else place_operation opcode body
+    else making_operation opcode body
 
 -- an operation of the code, as plain data
 abbrev pub plain : Operation → Op

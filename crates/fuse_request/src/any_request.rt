@@ -5,10 +5,8 @@ ghost use Rattle.fuse_request.specs.Operation.{Is, Keeps, operation};
 
 use crate::decoding::name_operation;
 use crate::{Operation, Request, RequestError};
+use fuse_wire::consts::REQUEST_HEADER_SIZE;
 use fuse_wire::{INodeNo, RequestId, u32_at, u64_at};
-
-/// How long a header is.
-const HEADER_SIZE: usize = 40;
 
 /// What stands in front of every message: `struct fuse_in_header`.
 #[derive(Clone, Copy, Debug, PartialEq, Eq)]
@@ -54,19 +52,19 @@ impl<'a> AnyRequest<'a> {
     pub fn try_from(message: &'a [u8]) -> Result<AnyRequest<'a>, RequestError>
         ensures { Decodes result message.now }
     {
-        if message.len() < HEADER_SIZE {
+        if message.len() < REQUEST_HEADER_SIZE {
             return Err(RequestError::ShortReadHeader(message.len()));
         }
         let len = u32_at(message, 0) as usize;
         if message.len() < len {
             return Err(RequestError::ShortRead(message.len(), len));
         }
-        if len < HEADER_SIZE {
+        if len < REQUEST_HEADER_SIZE {
             return Err(RequestError::InsufficientData);
         }
         Ok(AnyRequest {
             header: header_at(message),
-            body: &message[HEADER_SIZE..len],
+            body: &message[REQUEST_HEADER_SIZE..len],
         })
     }
 

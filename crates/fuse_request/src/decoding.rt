@@ -1,7 +1,9 @@
 // What a body asks, by its opcode.
-ghost use Rattle.fuse_request.specs.Operation.{Is, Keeps, operation, place_operation, node_operation, file_operation, range_operation, directory_operation, xattr_operation, device_operation, session_operation};
+ghost use Rattle.fuse_request.specs.Operation.{Is, Keeps, operation, making_operation, place_operation, node_operation, file_operation, range_operation, directory_operation, xattr_operation, device_operation, session_operation};
 
+use crate::forgets::ForgetList;
 use crate::parts::{at_least, exactly, whole};
+use crate::places::Move;
 use crate::{
     Access, BMap, BatchForget, CopyFileRange, Create, CuseInit, Destroy, FAllocate, FSync,
     FSyncDir, Flush, Forget, GetAttr, GetLk, GetXAttr, Init, Interrupt, IoCtl, Link, ListXAttr,
@@ -23,29 +25,46 @@ pub(crate) fn name_operation<'a>(
 {
     let mut arguments = ArgumentIterator::new(body);
     match opcode {
-        1 => Ok(Operation::Lookup(Lookup::new(whole(arguments.fetch_str())?))),
-        6 => {
-            let link_name = whole(arguments.fetch_str())?;
-            let target = whole(arguments.fetch_str())?;
-            Ok(Operation::SymLink(SymLink::new(link_name, target)))
-        }
-        8 => {
-            let part = whole(arguments.fetch_mknod())?;
-            let name = whole(arguments.fetch_str())?;
-            Ok(Operation::MkNod(MkNod::new(part, name)))
-        }
-        9 => {
-            let part = whole(arguments.fetch_mkdir())?;
-            let name = whole(arguments.fetch_str())?;
-            Ok(Operation::MkDir(MkDir::new(part, name)))
-        }
-        10 => Ok(Operation::Unlink(Unlink::new(whole(arguments.fetch_str())?))),
-        11 => Ok(Operation::RmDir(RmDir::new(whole(arguments.fetch_str())?))),
-        35 => {
-            let part = whole(arguments.fetch_create())?;
-            let name = whole(arguments.fetch_str())?;
-            Ok(Operation::Create(Create::new(part, name)))
-        }
+        1 => Ok(Operation::Lookup(Lookup {
+            name: whole(arguments.fetch_str())?,
+        })),
+        10 => Ok(Operation::Unlink(Unlink {
+            name: whole(arguments.fetch_str())?,
+        })),
+        11 => Ok(Operation::RmDir(RmDir {
+            name: whole(arguments.fetch_str())?,
+        })),
+        opcode => making_operation(opcode, node, body),
+    }
+}
+
+/// What is asked to be made under a name in a directory, and what comes behind it.
+fn making_operation<'a>(
+    opcode: u32,
+    node: INodeNo,
+    body: &'a [u8],
+) -> Result<Operation<'a>, RequestError>
+    ensures operation { Is result (making_operation opcode body.now) }
+    ensures node { Keeps result node }
+{
+    let mut arguments = ArgumentIterator::new(body);
+    match opcode {
+        6 => Ok(Operation::SymLink(SymLink {
+            link_name: whole(arguments.fetch_str())?,
+            target: whole(arguments.fetch_str())?,
+        })),
+        8 => Ok(Operation::MkNod(MkNod {
+            arguments: whole(arguments.fetch_mknod())?,
+            name: whole(arguments.fetch_str())?,
+        })),
+        9 => Ok(Operation::MkDir(MkDir {
+            arguments: whole(arguments.fetch_mkdir())?,
+            name: whole(arguments.fetch_str())?,
+        })),
+        35 => Ok(Operation::Create(Create {
+            arguments: whole(arguments.fetch_create())?,
+            name: whole(arguments.fetch_str())?,
+        })),
         opcode => place_operation(opcode, node, body),
     }
 }
@@ -61,23 +80,27 @@ fn place_operation<'a>(
 {
     let mut arguments = ArgumentIterator::new(body);
     match opcode {
-        12 => {
-            let newdir = whole(arguments.fetch_u64())?;
-            let old_name = whole(arguments.fetch_str())?;
-            let new_name = whole(arguments.fetch_str())?;
-            Ok(Operation::Rename(Rename::new(node, newdir, old_name, new_name)))
-        }
-        13 => {
-            let oldnodeid = whole(arguments.fetch_u64())?;
-            let new_name = whole(arguments.fetch_str())?;
-            Ok(Operation::Link(Link::new(node, oldnodeid, new_name)))
-        }
-        45 => {
-            let part = whole(arguments.fetch_rename2())?;
-            let old_name = whole(arguments.fetch_str())?;
-            let new_name = whole(arguments.fetch_str())?;
-            Ok(Operation::Rename2(Rename2::new(part, node, old_name, new_name)))
-        }
+        12 => Ok(Operation::Rename(Rename {
+            newdir: whole(arguments.fetch_u64())?,
+            names: Move {
+                node,
+                old_name: whole(arguments.fetch_str())?,
+                new_name: whole(arguments.fetch_str())?,
+            },
+        })),
+        13 => Ok(Operation::Link(Link {
+            node,
+            oldnodeid: whole(arguments.fetch_u64())?,
+            new_name: whole(arguments.fetch_str())?,
+        })),
+        45 => Ok(Operation::Rename2(Rename2 {
+            arguments: whole(arguments.fetch_rename2())?,
+            names: Move {
+                node,
+                old_name: whole(arguments.fetch_str())?,
+                new_name: whole(arguments.fetch_str())?,
+            },
+        })),
         opcode => node_operation(opcode, node, body),
     }
 }
@@ -93,16 +116,25 @@ fn node_operation<'a>(
 {
     let mut arguments = ArgumentIterator::new(body);
     match opcode {
-        2 => Ok(Operation::Forget(Forget::new(whole(arguments.fetch_u64())?))),
-        3 => Ok(Operation::GetAttr(GetAttr::new(whole(arguments.fetch_getattr())?))),
-        4 => Ok(Operation::SetAttr(SetAttr::new(whole(arguments.fetch_setattr())?))),
+        2 => Ok(Operation::Forget(Forget {
+            nlookup: whole(arguments.fetch_u64())?,
+        })),
+        3 => Ok(Operation::GetAttr(GetAttr {
+            arguments: whole(arguments.fetch_getattr())?,
+        })),
+        4 => Ok(Operation::SetAttr(SetAttr {
+            arguments: whole(arguments.fetch_setattr())?,
+        })),
         5 => Ok(Operation::ReadLink(ReadLink)),
         17 => Ok(Operation::StatFs(StatFs)),
-        34 => Ok(Operation::Access(Access::new(whole(arguments.fetch_access())?))),
+        34 => Ok(Operation::Access(Access {
+            arguments: whole(arguments.fetch_access())?,
+        })),
         42 => {
             let part = whole(arguments.fetch_batch_forget())?;
             let rows = whole(arguments.fetch_slice(part.count as usize))?;
-            Ok(Operation::BatchForget(BatchForget::new(rows)))
+            let nodes = ForgetList { rows };
+            Ok(Operation::BatchForget(BatchForget { nodes }))
         }
         opcode => file_operation(opcode, node, body),
     }
@@ -119,16 +151,29 @@ fn file_operation<'a>(
 {
     let mut arguments = ArgumentIterator::new(body);
     match opcode {
-        14 => Ok(Operation::Open(Open::new(whole(arguments.fetch_open())?))),
-        15 => Ok(Operation::Read(Read::new(whole(arguments.fetch_read())?))),
+        14 => Ok(Operation::Open(Open {
+            arguments: whole(arguments.fetch_open())?,
+        })),
+        15 => Ok(Operation::Read(Read {
+            arguments: whole(arguments.fetch_read())?,
+        })),
         16 => {
             let part = whole(arguments.fetch_write())?;
             let written = whole(exactly(&mut arguments, part.size))?;
-            Ok(Operation::Write(Write::new(part, written)))
+            Ok(Operation::Write(Write {
+                arguments: part,
+                written,
+            }))
         }
-        18 => Ok(Operation::Release(Release::new(whole(arguments.fetch_release())?))),
-        20 => Ok(Operation::FSync(FSync::new(whole(arguments.fetch_fsync())?))),
-        25 => Ok(Operation::Flush(Flush::new(whole(arguments.fetch_flush())?))),
+        18 => Ok(Operation::Release(Release {
+            arguments: whole(arguments.fetch_release())?,
+        })),
+        20 => Ok(Operation::FSync(FSync {
+            arguments: whole(arguments.fetch_fsync())?,
+        })),
+        25 => Ok(Operation::Flush(Flush {
+            arguments: whole(arguments.fetch_flush())?,
+        })),
         opcode => range_operation(opcode, node, body),
     }
 }
@@ -144,13 +189,19 @@ fn range_operation<'a>(
 {
     let mut arguments = ArgumentIterator::new(body);
     match opcode {
-        37 => Ok(Operation::BMap(BMap::new(whole(arguments.fetch_bmap())?))),
-        43 => Ok(Operation::FAllocate(FAllocate::new(whole(arguments.fetch_fallocate())?))),
-        46 => Ok(Operation::Lseek(Lseek::new(whole(arguments.fetch_lseek())?))),
-        47 => {
-            let part = whole(arguments.fetch_copy_file_range())?;
-            Ok(Operation::CopyFileRange(CopyFileRange::new(part, node)))
-        }
+        37 => Ok(Operation::BMap(BMap {
+            arguments: whole(arguments.fetch_bmap())?,
+        })),
+        43 => Ok(Operation::FAllocate(FAllocate {
+            arguments: whole(arguments.fetch_fallocate())?,
+        })),
+        46 => Ok(Operation::Lseek(Lseek {
+            arguments: whole(arguments.fetch_lseek())?,
+        })),
+        47 => Ok(Operation::CopyFileRange(CopyFileRange {
+            arguments: whole(arguments.fetch_copy_file_range())?,
+            node,
+        })),
         opcode => directory_operation(opcode, node, body),
     }
 }
@@ -166,11 +217,21 @@ fn directory_operation<'a>(
 {
     let mut arguments = ArgumentIterator::new(body);
     match opcode {
-        27 => Ok(Operation::OpenDir(OpenDir::new(whole(arguments.fetch_open())?))),
-        28 => Ok(Operation::ReadDir(ReadDir::new(whole(arguments.fetch_read())?))),
-        29 => Ok(Operation::ReleaseDir(ReleaseDir::new(whole(arguments.fetch_release())?))),
-        30 => Ok(Operation::FSyncDir(FSyncDir::new(whole(arguments.fetch_fsync())?))),
-        44 => Ok(Operation::ReadDirPlus(ReadDirPlus::new(whole(arguments.fetch_read())?))),
+        27 => Ok(Operation::OpenDir(OpenDir {
+            arguments: whole(arguments.fetch_open())?,
+        })),
+        28 => Ok(Operation::ReadDir(ReadDir {
+            arguments: whole(arguments.fetch_read())?,
+        })),
+        29 => Ok(Operation::ReleaseDir(ReleaseDir {
+            arguments: whole(arguments.fetch_release())?,
+        })),
+        30 => Ok(Operation::FSyncDir(FSyncDir {
+            arguments: whole(arguments.fetch_fsync())?,
+        })),
+        44 => Ok(Operation::ReadDirPlus(ReadDirPlus {
+            arguments: whole(arguments.fetch_read())?,
+        })),
         opcode => xattr_operation(opcode, node, body),
     }
 }
@@ -190,15 +251,22 @@ fn xattr_operation<'a>(
             let part = whole(arguments.fetch_setxattr())?;
             let name = whole(arguments.fetch_str())?;
             let value = whole(exactly(&mut arguments, part.size))?;
-            Ok(Operation::SetXAttr(SetXAttr::new(part, name, value)))
+            Ok(Operation::SetXAttr(SetXAttr {
+                arguments: part,
+                name,
+                value,
+            }))
         }
-        22 => {
-            let part = whole(arguments.fetch_getxattr())?;
-            let name = whole(arguments.fetch_str())?;
-            Ok(Operation::GetXAttr(GetXAttr::new(part, name)))
-        }
-        23 => Ok(Operation::ListXAttr(ListXAttr::new(whole(arguments.fetch_getxattr())?))),
-        24 => Ok(Operation::RemoveXAttr(RemoveXAttr::new(whole(arguments.fetch_str())?))),
+        22 => Ok(Operation::GetXAttr(GetXAttr {
+            arguments: whole(arguments.fetch_getxattr())?,
+            name: whole(arguments.fetch_str())?,
+        })),
+        23 => Ok(Operation::ListXAttr(ListXAttr {
+            arguments: whole(arguments.fetch_getxattr())?,
+        })),
+        24 => Ok(Operation::RemoveXAttr(RemoveXAttr {
+            name: whole(arguments.fetch_str())?,
+        })),
         opcode => device_operation(opcode, node, body),
     }
 }
@@ -214,21 +282,28 @@ fn device_operation<'a>(
 {
     let mut arguments = ArgumentIterator::new(body);
     match opcode {
-        31 => Ok(Operation::GetLk(GetLk::new(whole(arguments.fetch_getlk())?))),
-        32 => {
-            let part = whole(arguments.fetch_getlk())?;
-            Ok(Operation::SetLk(SetLk::new(part, false)))
-        }
-        33 => {
-            let part = whole(arguments.fetch_getlk())?;
-            Ok(Operation::SetLk(SetLk::new(part, true)))
-        }
+        31 => Ok(Operation::GetLk(GetLk {
+            arguments: whole(arguments.fetch_getlk())?,
+        })),
+        32 => Ok(Operation::SetLk(SetLk {
+            arguments: whole(arguments.fetch_getlk())?,
+            sleep: false,
+        })),
+        33 => Ok(Operation::SetLk(SetLk {
+            arguments: whole(arguments.fetch_getlk())?,
+            sleep: true,
+        })),
         39 => {
             let part = whole(arguments.fetch_ioctl())?;
             let in_bytes = whole(at_least(&mut arguments, part.in_size))?;
-            Ok(Operation::IoCtl(IoCtl::new(part, in_bytes)))
+            Ok(Operation::IoCtl(IoCtl {
+                arguments: part,
+                in_bytes,
+            }))
         }
-        40 => Ok(Operation::Poll(Poll::new(whole(arguments.fetch_poll())?))),
+        40 => Ok(Operation::Poll(Poll {
+            arguments: whole(arguments.fetch_poll())?,
+        })),
         opcode => session_operation(opcode, node, body),
     }
 }
@@ -244,8 +319,12 @@ fn session_operation<'a>(
 {
     let mut arguments = ArgumentIterator::new(body);
     match opcode {
-        26 => Ok(Operation::Init(Init::new(whole(arguments.fetch_init())?))),
-        36 => Ok(Operation::Interrupt(Interrupt::new(whole(arguments.fetch_u64())?))),
+        26 => Ok(Operation::Init(Init {
+            arguments: whole(arguments.fetch_init())?,
+        })),
+        36 => Ok(Operation::Interrupt(Interrupt {
+            unique: whole(arguments.fetch_u64())?,
+        })),
         38 => Ok(Operation::Destroy(Destroy)),
         41 => Ok(Operation::NotifyReply(NotifyReply)),
         4096 => {

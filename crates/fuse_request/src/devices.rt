@@ -8,24 +8,13 @@ use fuse_wire::{FileHandle, IoctlFlags, PollEvents, PollFlags, PollHandle};
 /// IOCTL: a command to a device.
 #[derive(Clone, Copy, Debug)]
 pub struct IoCtl<'a> {
-    arguments: IoCtlArguments,
-    in_bytes: &'a [u8],
+    pub(crate) arguments: IoCtlArguments,
+    pub(crate) in_bytes: &'a [u8],
 }
 
 impl<'a> IoCtl<'a> {
     ghost use Rattle.fuse_request.specs.Arguments.{ioctl_in_bytes, ioctl_of};
     ghost use Rattle.fuse_request.specs.Fields.{has_bit};
-
-    /// The operation of these arguments.
-    pub(crate) fn new(arguments: IoCtlArguments, in_bytes: &'a [u8]) -> IoCtl<'a>
-        ensures arguments { ioctl_of result ≡ arguments }
-        ensures in_bytes { ioctl_in_bytes result ≡ in_bytes.now }
-    {
-        IoCtl {
-            arguments,
-            in_bytes,
-        }
-    }
 
     /// The bytes handed in.
     pub fn in_data(&self) -> &'a [u8]
@@ -73,18 +62,11 @@ impl<'a> IoCtl<'a> {
 /// POLL: whether an open file is ready.
 #[derive(Clone, Copy, Debug)]
 pub struct Poll {
-    arguments: PollArguments,
+    pub(crate) arguments: PollArguments,
 }
 
 impl Poll {
     ghost use Rattle.fuse_request.specs.Arguments.{poll_of};
-
-    /// The operation of these arguments.
-    pub(crate) fn new(arguments: PollArguments) -> Poll
-        ensures { poll_of result ≡ arguments }
-    {
-        Poll { arguments }
-    }
 
     /// The open file.
     pub fn file_handle(&self) -> FileHandle

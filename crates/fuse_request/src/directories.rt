@@ -8,18 +8,11 @@ use fuse_wire::{FileHandle, LockOwner, OpenFlags, ReleaseFlags};
 /// OPENDIR: a directory is opened.
 #[derive(Clone, Copy, Debug)]
 pub struct OpenDir {
-    arguments: OpenArguments,
+    pub(crate) arguments: OpenArguments,
 }
 
 impl OpenDir {
     ghost use Rattle.fuse_request.specs.Arguments.{opendir_of};
-
-    /// The operation of these arguments.
-    pub(crate) fn new(arguments: OpenArguments) -> OpenDir
-        ensures { opendir_of result ≡ arguments }
-    {
-        OpenDir { arguments }
-    }
 
     /// The flags of `open(2)`.
     pub fn flags(&self) -> OpenFlags
@@ -32,18 +25,11 @@ impl OpenDir {
 /// READDIR: entries of an open directory.
 #[derive(Clone, Copy, Debug)]
 pub struct ReadDir {
-    arguments: ReadArguments,
+    pub(crate) arguments: ReadArguments,
 }
 
 impl ReadDir {
     ghost use Rattle.fuse_request.specs.Arguments.{readdir_of};
-
-    /// The operation of these arguments.
-    pub(crate) fn new(arguments: ReadArguments) -> ReadDir
-        ensures { readdir_of result ≡ arguments }
-    {
-        ReadDir { arguments }
-    }
 
     /// The open directory.
     pub fn file_handle(&self) -> FileHandle
@@ -70,18 +56,11 @@ impl ReadDir {
 /// READDIRPLUS: entries of an open directory, with their attributes.
 #[derive(Clone, Copy, Debug)]
 pub struct ReadDirPlus {
-    arguments: ReadArguments,
+    pub(crate) arguments: ReadArguments,
 }
 
 impl ReadDirPlus {
     ghost use Rattle.fuse_request.specs.Arguments.{readdirplus_of};
-
-    /// The operation of these arguments.
-    pub(crate) fn new(arguments: ReadArguments) -> ReadDirPlus
-        ensures { readdirplus_of result ≡ arguments }
-    {
-        ReadDirPlus { arguments }
-    }
 
     /// The open directory.
     pub fn file_handle(&self) -> FileHandle
@@ -108,20 +87,13 @@ impl ReadDirPlus {
 /// RELEASEDIR: the last use of an open directory ends.
 #[derive(Clone, Copy, Debug)]
 pub struct ReleaseDir {
-    arguments: ReleaseArguments,
+    pub(crate) arguments: ReleaseArguments,
 }
 
 impl ReleaseDir {
     ghost use Rattle.fuse_request.specs.Arguments.{releasedir_of};
     ghost use Rattle.fuse_request.specs.Call.{owner_number};
     ghost use Rattle.fuse_request.specs.Fields.{releaser_of, has_bit};
-
-    /// The operation of these arguments.
-    pub(crate) fn new(arguments: ReleaseArguments) -> ReleaseDir
-        ensures { releasedir_of result ≡ arguments }
-    {
-        ReleaseDir { arguments }
-    }
 
     /// What is to be done.
     pub fn release_flags(&self) -> ReleaseFlags
@@ -165,19 +137,12 @@ impl ReleaseDir {
 /// FSYNCDIR: what an open directory holds back is written.
 #[derive(Clone, Copy, Debug)]
 pub struct FSyncDir {
-    arguments: FSyncArguments,
+    pub(crate) arguments: FSyncArguments,
 }
 
 impl FSyncDir {
     ghost use Rattle.fuse_request.specs.Arguments.{fsyncdir_of};
     ghost use Rattle.fuse_request.specs.Fields.{has_bit};
-
-    /// The operation of these arguments.
-    pub(crate) fn new(arguments: FSyncArguments) -> FSyncDir
-        ensures { fsyncdir_of result ≡ arguments }
-    {
-        FSyncDir { arguments }
-    }
 
     /// The open directory.
     pub fn file_handle(&self) -> FileHandle

@@ -11,18 +11,11 @@ use fuse_wire::{Errno, FileHandle, LockOwner, OpenFlags, ReadFlags, ReleaseFlags
 /// OPEN: a file is opened.
 #[derive(Clone, Copy, Debug)]
 pub struct Open {
-    arguments: OpenArguments,
+    pub(crate) arguments: OpenArguments,
 }
 
 impl Open {
     ghost use Rattle.fuse_request.specs.Arguments.{open_of};
-
-    /// The operation of these arguments.
-    pub(crate) fn new(arguments: OpenArguments) -> Open
-        ensures { open_of result ≡ arguments }
-    {
-        Open { arguments }
-    }
 
     /// The flags of `open(2)`.
     pub fn flags(&self) -> OpenFlags
@@ -35,20 +28,13 @@ impl Open {
 /// READ: bytes of an open file.
 #[derive(Clone, Copy, Debug)]
 pub struct Read {
-    arguments: ReadArguments,
+    pub(crate) arguments: ReadArguments,
 }
 
 impl Read {
     ghost use Rattle.fuse_request.specs.Arguments.{read_of};
     ghost use Rattle.fuse_request.specs.Call.{owner_number};
     ghost use Rattle.fuse_request.specs.Fields.{lock_owner_of, file_offset};
-
-    /// The operation of these arguments.
-    pub(crate) fn new(arguments: ReadArguments) -> Read
-        ensures { read_of result ≡ arguments }
-    {
-        Read { arguments }
-    }
 
     /// The open file.
     pub fn file_handle(&self) -> FileHandle
@@ -99,22 +85,14 @@ impl Read {
 /// WRITE: bytes go into an open file.
 #[derive(Clone, Copy, Debug)]
 pub struct Write<'a> {
-    arguments: WriteArguments,
-    written: &'a [u8],
+    pub(crate) arguments: WriteArguments,
+    pub(crate) written: &'a [u8],
 }
 
 impl<'a> Write<'a> {
     ghost use Rattle.fuse_request.specs.Arguments.{write_of, write_written};
     ghost use Rattle.fuse_request.specs.Call.{owner_number};
     ghost use Rattle.fuse_request.specs.Fields.{writer_of, signed_offset};
-
-    /// The operation of these arguments.
-    pub(crate) fn new(arguments: WriteArguments, written: &'a [u8]) -> Write<'a>
-        ensures arguments { write_of result ≡ arguments }
-        ensures written { write_written result ≡ written.now }
-    {
-        Write { arguments, written }
-    }
 
     /// The open file.
     pub fn file_handle(&self) -> FileHandle
@@ -165,20 +143,13 @@ impl<'a> Write<'a> {
 /// RELEASE: the last use of an open file ends.
 #[derive(Clone, Copy, Debug)]
 pub struct Release {
-    arguments: ReleaseArguments,
+    pub(crate) arguments: ReleaseArguments,
 }
 
 impl Release {
     ghost use Rattle.fuse_request.specs.Arguments.{release_of};
     ghost use Rattle.fuse_request.specs.Call.{owner_number};
     ghost use Rattle.fuse_request.specs.Fields.{releaser_of, has_bit};
-
-    /// The operation of these arguments.
-    pub(crate) fn new(arguments: ReleaseArguments) -> Release
-        ensures { release_of result ≡ arguments }
-    {
-        Release { arguments }
-    }
 
     /// What is to be done.
     pub fn release_flags(&self) -> ReleaseFlags
@@ -222,19 +193,12 @@ impl Release {
 /// FSYNC: what an open file holds back is written.
 #[derive(Clone, Copy, Debug)]
 pub struct FSync {
-    arguments: FSyncArguments,
+    pub(crate) arguments: FSyncArguments,
 }
 
 impl FSync {
     ghost use Rattle.fuse_request.specs.Arguments.{fsync_of};
     ghost use Rattle.fuse_request.specs.Fields.{has_bit};
-
-    /// The operation of these arguments.
-    pub(crate) fn new(arguments: FSyncArguments) -> FSync
-        ensures { fsync_of result ≡ arguments }
-    {
-        FSync { arguments }
-    }
 
     /// The open file.
     pub fn file_handle(&self) -> FileHandle
@@ -254,18 +218,11 @@ impl FSync {
 /// FLUSH: one of the descriptors of an open file is closed.
 #[derive(Clone, Copy, Debug)]
 pub struct Flush {
-    arguments: FlushArguments,
+    pub(crate) arguments: FlushArguments,
 }
 
 impl Flush {
     ghost use Rattle.fuse_request.specs.Arguments.{flush_of};
-
-    /// The operation of these arguments.
-    pub(crate) fn new(arguments: FlushArguments) -> Flush
-        ensures { flush_of result ≡ arguments }
-    {
-        Flush { arguments }
-    }
 
     /// The open file.
     pub fn file_handle(&self) -> FileHandle

@@ -33,7 +33,7 @@ impl ForgetOne {
 /// Inodes of which lookups are given back.
 #[derive(Clone, Copy, Debug, PartialEq, Eq)]
 pub struct ForgetList<'a> {
-    rows: &'a [u8],
+    pub(crate) rows: &'a [u8],
 }
 
 impl<'a> ForgetList<'a> {
@@ -64,19 +64,10 @@ impl<'a> ForgetList<'a> {
 /// BATCH_FORGET: the kernel gives back some of its lookups of several inodes. It waits for no reply.
 #[derive(Clone, Copy, Debug)]
 pub struct BatchForget<'a> {
-    nodes: ForgetList<'a>,
+    pub(crate) nodes: ForgetList<'a>,
 }
 
 impl<'a> BatchForget<'a> {
-    /// The operation of these rows.
-    pub(crate) fn new(rows: &'a [u8]) -> BatchForget<'a>
-        ensures { row_bytes (forgets_of result) ≡ rows.now }
-    {
-        BatchForget {
-            nodes: ForgetList { rows },
-        }
-    }
-
     /// The inodes.
     pub fn nodes(&self) -> ForgetList<'a>
         ensures { row_bytes result ≡ row_bytes (forgets_of self.now) }

@@ -18,19 +18,12 @@ pub struct Lock {
 /// GETLK: whether a lock could be taken.
 #[derive(Clone, Copy, Debug)]
 pub struct GetLk {
-    arguments: GetLkArguments,
+    pub(crate) arguments: GetLkArguments,
 }
 
 impl GetLk {
     ghost use Rattle.fuse_request.specs.Arguments.{getlk_of};
     ghost use Rattle.fuse_request.specs.Fields.{lock_of};
-
-    /// The operation of these arguments.
-    pub(crate) fn new(arguments: GetLkArguments) -> GetLk
-        ensures { getlk_of result ≡ arguments }
-    {
-        GetLk { arguments }
-    }
 
     /// The open file.
     pub fn file_handle(&self) -> FileHandle
@@ -61,21 +54,13 @@ impl GetLk {
 /// SETLK and SETLKW: a lock is taken or given back.
 #[derive(Clone, Copy, Debug)]
 pub struct SetLk {
-    arguments: GetLkArguments,
-    sleep: bool,
+    pub(crate) arguments: GetLkArguments,
+    pub(crate) sleep: bool,
 }
 
 impl SetLk {
     ghost use Rattle.fuse_request.specs.Arguments.{setlk_of, setlk_sleep};
     ghost use Rattle.fuse_request.specs.Fields.{lock_of};
-
-    /// The operation of these arguments.
-    pub(crate) fn new(arguments: GetLkArguments, sleep: bool) -> SetLk
-        ensures arguments { setlk_of result ≡ arguments }
-        ensures sleep { setlk_sleep result ≡ sleep }
-    {
-        SetLk { arguments, sleep }
-    }
 
     /// The open file.
     pub fn file_handle(&self) -> FileHandle

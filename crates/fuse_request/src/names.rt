@@ -6,18 +6,11 @@ use fuse_args::{CreateArguments, MkDirArguments, MkNodArguments};
 /// LOOKUP: which inode a name in a directory means.
 #[derive(Clone, Copy, Debug)]
 pub struct Lookup<'a> {
-    name: &'a [u8],
+    pub(crate) name: &'a [u8],
 }
 
 impl<'a> Lookup<'a> {
     ghost use Rattle.fuse_request.specs.Arguments.{lookup_name};
-
-    /// The operation of this name.
-    pub(crate) fn new(name: &'a [u8]) -> Lookup<'a>
-        ensures { lookup_name result ≡ name.now }
-    {
-        Lookup { name }
-    }
 
     /// The name, without the zero byte that ends it.
     pub fn name(&self) -> &'a [u8]
@@ -30,20 +23,12 @@ impl<'a> Lookup<'a> {
 /// SYMLINK: a symbolic link is made.
 #[derive(Clone, Copy, Debug)]
 pub struct SymLink<'a> {
-    link_name: &'a [u8],
-    target: &'a [u8],
+    pub(crate) link_name: &'a [u8],
+    pub(crate) target: &'a [u8],
 }
 
 impl<'a> SymLink<'a> {
     ghost use Rattle.fuse_request.specs.Arguments.{symlink_link_name, symlink_target};
-
-    /// The operation of these arguments.
-    pub(crate) fn new(link_name: &'a [u8], target: &'a [u8]) -> SymLink<'a>
-        ensures link_name { symlink_link_name result ≡ link_name.now }
-        ensures target { symlink_target result ≡ target.now }
-    {
-        SymLink { link_name, target }
-    }
 
     /// The name of the link.
     pub fn link_name(&self) -> &'a [u8]
@@ -63,20 +48,12 @@ impl<'a> SymLink<'a> {
 /// MKNOD: a file or a device is made.
 #[derive(Clone, Copy, Debug)]
 pub struct MkNod<'a> {
-    arguments: MkNodArguments,
-    name: &'a [u8],
+    pub(crate) arguments: MkNodArguments,
+    pub(crate) name: &'a [u8],
 }
 
 impl<'a> MkNod<'a> {
     ghost use Rattle.fuse_request.specs.Arguments.{mknod_name, mknod_of};
-
-    /// The operation of these arguments.
-    pub(crate) fn new(arguments: MkNodArguments, name: &'a [u8]) -> MkNod<'a>
-        ensures arguments { mknod_of result ≡ arguments }
-        ensures name { mknod_name result ≡ name.now }
-    {
-        MkNod { arguments, name }
-    }
 
     /// The name, without the zero byte that ends it.
     pub fn name(&self) -> &'a [u8]
@@ -110,20 +87,12 @@ impl<'a> MkNod<'a> {
 /// MKDIR: a directory is made.
 #[derive(Clone, Copy, Debug)]
 pub struct MkDir<'a> {
-    arguments: MkDirArguments,
-    name: &'a [u8],
+    pub(crate) arguments: MkDirArguments,
+    pub(crate) name: &'a [u8],
 }
 
 impl<'a> MkDir<'a> {
     ghost use Rattle.fuse_request.specs.Arguments.{mkdir_name, mkdir_of};
-
-    /// The operation of these arguments.
-    pub(crate) fn new(arguments: MkDirArguments, name: &'a [u8]) -> MkDir<'a>
-        ensures arguments { mkdir_of result ≡ arguments }
-        ensures name { mkdir_name result ≡ name.now }
-    {
-        MkDir { arguments, name }
-    }
 
     /// The name, without the zero byte that ends it.
     pub fn name(&self) -> &'a [u8]
@@ -150,18 +119,11 @@ impl<'a> MkDir<'a> {
 /// UNLINK: a name of a file goes away.
 #[derive(Clone, Copy, Debug)]
 pub struct Unlink<'a> {
-    name: &'a [u8],
+    pub(crate) name: &'a [u8],
 }
 
 impl<'a> Unlink<'a> {
     ghost use Rattle.fuse_request.specs.Arguments.{unlink_name};
-
-    /// The operation of this name.
-    pub(crate) fn new(name: &'a [u8]) -> Unlink<'a>
-        ensures { unlink_name result ≡ name.now }
-    {
-        Unlink { name }
-    }
 
     /// The name, without the zero byte that ends it.
     pub fn name(&self) -> &'a [u8]
@@ -174,18 +136,11 @@ impl<'a> Unlink<'a> {
 /// RMDIR: a directory goes away.
 #[derive(Clone, Copy, Debug)]
 pub struct RmDir<'a> {
-    name: &'a [u8],
+    pub(crate) name: &'a [u8],
 }
 
 impl<'a> RmDir<'a> {
     ghost use Rattle.fuse_request.specs.Arguments.{rmdir_name};
-
-    /// The operation of this name.
-    pub(crate) fn new(name: &'a [u8]) -> RmDir<'a>
-        ensures { rmdir_name result ≡ name.now }
-    {
-        RmDir { name }
-    }
 
     /// The name, without the zero byte that ends it.
     pub fn name(&self) -> &'a [u8]
@@ -198,20 +153,12 @@ impl<'a> RmDir<'a> {
 /// CREATE: a file is made and opened.
 #[derive(Clone, Copy, Debug)]
 pub struct Create<'a> {
-    arguments: CreateArguments,
-    name: &'a [u8],
+    pub(crate) arguments: CreateArguments,
+    pub(crate) name: &'a [u8],
 }
 
 impl<'a> Create<'a> {
     ghost use Rattle.fuse_request.specs.Arguments.{create_name, create_of};
-
-    /// The operation of these arguments.
-    pub(crate) fn new(arguments: CreateArguments, name: &'a [u8]) -> Create<'a>
-        ensures arguments { create_of result ≡ arguments }
-        ensures name { create_name result ≡ name.now }
-    {
-        Create { arguments, name }
-    }
 
     /// The name, without the zero byte that ends it.
     pub fn name(&self) -> &'a [u8]

@@ -8,18 +8,11 @@ use fuse_wire::{AccessFlags, FileHandle, GetattrFlags};
 /// FORGET: the kernel gives back some of its lookups of an inode. It waits for no reply.
 #[derive(Clone, Copy, Debug)]
 pub struct Forget {
-    nlookup: u64,
+    pub(crate) nlookup: u64,
 }
 
 impl Forget {
     ghost use Rattle.fuse_request.specs.Arguments.{forget_nlookup};
-
-    /// The operation of this nlookup.
-    pub(crate) fn new(nlookup: u64) -> Forget
-        ensures { forget_nlookup result ≡ nlookup }
-    {
-        Forget { nlookup }
-    }
 
     /// How many lookups are given back.
     pub fn nlookup(&self) -> u64
@@ -32,20 +25,13 @@ impl Forget {
 /// GETATTR: what the attributes of an inode are.
 #[derive(Clone, Copy, Debug)]
 pub struct GetAttr {
-    arguments: GetAttrArguments,
+    pub(crate) arguments: GetAttrArguments,
 }
 
 impl GetAttr {
     ghost use Rattle.fuse_request.specs.Arguments.{getattr_of};
     ghost use Rattle.fuse_request.specs.Call.{handle_number};
     ghost use Rattle.fuse_request.specs.Fields.{fh_of};
-
-    /// The operation of these arguments.
-    pub(crate) fn new(arguments: GetAttrArguments) -> GetAttr
-        ensures { getattr_of result ≡ arguments }
-    {
-        GetAttr { arguments }
-    }
 
     /// Which fields count.
     pub fn getattr_flags(&self) -> GetattrFlags
@@ -76,18 +62,11 @@ pub struct StatFs;
 /// ACCESS: whether the caller may use an inode so.
 #[derive(Clone, Copy, Debug)]
 pub struct Access {
-    arguments: AccessArguments,
+    pub(crate) arguments: AccessArguments,
 }
 
 impl Access {
     ghost use Rattle.fuse_request.specs.Arguments.{access_of};
-
-    /// The operation of these arguments.
-    pub(crate) fn new(arguments: AccessArguments) -> Access
-        ensures { access_of result ≡ arguments }
-    {
-        Access { arguments }
-    }
 
     /// What the caller wants to do.
     pub fn mask(&self) -> AccessFlags

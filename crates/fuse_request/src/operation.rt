@@ -14,18 +14,11 @@ use fuse_wire::{InitFlags, RequestId, Version};
 /// INIT: a kernel offers to speak.
 #[derive(Clone, Copy, Debug)]
 pub struct Init {
-    arguments: InitArguments,
+    pub(crate) arguments: InitArguments,
 }
 
 impl Init {
     ghost use Rattle.fuse_request.specs.InitOperation.{arguments_of, offered, version};
-
-    /// The operation of these arguments.
-    pub(crate) fn new(arguments: InitArguments) -> Init
-        ensures { arguments_of result ≡ arguments }
-    {
-        Init { arguments }
-    }
 
     /// The capabilities offered. The second word counts where the first has `FUSE_INIT_EXT`.
     pub fn capabilities(&self) -> InitFlags
@@ -60,18 +53,11 @@ pub struct Destroy;
 /// INTERRUPT: a request need not be answered any more.
 #[derive(Clone, Copy, Debug)]
 pub struct Interrupt {
-    unique: u64,
+    pub(crate) unique: u64,
 }
 
 impl Interrupt {
     ghost use Rattle.fuse_request.specs.InitOperation.{unique_asked};
-
-    /// The operation of this number.
-    pub(crate) fn new(unique: u64) -> Interrupt
-        ensures { unique_asked result ≡ unique }
-    {
-        Interrupt { unique }
-    }
 
     /// The number of that request.
     pub fn unique(&self) -> RequestId

@@ -16,10 +16,10 @@ pub struct FilenameInDir<'a> {
 
 /// A name in the node of a request that moves, and the name that it gets.
 #[derive(Clone, Copy, Debug)]
-struct Move<'a> {
-    node: INodeNo,
-    old_name: &'a [u8],
-    new_name: &'a [u8],
+pub(crate) struct Move<'a> {
+    pub(crate) node: INodeNo,
+    pub(crate) old_name: &'a [u8],
+    pub(crate) new_name: &'a [u8],
 }
 
 impl<'a> Move<'a> {
@@ -49,32 +49,12 @@ impl<'a> Move<'a> {
 /// RENAME: a name moves to another place.
 #[derive(Clone, Copy, Debug)]
 pub struct Rename<'a> {
-    newdir: u64,
-    names: Move<'a>,
+    pub(crate) newdir: u64,
+    pub(crate) names: Move<'a>,
 }
 
 impl<'a> Rename<'a> {
     ghost use Rattle.fuse_request.specs.Arguments.{rename_new_name, rename_newdir, rename_node, rename_old_name};
-
-    /// The operation of these arguments.
-    pub(crate) fn new(
-        node: INodeNo,
-        newdir: u64,
-        old_name: &'a [u8],
-        new_name: &'a [u8],
-    ) -> Rename<'a>
-        ensures node { rename_node result ≡ node }
-        ensures newdir { rename_newdir result ≡ newdir }
-        ensures old_name { rename_old_name result ≡ old_name.now }
-        ensures new_name { rename_new_name result ≡ new_name.now }
-    {
-        let names = Move {
-            node,
-            old_name,
-            new_name,
-        };
-        Rename { newdir, names }
-    }
 
     /// The place that it moves from, which is in the node of the request.
     pub fn src(&self) -> FilenameInDir<'a>
@@ -96,32 +76,12 @@ impl<'a> Rename<'a> {
 /// RENAME2: a name moves to another place, in a way that flags say.
 #[derive(Clone, Copy, Debug)]
 pub struct Rename2<'a> {
-    arguments: Rename2Arguments,
-    names: Move<'a>,
+    pub(crate) arguments: Rename2Arguments,
+    pub(crate) names: Move<'a>,
 }
 
 impl<'a> Rename2<'a> {
     ghost use Rattle.fuse_request.specs.Arguments.{rename2_new_name, rename2_node, rename2_of, rename2_old_name};
-
-    /// The operation of these arguments.
-    pub(crate) fn new(
-        arguments: Rename2Arguments,
-        node: INodeNo,
-        old_name: &'a [u8],
-        new_name: &'a [u8],
-    ) -> Rename2<'a>
-        ensures arguments { rename2_of result ≡ arguments }
-        ensures node { rename2_node result ≡ node }
-        ensures old_name { rename2_old_name result ≡ old_name.now }
-        ensures new_name { rename2_new_name result ≡ new_name.now }
-    {
-        let names = Move {
-            node,
-            old_name,
-            new_name,
-        };
-        Rename2 { arguments, names }
-    }
 
     /// The place that it moves from, which is in the node of the request.
     pub fn from(&self) -> FilenameInDir<'a>
@@ -150,26 +110,13 @@ impl<'a> Rename2<'a> {
 /// LINK: an inode gets another name.
 #[derive(Clone, Copy, Debug)]
 pub struct Link<'a> {
-    node: INodeNo,
-    oldnodeid: u64,
-    new_name: &'a [u8],
+    pub(crate) node: INodeNo,
+    pub(crate) oldnodeid: u64,
+    pub(crate) new_name: &'a [u8],
 }
 
 impl<'a> Link<'a> {
     ghost use Rattle.fuse_request.specs.Arguments.{link_new_name, link_node, link_oldnodeid};
-
-    /// The operation of these arguments.
-    pub(crate) fn new(node: INodeNo, oldnodeid: u64, new_name: &'a [u8]) -> Link<'a>
-        ensures node { link_node result ≡ node }
-        ensures oldnodeid { link_oldnodeid result ≡ oldnodeid }
-        ensures new_name { link_new_name result ≡ new_name.now }
-    {
-        Link {
-            node,
-            oldnodeid,
-            new_name,
-        }
-    }
 
     /// The inode.
     pub fn inode_no(&self) -> INodeNo

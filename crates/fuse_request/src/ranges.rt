@@ -20,19 +20,12 @@ pub struct CopyFileRangeFile {
 /// FALLOCATE: room for a range of a file.
 #[derive(Clone, Copy, Debug)]
 pub struct FAllocate {
-    arguments: FAllocateArguments,
+    pub(crate) arguments: FAllocateArguments,
 }
 
 impl FAllocate {
     ghost use Rattle.fuse_request.specs.Arguments.{fallocate_of};
     ghost use Rattle.fuse_request.specs.Fields.{file_offset};
-
-    /// The operation of these arguments.
-    pub(crate) fn new(arguments: FAllocateArguments) -> FAllocate
-        ensures { fallocate_of result ≡ arguments }
-    {
-        FAllocate { arguments }
-    }
 
     /// The open file.
     pub fn file_handle(&self) -> FileHandle
@@ -66,18 +59,11 @@ impl FAllocate {
 /// LSEEK: where in an open file the next data or the next hole is.
 #[derive(Clone, Copy, Debug)]
 pub struct Lseek {
-    arguments: LseekArguments,
+    pub(crate) arguments: LseekArguments,
 }
 
 impl Lseek {
     ghost use Rattle.fuse_request.specs.Arguments.{lseek_of};
-
-    /// The operation of these arguments.
-    pub(crate) fn new(arguments: LseekArguments) -> Lseek
-        ensures { lseek_of result ≡ arguments }
-    {
-        Lseek { arguments }
-    }
 
     /// The open file.
     pub fn file_handle(&self) -> FileHandle
@@ -104,21 +90,13 @@ impl Lseek {
 /// COPY_FILE_RANGE: a range of a file is copied into another.
 #[derive(Clone, Copy, Debug)]
 pub struct CopyFileRange {
-    arguments: CopyFileRangeArguments,
-    node: INodeNo,
+    pub(crate) arguments: CopyFileRangeArguments,
+    pub(crate) node: INodeNo,
 }
 
 impl CopyFileRange {
     ghost use Rattle.fuse_request.specs.Arguments.{copy_file_range_node, copy_file_range_of};
     ghost use Rattle.fuse_request.specs.Fields.{signed_offset, range_file};
-
-    /// The operation of these arguments.
-    pub(crate) fn new(arguments: CopyFileRangeArguments, node: INodeNo) -> CopyFileRange
-        ensures arguments { copy_file_range_of result ≡ arguments }
-        ensures node { copy_file_range_node result ≡ node }
-    {
-        CopyFileRange { arguments, node }
-    }
 
     /// The file that is read, which is the node of the request, and where. A negative number is no offset.
     pub fn src(&self) -> Result<CopyFileRangeFile, Errno>
@@ -160,18 +138,11 @@ impl CopyFileRange {
 /// BMAP: which block of the device a block of a file is.
 #[derive(Clone, Copy, Debug)]
 pub struct BMap {
-    arguments: BMapArguments,
+    pub(crate) arguments: BMapArguments,
 }
 
 impl BMap {
     ghost use Rattle.fuse_request.specs.Arguments.{bmap_of};
-
-    /// The operation of these arguments.
-    pub(crate) fn new(arguments: BMapArguments) -> BMap
-        ensures { bmap_of result ≡ arguments }
-    {
-        BMap { arguments }
-    }
 
     /// How many bytes a block has.
     pub fn block_size(&self) -> u32

@@ -7,7 +7,7 @@ use fuse_wire::{BsdFileFlags, FileHandle, SystemTime, TimeOrNow, system_time_fro
 /// SETATTR: attributes of an inode are set, each where its bit of `valid` says so.
 #[derive(Clone, Copy, Debug)]
 pub struct SetAttr {
-    arguments: SetAttrArguments,
+    pub(crate) arguments: SetAttrArguments,
 }
 
 impl SetAttr {
@@ -15,13 +15,6 @@ impl SetAttr {
     ghost use Rattle.fuse_request.specs.Call.{handle_number};
     ghost use Rattle.fuse_request.specs.Setting.{mode_of, uid_of, gid_of, size_of, atime_of, mtime_of, ctime_of, file_of};
     ghost use Rattle.std.specs.Prelude.{None};
-
-    /// The operation of these arguments.
-    pub(crate) fn new(arguments: SetAttrArguments) -> SetAttr
-        ensures { setattr_of result ≡ arguments }
-    {
-        SetAttr { arguments }
-    }
 
     /// The kind and the permissions: `FATTR_MODE`.
     pub fn mode(&self) -> Option<u32>

@@ -20,26 +20,13 @@ pub enum GetXAttrSizeEnum {
 /// SETXATTR: an extended attribute is set.
 #[derive(Clone, Copy, Debug)]
 pub struct SetXAttr<'a> {
-    arguments: SetXAttrArguments,
-    name: &'a [u8],
-    value: &'a [u8],
+    pub(crate) arguments: SetXAttrArguments,
+    pub(crate) name: &'a [u8],
+    pub(crate) value: &'a [u8],
 }
 
 impl<'a> SetXAttr<'a> {
     ghost use Rattle.fuse_request.specs.Arguments.{setxattr_name, setxattr_of, setxattr_value};
-
-    /// The operation of these arguments.
-    pub(crate) fn new(arguments: SetXAttrArguments, name: &'a [u8], value: &'a [u8]) -> SetXAttr<'a>
-        ensures arguments { setxattr_of result ≡ arguments }
-        ensures name { setxattr_name result ≡ name.now }
-        ensures value { setxattr_value result ≡ value.now }
-    {
-        SetXAttr {
-            arguments,
-            name,
-            value,
-        }
-    }
 
     /// The name, without the zero byte that ends it.
     pub fn name(&self) -> &'a [u8]
@@ -73,21 +60,13 @@ impl<'a> SetXAttr<'a> {
 /// GETXATTR: the value of an extended attribute.
 #[derive(Clone, Copy, Debug)]
 pub struct GetXAttr<'a> {
-    arguments: GetXAttrArguments,
-    name: &'a [u8],
+    pub(crate) arguments: GetXAttrArguments,
+    pub(crate) name: &'a [u8],
 }
 
 impl<'a> GetXAttr<'a> {
     ghost use Rattle.fuse_request.specs.Arguments.{getxattr_name, getxattr_of};
     ghost use Rattle.fuse_request.specs.Fields.{size_wanted};
-
-    /// The operation of these arguments.
-    pub(crate) fn new(arguments: GetXAttrArguments, name: &'a [u8]) -> GetXAttr<'a>
-        ensures arguments { getxattr_of result ≡ arguments }
-        ensures name { getxattr_name result ≡ name.now }
-    {
-        GetXAttr { arguments, name }
-    }
 
     /// The name, without the zero byte that ends it.
     pub fn name(&self) -> &'a [u8]
@@ -117,18 +96,11 @@ impl<'a> GetXAttr<'a> {
 /// LISTXATTR: the names of the extended attributes.
 #[derive(Clone, Copy, Debug)]
 pub struct ListXAttr {
-    arguments: GetXAttrArguments,
+    pub(crate) arguments: GetXAttrArguments,
 }
 
 impl ListXAttr {
     ghost use Rattle.fuse_request.specs.Arguments.{listxattr_of};
-
-    /// The operation of these arguments.
-    pub(crate) fn new(arguments: GetXAttrArguments) -> ListXAttr
-        ensures { listxattr_of result ≡ arguments }
-    {
-        ListXAttr { arguments }
-    }
 
     /// The most bytes that are wanted, or 0 where the size alone is.
     pub fn size(&self) -> u32
@@ -141,18 +113,11 @@ impl ListXAttr {
 /// REMOVEXATTR: an extended attribute goes away.
 #[derive(Clone, Copy, Debug)]
 pub struct RemoveXAttr<'a> {
-    name: &'a [u8],
+    pub(crate) name: &'a [u8],
 }
 
 impl<'a> RemoveXAttr<'a> {
     ghost use Rattle.fuse_request.specs.Arguments.{removexattr_name};
-
-    /// The operation of this name.
-    pub(crate) fn new(name: &'a [u8]) -> RemoveXAttr<'a>
-        ensures { removexattr_name result ≡ name.now }
-    {
-        RemoveXAttr { name }
-    }
 
     /// The name, without the zero byte that ends it.
     pub fn name(&self) -> &'a [u8]

@@ -8,6 +8,9 @@ use std::process::Abort;
 use std::sync::Wait;
 use std::test::Fail;
 
+/// A request of anybody, by its opcode, its node and its body, and the lowest byte of the status and the payload that it gets.
+type Case<'a> = (u8, u8, &'a [u8], u8, &'a [u8]);
+
 /// A length below 256.
 fn short(length: usize) -> u8 {
     length.min(255) as u8
@@ -96,6 +99,25 @@ fn init(alloc: Global) -> Result<Vec<u8>, AllocError> {
     bytes.to_vec(alloc)
 }
 
+/// A source of an INIT and these requests.
+fn behind_init(alloc: Global, requests: &[&[u8]]) -> Result<MemorySource, AllocError> {
+    let mut turns = Vec::new(alloc);
+    turns.push(Turn::Message(Items::from_vec(init(alloc)?)))?;
+    for request in requests {
+        turns.push(Turn::Message(Items::from_vec(request.to_vec(alloc)?)))?;
+    }
+    Ok(MemorySource::new(turns))
+}
+
+/// Behind its first frame the sink took these, and these notes, and no other.
+fn took<R: Abort>(rt: &R, sink: &MemorySink, frames: &[&[u8]], notes: &[(RequestId, u64)]) {
+    assert_eq!(rt; sink.frames().len(), frames.len().saturating_add(1));
+    for (at, (sent, expected)) in sink.frames().iter().skip(1).zip(frames).enumerate() {
+        assert_eq!(rt; sent.as_slice(), *expected, "frame {at}");
+    }
+    assert_eq!(rt; sink.notes(), notes);
+}
+
 /// Serves these requests behind an INIT, in one session of the user 7, which sends these frames and notes.
 fn serves<R: Wait + AllocGlobal + Abort>(
     rt: &R,
@@ -105,94 +127,63 @@ fn serves<R: Wait + AllocGlobal + Abort>(
     notes: &[(RequestId, u64)],
 ) -> Result<(), AllocError> {
     let alloc = rt.alloc();
-    let mut turns = Vec::new(alloc);
-    turns.push(Turn::Message(Items::from_vec(init(alloc)?)))?;
-    for request in requests {
-        turns.push(Turn::Message(Items::from_vec(request.to_vec(alloc)?)))?;
-    }
     let config = Config {
         acl,
         n_threads: None,
     };
+    let source = behind_init(alloc, requests)?;
+    let sink = MemorySink::new(alloc, Vec::new(alloc));
     let Ended {
         filesystem: _,
         source: _,
         sink,
         outcome,
         transcript,
-    } = mount(
-        rt,
-        Hello,
-        MemorySource::new(turns),
-        MemorySink::new(alloc, Vec::new(alloc)),
-        7,
-        4096,
-        &config,
-    );
+    } = mount(rt, Hello, source, sink, 7, 4096, &config);
     assert_eq!(rt; outcome, Ok(()));
     assert_eq!(rt;
         transcript.received,
         (requests.len() as u64).saturating_add(1)
     );
     assert_eq!(rt; transcript.lost, 0);
-    assert_eq!(rt; sink.frames().len(), frames.len().saturating_add(1));
-    for (at, (sent, expected)) in sink.frames().iter().skip(1).zip(frames).enumerate() {
-        assert_eq!(rt; sent.as_slice(), *expected, "frame {at}");
-    }
-    assert_eq!(rt; sink.notes(), notes);
+    took(rt, &sink, frames, notes);
     Ok(())
 }
 
-/// Serves requests of anybody, each with its one frame.
-fn serve_all<R: Wait + AllocGlobal + Abort>(
-    rt: &R,
-    cases: &[(Vec<u8>, Vec<u8>)],
-) -> Result<(), AllocError> {
+/// Serves requests of anybody, in one session, each with its one frame.
+fn serve_all<R: Wait + AllocGlobal + Abort>(rt: &R, cases: &[Case<'_>]) -> Result<(), AllocError> {
     let alloc = rt.alloc();
+    let mut messages = Vec::new(alloc);
+    let mut replies = Vec::new(alloc);
+    for (opcode, node, body, status, payload) in cases {
+        messages.push(message(alloc, *opcode, *node, 0, body)?)?;
+        replies.push(frame(alloc, *status, payload)?)?;
+    }
     let mut requests: Vec<&[u8]> = Vec::new(alloc);
     let mut frames: Vec<&[u8]> = Vec::new(alloc);
-    for (request, frame) in cases {
-        requests.push(request)?;
-        frames.push(frame)?;
+    for (message, reply) in messages.iter().zip(&replies) {
+        requests.push(message)?;
+        frames.push(reply)?;
     }
     serves(rt, SessionACL::All, &requests, &frames, &[])
 }
 
 #[test]
 fn names_and_attributes(rt: HostRuntime) -> Result<(), Fail> {
-    let alloc = rt.alloc();
     let hello = attributes(2, 13, 1, [0xa4, 0x81], 1);
     let big = attributes(3, 200, 1, [0xa4, 0x81], 1);
     let root = attributes(1, 0, 0, [0xed, 0x41], 2);
-    let cases = [
-        (
-            message(alloc, 1, 1, 0, b"hello.txt\0")?,
-            frame(alloc, 0, &entry(2, hello))?,
-        ),
-        (
-            message(alloc, 1, 1, 0, b"big\0hello.txt\0")?,
-            frame(alloc, 0, &entry(3, big))?,
-        ),
-        (
-            message(alloc, 1, 1, 0, b"none\0")?,
-            frame(alloc, 0xfe, b"")?,
-        ),
-        (message(alloc, 1, 2, 0, b"big\0")?, frame(alloc, 0xfe, b"")?),
-        (message(alloc, 1, 1, 0, b"big")?, frame(alloc, 0xda, b"")?),
-        (
-            message(alloc, 3, 1, 0, &[0; 16])?,
-            frame(alloc, 0, &held(root))?,
-        ),
-        (
-            message(alloc, 3, 2, 0, &[1; 16])?,
-            frame(alloc, 0, &held(hello))?,
-        ),
-        (
-            message(alloc, 3, 3, 0, &[0; 16])?,
-            frame(alloc, 0, &held(big))?,
-        ),
-        (message(alloc, 3, 4, 0, &[0; 16])?, frame(alloc, 0xfe, b"")?),
-        (message(alloc, 3, 1, 0, &[0; 15])?, frame(alloc, 0xda, b"")?),
+    let cases: [Case<'_>; 10] = [
+        (1, 1, b"hello.txt\0", 0, &entry(2, hello)),
+        (1, 1, b"big\0hello.txt\0", 0, &entry(3, big)),
+        (1, 1, b"none\0", 0xfe, b""),
+        (1, 2, b"big\0", 0xfe, b""),
+        (1, 1, b"big", 0xda, b""),
+        (3, 1, &[0; 16], 0, &held(root)),
+        (3, 2, &[1; 16], 0, &held(hello)),
+        (3, 3, &[0; 16], 0, &held(big)),
+        (3, 4, &[0; 16], 0xfe, b""),
+        (3, 1, &[0; 15], 0xda, b""),
     ];
     serve_all(&rt, &cases)?;
     Ok(())
@@ -208,39 +199,21 @@ fn contents(rt: HostRuntime) -> Result<(), Fail> {
     for number in 0..200u8 {
         numbers.push(number)?;
     }
-    let cases = [
+    let cases: [Case<'_>; 8] = [
+        (15, 2, &read(near(0), 100), 0, b"Hello World!\n"),
+        (15, 2, &read(near(6), 5), 0, b"World"),
+        (15, 2, &read(near(13), 5), 0, b""),
+        (15, 2, &read(farthest, 5), 0, b""),
+        (15, 2, &read(far, 5), 0xea, b""),
+        (15, 3, &read(near(0), 255), 0, numbers.as_slice()),
         (
-            message(alloc, 15, 2, 0, &read(near(0), 100))?,
-            frame(alloc, 0, b"Hello World!\n")?,
+            15,
+            3,
+            &read(near(141), 100),
+            0,
+            numbers.get(141..).unwrap_or(&[]),
         ),
-        (
-            message(alloc, 15, 2, 0, &read(near(6), 5))?,
-            frame(alloc, 0, b"World")?,
-        ),
-        (
-            message(alloc, 15, 2, 0, &read(near(13), 5))?,
-            frame(alloc, 0, b"")?,
-        ),
-        (
-            message(alloc, 15, 2, 0, &read(farthest, 5))?,
-            frame(alloc, 0, b"")?,
-        ),
-        (
-            message(alloc, 15, 2, 0, &read(far, 5))?,
-            frame(alloc, 0xea, b"")?,
-        ),
-        (
-            message(alloc, 15, 3, 0, &read(near(0), 255))?,
-            frame(alloc, 0, &numbers)?,
-        ),
-        (
-            message(alloc, 15, 3, 0, &read(near(141), 100))?,
-            frame(alloc, 0, numbers.get(141..).unwrap_or(&[]))?,
-        ),
-        (
-            message(alloc, 15, 1, 0, &read(near(0), 5))?,
-            frame(alloc, 0xfe, b"")?,
-        ),
+        (15, 1, &read(near(0), 5), 0xfe, b""),
     ];
     serve_all(&rt, &cases)?;
     Ok(())
@@ -253,29 +226,41 @@ fn forgets_and_whom_it_serves(rt: HostRuntime) -> Result<(), Fail> {
     let short = message(alloc, 2, 2, 5, &[1, 0, 0, 0, 0, 0, 0])?;
     let unknown = message(alloc, 7, 1, 5, b"")?;
     let lookup = message(alloc, 1, 1, 5, b"big\0")?;
-    let of_root = message(alloc, 1, 1, 0, b"none\0")?;
-    let of_owner = message(alloc, 1, 1, 7, b"none\0")?;
     let text = message(alloc, 15, 2, 5, &read(near(0), 100))?;
-    let no_entry = frame(alloc, 0xfe, b"")?;
     let no_access = frame(alloc, 0xf3, b"")?;
     let no_call = frame(alloc, 0xda, b"")?;
     let greeting = frame(alloc, 0, b"Hello World!\n")?;
     serves(
         &rt,
         SessionACL::Owner,
-        &[
-            &forget, &short, &unknown, &lookup, &of_root, &of_owner, &text,
-        ],
-        &[
-            &no_call, &no_call, &no_access, &no_access, &no_entry, &greeting,
-        ],
+        &[&forget, &short, &unknown, &lookup, &text],
+        &[&no_call, &no_call, &no_access, &greeting],
         &[(RequestId(2), 1)],
     )?;
+    Ok(())
+}
+
+#[test]
+fn root_is_served_where_the_rule_says_so(rt: HostRuntime) -> Result<(), Fail> {
+    let alloc = rt.alloc();
+    let of_root = message(alloc, 1, 1, 0, b"none\0")?;
+    let of_owner = message(alloc, 1, 1, 7, b"none\0")?;
+    let of_another = message(alloc, 1, 1, 5, b"big\0")?;
+    let no_entry = frame(alloc, 0xfe, b"")?;
+    let refused = frame(alloc, 0xf3, b"")?;
+    let requests: [&[u8]; 4] = [&of_root, &of_owner, &of_another, &of_root];
     serves(
         &rt,
         SessionACL::RootAndOwner,
-        &[&of_root, &of_owner, &lookup, &of_root, &of_root],
-        &[&no_entry, &no_entry, &no_access, &no_entry, &no_entry],
+        &requests,
+        &[&no_entry, &no_entry, &refused, &no_entry],
+        &[],
+    )?;
+    serves(
+        &rt,
+        SessionACL::Owner,
+        &requests,
+        &[&refused, &no_entry, &refused, &refused],
         &[],
     )?;
     Ok(())

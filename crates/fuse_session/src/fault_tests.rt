@@ -1,12 +1,15 @@
 // Sessions over sources and sinks that fail.
+ghost use Rattle.std.specs.Prelude.{None};
+
 use crate::counting::Counting;
-use crate::tests::{ACCEPTED, INIT_7_8, refusal};
-use crate::{Ended, SessionError, mount};
+use crate::tests::{ACCEPTED, INIT_7_8, refusal, source_of, took};
+use crate::{Ended, SessionError, Transcript, mount};
 use fuse_config::Config;
-use fuse_wire::{Items, MemorySink, MemorySource, Sending, Turn};
-use std::alloc::AllocError;
+use fuse_wire::{Items, MemorySink, MemorySource, Noting, RequestId, Sending, Sink, Turn};
+use std::alloc::{AllocError, Global};
 use std::process::Abort;
 use std::sync::Wait;
+use std::sync::atomic::Ordering;
 use std::test::Fail;
 
 /// A LOOKUP of a name that is not there.
@@ -25,6 +28,19 @@ enum Next<'a> {
     Fault,
 }
 
+/// A source of these turns.
+fn turns_of(alloc: Global, turns: &[Next<'_>]) -> Result<MemorySource, AllocError> {
+    let mut given = Vec::new(alloc);
+    for turn in turns {
+        given.push(match turn {
+            Next::Bytes(bytes) => Turn::Message(Items::from_vec(bytes.to_vec(alloc)?)),
+            Next::Nothing => Turn::Retry,
+            Next::Fault => Turn::Fail,
+        })?;
+    }
+    Ok(MemorySource::new(given))
+}
+
 /// Serves these turns, in a session with this outcome, which takes so many messages, sends these frames, and loses so many.
 fn serves<R: Wait + AllocGlobal + Abort>(
     rt: &R,
@@ -35,16 +51,7 @@ fn serves<R: Wait + AllocGlobal + Abort>(
     lost: u64,
     expected: Result<(), SessionError>,
 ) -> Result<(), AllocError> {
-    let alloc = rt.alloc();
-    let mut given = Vec::new(alloc);
-    for turn in turns {
-        given.push(match turn {
-            Next::Bytes(bytes) => Turn::Message(Items::from_vec(bytes.to_vec(alloc)?)),
-            Next::Nothing => Turn::Retry,
-            Next::Fault => Turn::Fail,
-        })?;
-    }
-    let source = MemorySource::new(given);
+    let source = turns_of(rt.alloc(), turns)?;
     let Ended {
         filesystem,
         source: _,
@@ -52,15 +59,17 @@ fn serves<R: Wait + AllocGlobal + Abort>(
         outcome,
         transcript,
     } = mount(rt, Counting::new(), source, sink, 0, 4096, &Config::new());
+    let counts = Transcript {
+        received,
+        frames: frames.len() as u64,
+        notes: 0,
+        lost,
+        unrecorded: 0,
+    };
     assert_eq!(rt; outcome, expected);
+    assert_eq!(rt; transcript, counts);
     assert_eq!(rt; filesystem.destroyed, 1);
-    assert_eq!(rt; transcript.received, received);
-    assert_eq!(rt; transcript.frames, frames.len() as u64);
-    assert_eq!(rt; transcript.lost, lost);
-    assert_eq!(rt; sink.frames().len(), frames.len());
-    for (sent, frame) in sink.frames().iter().zip(frames) {
-        assert_eq!(rt; sent.as_slice(), *frame);
-    }
+    took(rt, &sink, frames, &[]);
     Ok(())
 }
 
@@ -122,6 +131,70 @@ fn a_sink_may_refuse(rt: HostRuntime) -> Result<(), Fail> {
         let sink = MemorySink::new(alloc, faults);
         serves(&rt, &turns, sink, 3, &[&ACCEPTED, &answer], 1, Ok(()))?;
     }
+    Ok(())
+}
+
+/// A sink that refuses its first note, and tells nothing.
+#[derive(Drop)]
+struct RefusingOnce {
+    inner: MemorySink,
+    faults: u64,
+}
+
+impl Sink for RefusingOnce {
+    ghost told = { λ s. record { frames = None; notes = None; faults = s.faults; origin = record { bytes = None; faults = 0 } } };
+
+    fn send(&mut self, header: &[u8; 16], payload: &[u8]) -> Sending {
+        match self.inner.send(header, payload) {
+            Sending::Sent => Sending::Sent,
+            refused => {
+                self.faults = self.faults.saturating_add(1);
+                refused
+            }
+        }
+    }
+
+    fn note(&mut self, id: RequestId, mark: u64) -> Noting {
+        if self.faults > 0 {
+            if let Noting::Sent = self.inner.note(id, mark) {
+                return Noting::Sent;
+            }
+        }
+        self.faults = self.faults.saturating_add(1);
+        Noting::Failed
+    }
+}
+
+/// A FORGET of no lookup of the node 2.
+fn forget(id: u8) -> [u8; 48] {
+    let mut bytes = [0; 48];
+    bytes[0] = 48;
+    bytes[4] = 2;
+    bytes[8] = id;
+    bytes[16] = 2;
+    bytes
+}
+
+#[test]
+fn a_note_that_is_refused_is_lost(rt: HostRuntime) -> Result<(), Fail> {
+    let alloc = rt.alloc();
+    let source = source_of(alloc, &[&INIT_7_8, &forget(2), &forget(3)])?;
+    let sink = RefusingOnce {
+        inner: MemorySink::new(alloc, Vec::new(alloc)),
+        faults: 0,
+    };
+    let Ended {
+        filesystem,
+        source: _,
+        sink,
+        outcome,
+        transcript,
+    } = mount(&rt, Counting::new(), source, sink, 0, 4096, &Config::new());
+    assert_eq!(rt; outcome, Ok(()));
+    assert_eq!(rt; filesystem.calls.load(Ordering::SeqCst), 2);
+    assert_eq!(rt; sink.inner.notes(), [(RequestId(3), 2)].as_slice());
+    assert_eq!(rt; transcript.notes, 1);
+    assert_eq!(rt; transcript.lost, 1);
     Ok(())
 }
 

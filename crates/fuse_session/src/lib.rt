@@ -11,6 +11,8 @@ mod fault_tests;
 mod filesystem;
 mod handshake;
 #[cfg(test)]
+mod order_tests;
+#[cfg(test)]
 mod refusal_tests;
 mod serving;
 mod session;

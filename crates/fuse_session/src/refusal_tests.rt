@@ -4,7 +4,7 @@ use crate::tests::{INIT_7_8, refusal};
 use crate::{Ended, mount};
 use fuse_config::{Config, SessionACL};
 use fuse_wire::{Items, MemorySink, MemorySource, Turn};
-use std::alloc::AllocError;
+use std::alloc::{AllocError, Global};
 use std::process::Abort;
 use std::sync::Wait;
 use std::sync::atomic::Ordering;
@@ -29,6 +29,25 @@ fn long(opcode: u8, id: u8, place: usize, byte: u8) -> [u8; 96] {
     bytes
 }
 
+/// A source of an INIT and these messages.
+fn behind_init(alloc: Global, rows: &[Refusal]) -> Result<MemorySource, AllocError> {
+    let mut turns = Vec::new(alloc);
+    turns.push(Turn::Message(Items::from_vec(INIT_7_8.to_vec(alloc)?)))?;
+    for (opcode, id, place, byte, _) in rows {
+        let message = long(*opcode, *id, *place, *byte);
+        turns.push(Turn::Message(Items::from_vec(message.to_vec(alloc)?)))?;
+    }
+    Ok(MemorySource::new(turns))
+}
+
+/// Behind its first frame the sink took one for each of these, and no other: its error.
+fn took_errors<R: Abort>(rt: &R, sink: &MemorySink, rows: &[Refusal]) {
+    assert_eq!(rt; sink.frames().len(), rows.len().saturating_add(1));
+    for (sent, (_, id, _, _, status)) in sink.frames().iter().skip(1).zip(rows) {
+        assert_eq!(rt; sent.as_slice(), refusal(*id, *status).as_slice());
+    }
+}
+
 /// Serves these messages behind an INIT, in one session of root. Each gets its error, and the filesystem is not called.
 fn refuses<R: Wait + AllocGlobal + Abort>(
     rt: &R,
@@ -36,17 +55,11 @@ fn refuses<R: Wait + AllocGlobal + Abort>(
     rows: &[Refusal],
 ) -> Result<(), AllocError> {
     let alloc = rt.alloc();
-    let mut turns = Vec::new(alloc);
-    turns.push(Turn::Message(Items::from_vec(INIT_7_8.to_vec(alloc)?)))?;
-    for (opcode, id, place, byte, _) in rows {
-        let message = long(*opcode, *id, *place, *byte);
-        turns.push(Turn::Message(Items::from_vec(message.to_vec(alloc)?)))?;
-    }
     let config = Config {
         acl,
         n_threads: None,
     };
-    let source = MemorySource::new(turns);
+    let source = behind_init(alloc, rows)?;
     let sink = MemorySink::new(alloc, Vec::new(alloc));
     let Ended {
         filesystem,
@@ -59,10 +72,7 @@ fn refuses<R: Wait + AllocGlobal + Abort>(
     assert_eq!(rt; filesystem.calls.load(Ordering::SeqCst), 0);
     assert_eq!(rt; transcript.notes, 0);
     assert_eq!(rt; transcript.lost, 0);
-    assert_eq!(rt; sink.frames().len(), rows.len().saturating_add(1));
-    for (sent, (_, id, _, _, status)) in sink.frames().iter().skip(1).zip(rows) {
-        assert_eq!(rt; sent.as_slice(), refusal(*id, *status).as_slice());
-    }
+    took_errors(rt, &sink, rows);
     Ok(())
 }
 

@@ -1,7 +1,7 @@
 // Whole sessions, from memory to memory.
 
 use crate::counting::{CONTENTS, Counting};
-use crate::{Ended, InvalidData, SessionError, mount};
+use crate::{Ended, InvalidData, SessionError, Transcript, mount};
 use fuse_config::{Config, SessionACL};
 use fuse_request::RequestError;
 use fuse_wire::{Items, MemorySink, MemorySource, RequestId, Turn, Version};
@@ -27,7 +27,7 @@ pub(crate) const ACCEPTED: [u8; 40] = [
 ];
 
 /// A source of these messages.
-fn source_of(alloc: Global, messages: &[&[u8]]) -> Result<MemorySource, AllocError> {
+pub(crate) fn source_of(alloc: Global, messages: &[&[u8]]) -> Result<MemorySource, AllocError> {
     let mut turns = Vec::new(alloc);
     for message in messages {
         let mut bytes = Vec::new(alloc);
@@ -35,6 +35,20 @@ fn source_of(alloc: Global, messages: &[&[u8]]) -> Result<MemorySource, AllocErr
         turns.push(Turn::Message(Items::from_vec(bytes)))?;
     }
     Ok(MemorySource::new(turns))
+}
+
+/// The sink took these frames and notes, and no other.
+pub(crate) fn took<R: Abort>(
+    rt: &R,
+    sink: &MemorySink,
+    frames: &[&[u8]],
+    notes: &[(RequestId, u64)],
+) {
+    assert_eq!(rt; sink.notes(), notes);
+    assert_eq!(rt; sink.frames().len(), frames.len());
+    for (sent, frame) in sink.frames().iter().zip(frames) {
+        assert_eq!(rt; sent.as_slice(), *frame);
+    }
 }
 
 /// Serves the first of these messages, so many, in a session with this outcome, which sends these frames and no note, and
@@ -73,33 +87,27 @@ fn serves_calls<R: Wait + AllocGlobal + Abort>(
     calls: Calls<'_>,
 ) -> Result<(), AllocError> {
     let alloc = rt.alloc();
+    let source = source_of(alloc, messages)?;
+    let sink = MemorySink::new(alloc, Vec::new(alloc));
     let Ended {
         filesystem,
         source: _,
         sink,
         outcome,
         transcript,
-    } = mount(
-        rt,
-        Counting::new(),
-        source_of(alloc, messages)?,
-        MemorySink::new(alloc, Vec::new(alloc)),
-        0,
-        4096,
-        config,
-    );
+    } = mount(rt, Counting::new(), source, sink, 0, 4096, config);
+    let counts = Transcript {
+        received,
+        frames: frames.len() as u64,
+        notes: calls.notes.len() as u64,
+        lost: 0,
+        unrecorded: 0,
+    };
     assert_eq!(rt; outcome, expected);
+    assert_eq!(rt; transcript, counts);
     assert_eq!(rt; filesystem.destroyed, 1);
     assert_eq!(rt; filesystem.calls.load(Ordering::SeqCst), calls.made);
-    assert_eq!(rt; sink.notes(), calls.notes);
-    assert_eq!(rt; transcript.notes, calls.notes.len() as u64);
-    assert_eq!(rt; transcript.received, received);
-    assert_eq!(rt; transcript.frames, frames.len() as u64);
-    assert_eq!(rt; transcript.lost, 0);
-    assert_eq!(rt; sink.frames().len(), frames.len());
-    for (sent, frame) in sink.frames().iter().zip(frames) {
-        assert_eq!(rt; sent.as_slice(), *frame);
-    }
+    took(rt, &sink, frames, calls.notes);
     Ok(())
 }
 

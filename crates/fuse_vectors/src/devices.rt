@@ -7,7 +7,7 @@ use fuse_wire::{
 };
 use std::alloc::Global;
 use std::io;
-use std::io::{Cursor, Write};
+use std::io::{Cursor, Read, Write};
 use std::process::Abort;
 use std::test::Fail;
 
@@ -265,6 +265,35 @@ fn reads_a_slice(rt: HostRuntime) {
     assert_eq!(rt; source.read(&mut piece), ByteRead::Got(1));
     assert_eq!(rt; piece[0], 3);
     assert_eq!(rt; source.read(&mut piece), ByteRead::End);
+}
+
+/// A reader whose first read is interrupted, and that gives a byte at each later one.
+#[derive(Debug, Drop)]
+struct Interrupted {
+    before: bool,
+}
+
+impl Read for Interrupted {
+    fn read(&mut self, piece: &mut [u8]) -> io::Result<usize> {
+        if !self.before {
+            self.before = true;
+            return Err(io::Error::from(io::ErrorKind::Interrupted));
+        }
+        let Some(first) = piece.first_mut() else {
+            return Ok(0);
+        };
+        *first = 7;
+        Ok(1)
+    }
+}
+
+#[test]
+fn a_read_that_fails_is_not_tried_again(rt: HostRuntime) {
+    let mut source = StdSource::new(Interrupted { before: false });
+    let mut piece = [0; 2];
+    assert_eq!(rt; source.read(&mut piece), ByteRead::Failed);
+    assert_eq!(rt; source.read(&mut piece), ByteRead::Got(1));
+    assert_eq!(rt; piece, [7, 0]);
 }
 
 /// A writer that takes all and can't flush it.

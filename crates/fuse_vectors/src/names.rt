@@ -3,7 +3,7 @@ use bitflags::Flags;
 use fuse_wire::{
     AccessFlags, BsdFileFlags, CopyFileRangeFlags, CuseInitFlags, Errno, FattrFlags, FopenFlags,
     FsyncFlags, GetattrFlags, InitFlags, IoctlFlags, PollEvents, PollFlags, ReadFlags,
-    ReleaseFlags, RenameFlags, WriteFlags, named_errors,
+    ReleaseFlags, RenameFlags, WriteFlags, flag_names, named_errors,
 };
 use std::process::Abort;
 use std::test::Fail;
@@ -195,6 +195,41 @@ fn names_and_values(rt: HostRuntime) {
     for (flag, value) in ACCESS_FLAGS {
         assert_eq!(rt; flag.bits(), value);
     }
+}
+
+// Says whether the constants of a set have the bits of their names.
+fn constants<F: Flags<Bits = u32>>(
+    rt: &impl Abort,
+    found: &[(&'static str, F)],
+    expected: &[(&str, u32)],
+) {
+    assert_eq!(rt; found.len(), expected.len());
+    for i in 0..found.len() {
+        assert_eq!(rt; found[i].0, expected[i].0);
+        assert_eq!(rt; found[i].1.bits(), expected[i].1);
+    }
+}
+
+#[test]
+fn constants_have_the_bits_of_their_names(rt: HostRuntime) {
+    constants(&rt, &flag_names::rename_flags(), &RENAME_FLAGS);
+    constants(&rt, &flag_names::poll_events(), &POLL_EVENTS);
+    constants(&rt, &flag_names::poll_flags(), &POLL_FLAGS);
+    constants(&rt, &flag_names::fopen_flags(), &FOPEN_FLAGS);
+    constants(&rt, &flag_names::fsync_flags(), &FSYNC_FLAGS);
+    constants(&rt, &flag_names::read_flags(), &READ_FLAGS);
+    constants(&rt, &flag_names::write_flags(), &WRITE_FLAGS);
+    constants(&rt, &flag_names::release_flags(), &RELEASE_FLAGS);
+    constants(&rt, &flag_names::getattr_flags(), &GETATTR_FLAGS);
+    constants(&rt, &flag_names::fattr_flags(), &FATTR_FLAGS);
+    constants(&rt, &flag_names::ioctl_flags(), &IOCTL_FLAGS);
+    constants(&rt, &flag_names::cuse_init_flags(), &CUSE_INIT_FLAGS);
+}
+
+#[test]
+fn errors_of_other_numbers_are_others(rt: HostRuntime) {
+    assert!(rt; Errno::EIO != Errno::EINVAL && Errno::EAGAIN == Errno::EWOULDBLOCK);
+    assert!(rt; PollEvents::POLLIN != PollEvents::POLLPRI);
 }
 
 #[test]

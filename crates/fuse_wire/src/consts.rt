@@ -16,6 +16,9 @@ pub const FUSE_IOCTL_MAX_IOV: u32 = 256;
 /// The least number of bytes that a buffer for the kernel's requests may have: `FUSE_MIN_READ_BUFFER`.
 pub const FUSE_MIN_READ_BUFFER: usize = 8192;
 
+/// How many bytes the header of a request has: those of `struct fuse_in_header`.
+pub const REQUEST_HEADER_SIZE: usize = 40;
+
 /// The most bytes that one WRITE may carry: 16 MiB.
 pub const MAX_WRITE_SIZE: usize = 16777216;
 

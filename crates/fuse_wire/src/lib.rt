@@ -12,6 +12,7 @@ mod duration;
 mod errno;
 mod file_attr;
 mod file_flags;
+pub mod flag_names;
 mod init_flags;
 mod ioctl_flags;
 mod items;

@@ -4,11 +4,8 @@ ghost use Rattle.fuse_wire.specs.Numbers.{number};
 ghost use Rattle.fuse_wire.specs.Source.{Receives};
 ghost use Rattle.fuse_wire.specs.StreamSource.{held, Fills, stream_told};
 
-use crate::consts::BUFFER_SIZE;
+use crate::consts::{BUFFER_SIZE, REQUEST_HEADER_SIZE};
 use crate::{ByteRead, ByteSource, Received, Source, u32_at};
-
-/// How long a request header is: `struct fuse_in_header`.
-const HEADER_SIZE: usize = 40;
 
 /// A source that cuts a stream of bytes into messages, by their length fields.
 #[derive(Debug)]
@@ -57,18 +54,18 @@ impl<I: ByteSource> Source for StreamSource<I> {
         ensures received { Receives result (stream_told (I.told (held self.old))) (stream_told (I.told (held self.new))) buffer.new }
         ensures never_retries { result ≢ Received.Retry }
     {
-        let Some(count) = fill(&mut self.inner, &mut buffer[..HEADER_SIZE]) else {
+        let Some(count) = fill(&mut self.inner, &mut buffer[..REQUEST_HEADER_SIZE]) else {
             return Received::Failed;
         };
         if count == 0 {
             return Received::Gone;
         }
-        if count < HEADER_SIZE {
+        if count < REQUEST_HEADER_SIZE {
             return Received::Message(count);
         }
-        let end = (u32_at(buffer, 0) as usize).clamp(HEADER_SIZE, BUFFER_SIZE);
-        match fill(&mut self.inner, &mut buffer[HEADER_SIZE..end]) {
-            Some(more) => Received::Message(HEADER_SIZE + more),
+        let end = (u32_at(buffer, 0) as usize).clamp(REQUEST_HEADER_SIZE, BUFFER_SIZE);
+        match fill(&mut self.inner, &mut buffer[REQUEST_HEADER_SIZE..end]) {
+            Some(more) => Received::Message(REQUEST_HEADER_SIZE + more),
             None => Received::Failed,
         }
     }

@@ -12,8 +12,8 @@ pub returns-then-count-eq0-clause-received : goal.returns-then-count-eq0-clause-
 returns-then-count-eq0-clause-received g c =
     Gone-from_filled _ _ _ _ _ c.in-Some.ensures (omega arith) (omega (arith, length-take 40 c.args.buffer.now, c.requires))
 
-pub returns-then-count-lt-HEADER_SIZE-clause-received : goal.returns-then-count-lt-HEADER_SIZE-clause-received
-returns-then-count-lt-HEADER_SIZE-clause-received g c =
+pub returns-then-count-lt-REQUEST_HEADER_SIZE-clause-received : goal.returns-then-count-lt-REQUEST_HEADER_SIZE-clause-received
+returns-then-count-lt-REQUEST_HEADER_SIZE-clause-received g c =
     let header : length (take 40 c.args.buffer.now) ≡ 40 = omega (arith, length-take 40 c.args.buffer.now, c.requires) in
     TakesMessage-short _ _ _ _ _ (drop 40 c.args.buffer.now) c.in-Some.ensures (omega arith) (omega arith) header (omega arith)
 

@@ -1,0 +1,33 @@
+//! Laws of the definitions. Each function here does nothing, or gives a default: its contract is the law, which holds of all
+//! configurations.
+ghost use Rattle.std.specs.Prelude.{◌≡◌, ◌≤◌, ℕ};
+ghost use Rattle.std.specs.Int.RustNames.{bit_and};
+ghost use Rattle.fuse_wire.specs.Numbered.{SaysSame};
+ghost use Rattle.fuse_config.specs.Values.{Configuration};
+ghost use Rattle.fuse_config.specs.Configuration.{granted_of, threshold_of};
+ghost use Rattle.fuse_config.specs.declared.session_acl.SessionACL.TheVariants.{Owner};
+
+use crate::{Config, SessionACL};
+
+/// Where nothing is said of whose requests are served, the owner's are.
+pub fn the_owner_is_served_by_default() -> SessionACL
+    ensures { result ≡ Owner }
+{
+    SessionACL::default()
+}
+
+/// What says whose requests are served is equal where it is the same, and so is how a session is set up.
+pub fn rules_are_equal_where_they_are_the_same()
+    ensures rules { SaysSame ⟦<SessionACL as PartialEq>⟧.eq }
+    ensures configurations { SaysSame ⟦<Config as PartialEq>⟧.eq }
+{}
+
+/// No capability is granted that was not offered.
+pub fn grants_only_what_was_offered()
+    ensures { (config : Configuration) (offered : ℕ) → bit_and (granted_of config offered) offered ≡ granted_of config offered }
+{}
+
+/// The kernel calls the filesystem congested where as many requests wait as may wait, or before.
+pub fn the_threshold_is_at_most_the_background()
+    ensures { (config : Configuration) → threshold_of config ≤ config.max_background }
+{}
