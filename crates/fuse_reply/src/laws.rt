@@ -2,9 +2,12 @@
 ghost use Rattle.std.specs.Prelude.{◌≡◌, ◌<◌, ◌≤ℤ◌, ◌^◌, ◌++◌, ◌∷◌, ℕ, List, false, length, pos, neg_ℤ};
 ghost use Rattle.std.specs.List.{AllByRecursion, concat};
 ghost use Rattle.fuse_wire.specs.Frames.{frame_length, frames};
+ghost use Rattle.fuse_wire.specs.Numbered.{SaysSame};
 ghost use Rattle.fuse_reply.specs.Answer.{Answer, IsAnswer};
 ghost use Rattle.fuse_reply.specs.Answer.Answer.{Error};
 ghost use Rattle.fuse_reply.specs.Frame.{frame_status, is_set_aside, replies, reply, status};
+
+use crate::OutEnd;
 
 /// No reply is set aside, whatever its request's id is: its frame's status is the answer's, which is at most 0.
 pub fn replies_are_not_set_aside()
@@ -26,10 +29,15 @@ pub fn frames_count_themselves()
     ensures split { (answered : List (ℕ × Answer)) → AllByRecursion (λ a. IsAnswer a.1) answered → frames (concat (replies answered)) ≡ replies answered }
 {}
 
+/// What became of a message is equal where it is the same.
+pub fn equal_where_they_are_the_same()
+    ensures ends { SaysSame ⟦<OutEnd as PartialEq>⟧.eq }
+{}
+
 #[cfg(test)]
 mod tests {
     use super::*;
-    use crate::{OutEnd, ReplyData, ReplyEmpty};
+    use crate::{ReplyData, ReplyEmpty};
     use fuse_wire::{Errno, MemoryOut, RequestId, StreamSink};
 
     /// The frame in front, as its length field has it, and what stands behind it.

@@ -1,5 +1,5 @@
 -- What the fields of a part mean.
-use Rattle.std.specs.Prelude.{◌==◌, ◌^◌, ℕ, ℤ, pos, negsuc, Bool, not, Option, None, Some, Result, Ok, Err, nat_lt, if◌then◌else◌}
+use Rattle.std.specs.Prelude.{◌==◌, ◌^◌, ℕ, ℤ, pos, negsuc, Bool, true, false, not, Option, None, Some, Result, Ok, Err, nat_lt, if◌then◌else◌}
 use Rattle.std.specs.Int.RustNames.{bit_and}
 use Rattle.std.specs.Int.NonZero.{non_zero_u32_get}
 use Rattle.fuse_args.specs.declared.fixed.devices.GetLkArguments.{GetLkArguments}
@@ -59,3 +59,10 @@ lock_of arguments = record { range = (arguments.start, arguments.end); typ = arg
 abbrev pub size_wanted : GetXAttrSizeEnum → ℕ
 size_wanted (GetSize nothing) = 0
 size_wanted (Size size) = non_zero_u32_get size
+
+-- whether GETXATTR wants the same
+abbrev pub same_size : GetXAttrSizeEnum → GetXAttrSizeEnum → Bool
+same_size (GetSize nothing) (GetSize nothing1) = true
+same_size (GetSize nothing) (Size size) = false
+same_size (Size size) (GetSize nothing) = false
+same_size (Size size) (Size size1) = non_zero_u32_get size == non_zero_u32_get size1

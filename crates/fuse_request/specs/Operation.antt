@@ -112,12 +112,13 @@ session_operation opcode body =
     else if opcode == 4096 then taking (cuse_init_at body) (λ nothing. CuseInit)
     else Err (UnknownOperation opcode)
 
--- what is asked about locks, and of devices
+-- what is asked about locks, blocks and devices
 abbrev pub device_operation : ℕ → List ℕ → Result Op RequestError
 device_operation opcode body =
     if opcode == 31 then taking (getlk_at body) (λ getlk. GetLk getlk)
     else if opcode == 32 then taking (getlk_at body) (λ setlk. SetLk setlk false)
     else if opcode == 33 then taking (getlk_at body) (λ setlk. SetLk setlk true)
+    else if opcode == 37 then taking (bmap_at body) (λ bmap. BMap bmap)
     else if opcode == 39 then after (ioctl_at body) (λ ioctl rest. taking (at_least ioctl.in_size rest) (λ in_bytes. IoCtl ioctl in_bytes))
     else if opcode == 40 then taking (poll_at body) (λ poll. Poll poll)
     else session_operation opcode body
@@ -131,24 +132,18 @@ xattr_operation opcode body =
     else if opcode == 24 then taking (name_at body) (λ name. RemoveXAttr name)
     else device_operation opcode body
 
--- what is asked about an open directory
-abbrev pub directory_operation : ℕ → List ℕ → Result Op RequestError
-directory_operation opcode body =
-    if opcode == 27 then taking (open_at body) (λ opendir. OpenDir opendir)
+-- what is asked about ranges of an open file, and about an open directory
+abbrev pub opened_operation : ℕ → List ℕ → Result Op RequestError
+opened_operation opcode body =
+    if opcode == 43 then taking (fallocate_at body) (λ fallocate. FAllocate fallocate)
+    else if opcode == 46 then taking (lseek_at body) (λ lseek. Lseek lseek)
+    else if opcode == 47 then taking (copy_file_range_at body) (λ copy_file_range. CopyFileRange copy_file_range)
+    else if opcode == 27 then taking (open_at body) (λ opendir. OpenDir opendir)
     else if opcode == 28 then taking (read_at body) (λ readdir. ReadDir readdir)
     else if opcode == 29 then taking (release_at body) (λ releasedir. ReleaseDir releasedir)
     else if opcode == 30 then taking (fsync_at body) (λ fsyncdir. FSyncDir fsyncdir)
     else if opcode == 44 then taking (read_at body) (λ readdirplus. ReadDirPlus readdirplus)
     else xattr_operation opcode body
-
--- what is asked about ranges and blocks of a file
-abbrev pub range_operation : ℕ → List ℕ → Result Op RequestError
-range_operation opcode body =
-    if opcode == 37 then taking (bmap_at body) (λ bmap. BMap bmap)
-    else if opcode == 43 then taking (fallocate_at body) (λ fallocate. FAllocate fallocate)
-    else if opcode == 46 then taking (lseek_at body) (λ lseek. Lseek lseek)
-    else if opcode == 47 then taking (copy_file_range_at body) (λ copy_file_range. CopyFileRange copy_file_range)
-    else directory_operation opcode body
 
 -- what is asked about an open file
 abbrev pub file_operation : ℕ → List ℕ → Result Op RequestError
@@ -159,7 +154,7 @@ file_operation opcode body =
     else if opcode == 18 then taking (release_at body) (λ release. Release release)
     else if opcode == 20 then taking (fsync_at body) (λ fsync. FSync fsync)
     else if opcode == 25 then taking (flush_at body) (λ flush. Flush flush)
-    else range_operation opcode body
+    else opened_operation opcode body
 
 -- what is asked about an inode
 abbrev pub node_operation : ℕ → List ℕ → Result Op RequestError
@@ -181,22 +176,17 @@ place_operation opcode body =
     else if opcode == 45 then after (rename2_at body) (λ rename names. after (name_at names) (λ old_name rest. taking (name_at rest) (λ new_name. Rename2 rename old_name new_name)))
     else node_operation opcode body
 
--- what is asked to be made under a name in a directory
-abbrev pub making_operation : ℕ → List ℕ → Result Op RequestError
-making_operation opcode body =
-    if opcode == 6 then after (name_at body) (λ link_name rest. taking (name_at rest) (λ target. SymLink link_name target))
-    else if opcode == 8 then after (mknod_at body) (λ mknod rest. taking (name_at rest) (λ name. MkNod mknod name))
-    else if opcode == 9 then after (mkdir_at body) (λ mkdir rest. taking (name_at rest) (λ name. MkDir mkdir name))
-    else if opcode == 35 then after (create_at body) (λ create rest. taking (name_at rest) (λ name. Create create name))
-    else place_operation opcode body
-
 -- what is asked about a name in a directory, and all else; one line for each opcode
 abbrev pub operation : ℕ → List ℕ → Result Op RequestError
 operation opcode body =
     if opcode == 1 then taking (name_at body) (λ name. Lookup name)
     else if opcode == 10 then taking (name_at body) (λ name. Unlink name)
     else if opcode == 11 then taking (name_at body) (λ name. RmDir name)
-    else making_operation opcode body
+    else if opcode == 6 then after (name_at body) (λ link_name rest. taking (name_at rest) (λ target. SymLink link_name target))
+    else if opcode == 8 then after (mknod_at body) (λ mknod rest. taking (name_at rest) (λ name. MkNod mknod name))
+    else if opcode == 9 then after (mkdir_at body) (λ mkdir rest. taking (name_at rest) (λ name. MkDir mkdir name))
+    else if opcode == 35 then after (create_at body) (λ create rest. taking (name_at rest) (λ name. Create create name))
+    else place_operation opcode body
 
 -- an operation of the code, as plain data
 abbrev pub plain : Operation → Op

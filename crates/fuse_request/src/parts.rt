@@ -1,17 +1,9 @@
 // Parts of a body that have to be all there.
-ghost use Rattle.std.specs.Prelude.{◌≡◌, ok_or};
+ghost use Rattle.std.specs.Prelude.{◌≡◌};
 ghost use Rattle.fuse_args.specs.Arguments.{FetchesSlice};
 ghost use Rattle.fuse_request.specs.Operation.{at_least, exactly};
 
-use crate::RequestError;
 use fuse_args::ArgumentIterator;
-
-/// A part of the arguments, which has to be all there.
-pub(crate) fn whole<X: Drop>(part: Option<X>) -> Result<X, RequestError>
-    ensures { result ≡ ok_or part RequestError.InsufficientData }
-{
-    part.ok_or(RequestError::InsufficientData)
-}
 
 /// All bytes that are left, where there are exactly so many.
 pub(crate) fn exactly<'a>(arguments: &mut ArgumentIterator<'a>, size: u32) -> Option<&'a [u8]>

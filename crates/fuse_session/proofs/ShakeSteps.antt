@@ -18,11 +18,11 @@ use Rattle.fuse_reply.specs.Answer.Answer.{Error}
 use Rattle.fuse_reply.specs.Frame.{reply, frame}
 use Rattle.fuse_session.specs.Verdict.{id_of}
 use Rattle.fuse_session.specs.Promise.{Inits}
-use Rattle.fuse_session.specs.Handshake.{Greeting, greeting, greeted, opened, opened_by, init_of, is_old, Greets, Negotiates, HandshakeEnd, Handshake, LeavesOut}
+use Rattle.fuse_session.specs.Handshake.{Greeting, greeting, greeted, offers, opened, opened_by, init_of, is_old, Greets, Negotiates, HandshakeEnd, Handshake, LeavesOut}
 use Rattle.fuse_session.specs.Handshake.Greeting.{Refused as IsRefused, Answered as IsAnswered, Newer as IsNewer, Offered as IsOffered}
 use Rattle.fuse_session.specs.Handshake.HandshakeEnd.{Open, Accepted, Failed}
 use Rattle.fuse_session.specs.Moves.{TakesNext, Moves, Hands}
-use Rattle.fuse_session.specs.Shakes.{Answers, AnswersBy, ComesTo, GreetsAs, Fails, ShakeEnds, Shakes, ShakesOn, answer_comes}
+use Rattle.fuse_session.specs.Shakes.{Answers, AnswersBy, ComesTo, GreetsAs, GreetsInit, Fails, ShakeEnds, Shakes, ShakesOn, answer_comes}
 use Rattle.fuse_session.specs.declared.transcript.Transcript.{Transcript}
 use Rattle.fuse_session.specs.declared.channel.Taken.TheVariants as taken
 use Rattle.fuse_session.specs.declared.handshake.Greeting.{Greeting as Comes}
@@ -421,6 +421,33 @@ Shakes-then {F} may_init page fs fs1 fs2 outcome a b c k l m t u v first second 
   moved = shake-moves first.turns second.turns first.written second.written first.lost second.lost k l m t u v first.moved second.moved;
   ended = ShakeEnds-after outcome second.end first.turns second.turns a b c first.taken second.ended;
 }
+
+-- a message without a good header
+pub GreetsAs-broken : {F : Type 0} (may_init : Inits F) (page : ℕ) (fs : F) (m : List ℕ) (e : RequestError)
+    → header m ≡ Err e → GreetsAs may_init page fs fs m (comes.Silent (session.InvalidData (invalid.Header e)))
+GreetsAs-broken may_init page fs m e broken =
+    subst (λ (g : Greeting). ComesTo may_init page fs fs (request_of (header_fields m)) g (comes.Silent (session.InvalidData (invalid.Header e))))
+    (sym (ap (λ (r : Result Header RequestError). greeted r (body m)) broken)) (refl, refl)
+
+-- a message that does not decode
+pub GreetsAs-undecoded : {F : Type 0} (may_init : Inits F) (page : ℕ) (fs : F) (m : List ℕ) (h : Header) (e : RequestError)
+    → header m ≡ Ok h → operation h.opcode (body m) ≡ Err e
+    → GreetsAs may_init page fs fs m (comes.Silent (session.InvalidData (invalid.Operation e)))
+GreetsAs-undecoded may_init page fs m h e good undecoded =
+    subst (λ (g : Greeting). ComesTo may_init page fs fs (request_of (header_fields m)) g (comes.Silent (session.InvalidData (invalid.Operation e))))
+    (sym (ap (λ (r : Result Header RequestError). greeted r (body m)) good
+    ∙ ap (λ (o : Result Op RequestError). opened h.opcode o) undecoded)) (refl, refl)
+
+-- an INIT
+pub GreetsAs-init : {F : Type 0} (may_init : Inits F) (page : ℕ) (fs fs1 : F) (m : List ℕ) (h : Header) (op : Op) (i : InitArguments) (found : Comes)
+    → header m ≡ Ok h → operation h.opcode (body m) ≡ Ok op → init_of op ≡ Some i → GreetsInit may_init page fs fs1 (request_of h) i found
+    → GreetsAs may_init page fs fs1 m found
+GreetsAs-init may_init page fs fs1 m h op i found good decodes init greets =
+    subst (λ (g : Greeting). ComesTo may_init page fs fs1 (request_of (header_fields m)) g found)
+    (sym (ap (λ (r : Result Header RequestError). greeted r (body m)) good
+    ∙ (ap (λ (o : Result Op RequestError). opened h.opcode o) decodes
+    ∙ ap (λ (o : Option InitArguments). opened_by h.opcode o) init)))
+    (subst (λ (x : Header). ComesTo may_init page fs fs1 (request_of x) (offers i) found) (header-fields m h good) greets)
 
 -- no INIT
 abbrev pub no_init : Option InitArguments

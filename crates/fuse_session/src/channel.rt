@@ -9,7 +9,7 @@ use fuse_wire::{Received, Sink, Source};
 use std::sync::Wait;
 
 /// What came next.
-#[derive(Clone, Copy, Debug, PartialEq, Eq)]
+#[derive(Clone, Copy)]
 pub(crate) enum Taken {
     /// A message, of so many bytes in front of the buffer.
     Message(usize),

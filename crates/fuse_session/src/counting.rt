@@ -1,9 +1,10 @@
-// A filesystem for tests, which counts its calls.
-use crate::Filesystem;
-use fuse_config::KernelConfig;
+// A filesystem for tests, which counts its calls, and sessions of it.
+use crate::{Ended, Filesystem, SessionError, Transcript, mount};
+use fuse_config::{Config, KernelConfig};
 use fuse_reply::{Replied, ReplyAttr, ReplyData, ReplyEntry};
 use fuse_request::Request;
-use fuse_wire::{Errno, FileHandle, INodeNo, LockOwner, OpenFlags};
+use fuse_wire::{Errno, FileHandle, INodeNo, LockOwner, OpenFlags, Sink, Source};
+use std::sync::Wait;
 use std::sync::atomic::{AtomicU64, Ordering};
 
 /// What a read gives: more than a frame holds without memory.
@@ -11,15 +12,47 @@ pub(crate) const CONTENTS: [u8; 200] = [0x2a; 200];
 
 /// A filesystem that accepts every kernel, and counts its calls and how often it was destroyed. It knows no name and no
 /// attributes, and reads 200 bytes everywhere. Its promise allows everything.
-#[derive(Debug, Drop)]
+#[derive(Drop)]
 pub(crate) struct Counting {
-    pub(crate) calls: AtomicU64,
+    calls: AtomicU64,
+    destroyed: u64,
+}
+
+/// How a session ended, what it did, and how often it called and destroyed its filesystem.
+#[derive(Clone, Copy, Debug, PartialEq)]
+pub(crate) struct Course {
+    pub(crate) outcome: Result<(), SessionError>,
+    pub(crate) transcript: Transcript,
+    pub(crate) calls: u64,
     pub(crate) destroyed: u64,
+}
+
+/// Serves a filesystem that counts, in a session of root. The source and the sink come back.
+pub(crate) fn run<R: Wait + AllocGlobal, S: Source, K: Sink + Send>(
+    rt: &R,
+    source: S,
+    sink: K,
+    config: &Config,
+) -> (Course, S, K) {
+    let Ended {
+        filesystem,
+        source,
+        sink,
+        outcome,
+        transcript,
+    } = mount(rt, Counting::new(), source, sink, 0, 4096, config);
+    let course = Course {
+        outcome,
+        transcript,
+        calls: filesystem.calls.load(Ordering::SeqCst),
+        destroyed: filesystem.destroyed,
+    };
+    (course, source, sink)
 }
 
 impl Counting {
     /// It was not called yet.
-    pub(crate) fn new() -> Counting {
+    fn new() -> Counting {
         Counting {
             calls: AtomicU64::new(0),
             destroyed: 0,

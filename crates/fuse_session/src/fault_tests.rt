@@ -1,15 +1,14 @@
 // Sessions over sources and sinks that fail.
 ghost use Rattle.std.specs.Prelude.{None};
 
-use crate::counting::Counting;
-use crate::tests::{ACCEPTED, INIT_7_8, refusal, source_of, took};
-use crate::{Ended, SessionError, Transcript, mount};
+use crate::counting::{Course, run};
+use crate::tests::{ACCEPTED, Counts, INIT_7_8, refusal, serves_source, source_of};
+use crate::{SessionError, Transcript};
 use fuse_config::Config;
 use fuse_wire::{Items, MemorySink, MemorySource, Noting, RequestId, Sending, Sink, Turn};
 use std::alloc::{AllocError, Global};
 use std::process::Abort;
 use std::sync::Wait;
-use std::sync::atomic::Ordering;
 use std::test::Fail;
 
 /// A LOOKUP of a name that is not there.
@@ -21,7 +20,7 @@ fn lookup(id: u8) -> [u8; 45] {
 }
 
 /// What the source gives next: these bytes, a turn with nothing, or a fault.
-#[derive(Clone, Copy, Debug)]
+#[derive(Clone, Copy)]
 enum Next<'a> {
     Bytes(&'a [u8]),
     Nothing,
@@ -41,7 +40,8 @@ fn turns_of(alloc: Global, turns: &[Next<'_>]) -> Result<MemorySource, AllocErro
     Ok(MemorySource::new(given))
 }
 
-/// Serves these turns, in a session with this outcome, which takes so many messages, sends these frames, and loses so many.
+/// Serves these turns, in a session with this outcome, which takes so many messages, of which all but INIT call the
+/// filesystem, sends these frames, and loses so many.
 fn serves<R: Wait + AllocGlobal + Abort>(
     rt: &R,
     turns: &[Next<'_>],
@@ -49,27 +49,16 @@ fn serves<R: Wait + AllocGlobal + Abort>(
     received: u64,
     frames: &[&[u8]],
     lost: u64,
-    expected: Result<(), SessionError>,
-) -> Result<(), AllocError> {
+    outcome: Result<(), SessionError>,
+) -> Result<(), Fail> {
     let source = turns_of(rt.alloc(), turns)?;
-    let Ended {
-        filesystem,
-        source: _,
-        sink,
-        outcome,
-        transcript,
-    } = mount(rt, Counting::new(), source, sink, 0, 4096, &Config::new());
-    let counts = Transcript {
+    let counts = Counts {
         received,
-        frames: frames.len() as u64,
-        notes: 0,
         lost,
-        unrecorded: 0,
+        calls: received.saturating_sub(1),
+        notes: &[],
     };
-    assert_eq!(rt; outcome, expected);
-    assert_eq!(rt; transcript, counts);
-    assert_eq!(rt; filesystem.destroyed, 1);
-    took(rt, &sink, frames, &[]);
+    serves_source(rt, &Config::new(), source, sink, frames, outcome, counts);
     Ok(())
 }
 
@@ -81,8 +70,7 @@ fn a_source_may_fail(rt: HostRuntime) -> Result<(), Fail> {
     let message = lookup(2);
     let turns = [Bytes(&INIT_7_8), Nothing, Fault, Bytes(&message)];
     let sink = MemorySink::new(alloc, Vec::new(alloc));
-    serves(&rt, &turns, sink, 1, &[&ACCEPTED], 0, failed)?;
-    Ok(())
+    serves(&rt, &turns, sink, 1, &[&ACCEPTED], 0, failed)
 }
 
 #[test]
@@ -91,8 +79,7 @@ fn a_source_may_fail_at_once(rt: HostRuntime) -> Result<(), Fail> {
     let failed = Err(SessionError::Receive);
     let turns = [Next::Fault, Next::Bytes(&INIT_7_8)];
     let sink = MemorySink::new(alloc, Vec::new(alloc));
-    serves(&rt, &turns, sink, 0, &[], 0, failed)?;
-    Ok(())
+    serves(&rt, &turns, sink, 0, &[], 0, failed)
 }
 
 #[test]
@@ -110,8 +97,7 @@ fn a_source_may_give_nothing(rt: HostRuntime) -> Result<(), Fail> {
     ];
     let answer = refusal(2, 0xfe);
     let sink = MemorySink::new(alloc, Vec::new(alloc));
-    serves(&rt, &turns, sink, 2, &[&ACCEPTED, &answer], 0, Ok(()))?;
-    Ok(())
+    serves(&rt, &turns, sink, 2, &[&ACCEPTED, &answer], 0, Ok(()))
 }
 
 #[test]
@@ -183,18 +169,21 @@ fn a_note_that_is_refused_is_lost(rt: HostRuntime) -> Result<(), Fail> {
         inner: MemorySink::new(alloc, Vec::new(alloc)),
         faults: 0,
     };
-    let Ended {
-        filesystem,
-        source: _,
-        sink,
-        outcome,
-        transcript,
-    } = mount(&rt, Counting::new(), source, sink, 0, 4096, &Config::new());
-    assert_eq!(rt; outcome, Ok(()));
-    assert_eq!(rt; filesystem.calls.load(Ordering::SeqCst), 2);
+    let (course, _, sink) = run(&rt, source, sink, &Config::new());
+    let expected = Course {
+        outcome: Ok(()),
+        transcript: Transcript {
+            received: 3,
+            frames: 1,
+            notes: 1,
+            lost: 1,
+            unrecorded: 0,
+        },
+        calls: 2,
+        destroyed: 1,
+    };
+    assert_eq!(rt; course, expected);
     assert_eq!(rt; sink.inner.notes(), [(RequestId(3), 2)].as_slice());
-    assert_eq!(rt; transcript.notes, 1);
-    assert_eq!(rt; transcript.lost, 1);
     Ok(())
 }
 
@@ -203,14 +192,8 @@ fn serves_nothing<R: Wait + AllocGlobal>(rt: &R) -> (Result<(), SessionError>, u
     let alloc = rt.alloc();
     let source = MemorySource::new(Vec::new(alloc));
     let sink = MemorySink::new(alloc, Vec::new(alloc));
-    let Ended {
-        filesystem,
-        source: _,
-        sink: _,
-        outcome,
-        transcript: _,
-    } = mount(rt, Counting::new(), source, sink, 0, 4096, &Config::new());
-    (outcome, filesystem.destroyed)
+    let (course, _, _) = run(rt, source, sink, &Config::new());
+    (course.outcome, course.destroyed)
 }
 
 #[test]

@@ -17,7 +17,7 @@ use std::alloc::Global;
 use std::sync::Wait;
 
 /// What a message in the handshake comes to.
-#[derive(Debug, Drop)]
+#[derive(Drop)]
 pub(crate) enum Greeting {
     /// The handshake ends, and nothing goes out.
     Silent(SessionError),

@@ -10,6 +10,7 @@ mod error;
 mod fault_tests;
 mod filesystem;
 mod handshake;
+pub mod laws;
 #[cfg(test)]
 mod order_tests;
 #[cfg(test)]

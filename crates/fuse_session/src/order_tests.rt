@@ -1,11 +1,10 @@
 // When a message is answered.
 ghost use Rattle.std.specs.Prelude.{None};
 
-use crate::counting::Counting;
-use crate::tests::INIT_7_8;
-use crate::{Ended, mount};
+use crate::counting::run;
+use crate::tests::{INIT_7_8, source_of};
 use fuse_config::Config;
-use fuse_wire::{Items, MemorySource, Noting, Received, RequestId, Sending, Sink, Source, Turn};
+use fuse_wire::{MemorySource, Noting, Received, RequestId, Sending, Sink, Source};
 use std::sync::atomic::{AtomicU64, Ordering};
 use std::test::Fail;
 
@@ -70,20 +69,21 @@ fn message(opcode: u8, id: u8) -> [u8; 48] {
 
 #[test]
 fn each_message_is_answered_before_the_next_is_taken(rt: HostRuntime) -> Result<(), Fail> {
-    let alloc = rt.alloc();
     let mut later = INIT_7_8;
     later[40] = 8;
     // INIT of version 8.8 and of 7.8, LOOKUP, FORGET, an opcode that names no operation, STATFS, and DESTROY
-    let mut turns = Vec::new(alloc);
-    turns.push(Turn::Message(Items::from_vec(later.to_vec(alloc)?)))?;
-    turns.push(Turn::Message(Items::from_vec(INIT_7_8.to_vec(alloc)?)))?;
-    for (opcode, id) in [(1, 2), (2, 3), (7, 4), (17, 5), (38, 6)] {
-        let bytes = message(opcode, id).to_vec(alloc)?;
-        turns.push(Turn::Message(Items::from_vec(bytes)))?;
-    }
+    let messages: [&[u8]; 7] = [
+        &later,
+        &INIT_7_8,
+        &message(1, 2),
+        &message(2, 3),
+        &message(7, 4),
+        &message(17, 5),
+        &message(38, 6),
+    ];
     let answered = AtomicU64::new(0);
     let source = Awaiting {
-        inner: MemorySource::new(turns),
+        inner: source_of(rt.alloc(), &messages)?,
         answered: &answered,
         given: 0,
         faults: 0,
@@ -91,15 +91,11 @@ fn each_message_is_answered_before_the_next_is_taken(rt: HostRuntime) -> Result<
     let sink = Answering {
         answered: &answered,
     };
-    let Ended {
-        filesystem: _,
-        source: _,
-        sink: _,
-        outcome,
-        transcript,
-    } = mount(&rt, Counting::new(), source, sink, 0, 4096, &Config::new());
-    assert_eq!(rt; outcome, Ok(()));
-    assert_eq!(rt; transcript.received, 7);
-    assert_eq!(rt; answered.load(Ordering::SeqCst), 7);
+    let (course, _, _) = run(&rt, source, sink, &Config::new());
+    let answered = answered.load(Ordering::SeqCst);
+    assert_eq!(rt;
+        (course.outcome, course.transcript.received, answered),
+        (Ok(()), 7, 7)
+    );
     Ok(())
 }

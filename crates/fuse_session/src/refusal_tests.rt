@@ -1,13 +1,12 @@
 // What a session itself refuses, and never asks the filesystem.
-use crate::counting::Counting;
+use crate::Transcript;
+use crate::counting::{Course, run};
 use crate::tests::{INIT_7_8, refusal};
-use crate::{Ended, mount};
 use fuse_config::{Config, SessionACL};
 use fuse_wire::{Items, MemorySink, MemorySource, Turn};
 use std::alloc::{AllocError, Global};
 use std::process::Abort;
 use std::sync::Wait;
-use std::sync::atomic::Ordering;
 use std::test::Fail;
 
 /// A message, by its opcode, its id, and a byte at a place of it, and the lowest byte of the status that it gets.
@@ -53,7 +52,7 @@ fn refuses<R: Wait + AllocGlobal + Abort>(
     rt: &R,
     acl: SessionACL,
     rows: &[Refusal],
-) -> Result<(), AllocError> {
+) -> Result<(), Fail> {
     let alloc = rt.alloc();
     let config = Config {
         acl,
@@ -61,17 +60,21 @@ fn refuses<R: Wait + AllocGlobal + Abort>(
     };
     let source = behind_init(alloc, rows)?;
     let sink = MemorySink::new(alloc, Vec::new(alloc));
-    let Ended {
-        filesystem,
-        source: _,
-        sink,
-        outcome,
-        transcript,
-    } = mount(rt, Counting::new(), source, sink, 0, 4096, &config);
-    assert_eq!(rt; outcome, Ok(()));
-    assert_eq!(rt; filesystem.calls.load(Ordering::SeqCst), 0);
-    assert_eq!(rt; transcript.notes, 0);
-    assert_eq!(rt; transcript.lost, 0);
+    let (course, _, sink) = run(rt, source, sink, &config);
+    let messages = rows.len().saturating_add(1) as u64;
+    let expected = Course {
+        outcome: Ok(()),
+        transcript: Transcript {
+            received: messages,
+            frames: messages,
+            notes: 0,
+            lost: 0,
+            unrecorded: 0,
+        },
+        calls: 0,
+        destroyed: 1,
+    };
+    assert_eq!(rt; course, expected);
     took_errors(rt, &sink, rows);
     Ok(())
 }
@@ -99,15 +102,13 @@ fn refuses_by_what_is_asked(rt: HostRuntime) -> Result<(), Fail> {
         // another INIT
         (26, 16, 40, 7, 0xfb),
     ];
-    refuses(&rt, SessionACL::All, &rows)?;
-    Ok(())
+    refuses(&rt, SessionACL::All, &rows)
 }
 
 #[test]
 fn refuses_a_write_before_the_file(rt: HostRuntime) -> Result<(), Fail> {
     let rows = [(16, 2, 55, 0x80, 0xea), (16, 3, 55, 0x7f, 0xda)];
-    refuses(&rt, SessionACL::All, &rows)?;
-    Ok(())
+    refuses(&rt, SessionACL::All, &rows)
 }
 
 #[test]
@@ -130,6 +131,5 @@ fn refuses_whom_it_does_not_serve(rt: HostRuntime) -> Result<(), Fail> {
         // an opcode that names no operation
         (7, 14, 40, 0, 0xda),
     ];
-    refuses(&rt, SessionACL::Owner, &rows)?;
-    Ok(())
+    refuses(&rt, SessionACL::Owner, &rows)
 }

@@ -13,7 +13,7 @@ use fuse_wire::{Sink, Source};
 use std::sync::Wait;
 
 /// How a run ended.
-#[derive(Clone, Copy, Debug, PartialEq, Eq)]
+#[derive(Clone, Copy)]
 pub(crate) enum End {
     /// No message is left.
     Gone,

@@ -35,7 +35,7 @@ pub struct Ended<FS, S, K> {
 }
 
 /// What a session is run with.
-#[derive(Clone, Copy, Debug)]
+#[derive(Clone, Copy)]
 struct Settings {
     page_size: u32,
     access: Access,

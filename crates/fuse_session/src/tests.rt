@@ -1,14 +1,13 @@
 // Whole sessions, from memory to memory.
 
-use crate::counting::{CONTENTS, Counting};
-use crate::{Ended, InvalidData, SessionError, Transcript, mount};
+use crate::counting::{CONTENTS, Course, run};
+use crate::{InvalidData, SessionError, Transcript};
 use fuse_config::{Config, SessionACL};
 use fuse_request::RequestError;
 use fuse_wire::{Items, MemorySink, MemorySource, RequestId, Turn, Version};
 use std::alloc::{AllocError, Global};
 use std::process::Abort;
 use std::sync::Wait;
-use std::sync::atomic::Ordering;
 use std::test::Fail;
 
 /// INIT of version 7.8, of 104 bytes.
@@ -37,18 +36,63 @@ pub(crate) fn source_of(alloc: Global, messages: &[&[u8]]) -> Result<MemorySourc
     Ok(MemorySource::new(turns))
 }
 
-/// The sink took these frames and notes, and no other.
-pub(crate) fn took<R: Abort>(
+/// How many messages a session takes, how many frames and notes it loses, how often it calls its filesystem, and what it notes.
+#[derive(Clone, Copy)]
+pub(crate) struct Counts<'a> {
+    pub(crate) received: u64,
+    pub(crate) lost: u64,
+    pub(crate) calls: u64,
+    pub(crate) notes: &'a [(RequestId, u64)],
+}
+
+/// Serves this source in a session with this outcome and these counts, of which the sink takes these frames and the notes, and
+/// no other.
+pub(crate) fn serves_source<R: Wait + AllocGlobal + Abort>(
     rt: &R,
-    sink: &MemorySink,
+    config: &Config,
+    source: MemorySource,
+    sink: MemorySink,
     frames: &[&[u8]],
-    notes: &[(RequestId, u64)],
+    outcome: Result<(), SessionError>,
+    counts: Counts<'_>,
 ) {
-    assert_eq!(rt; sink.notes(), notes);
-    assert_eq!(rt; sink.frames().len(), frames.len());
+    let (course, _, sink) = run(rt, source, sink, config);
+    let expected = Course {
+        outcome,
+        transcript: Transcript {
+            received: counts.received,
+            frames: frames.len() as u64,
+            notes: counts.notes.len() as u64,
+            lost: counts.lost,
+            unrecorded: 0,
+        },
+        calls: counts.calls,
+        destroyed: 1,
+    };
+    assert_eq!(rt; course, expected);
+    assert_eq!(rt;
+        (sink.notes(), sink.frames().len()),
+        (counts.notes, frames.len())
+    );
     for (sent, frame) in sink.frames().iter().zip(frames) {
         assert_eq!(rt; sent.as_slice(), *frame);
     }
+}
+
+/// Serves the first of these messages in a session that sends these frames, with this outcome and these counts.
+fn serves_calls<R: Wait + AllocGlobal + Abort>(
+    rt: &R,
+    config: &Config,
+    messages: &[&[u8]],
+    frames: &[&[u8]],
+    outcome: Result<(), SessionError>,
+    counts: Counts<'_>,
+) -> Result<(), Fail> {
+    let alloc = rt.alloc();
+    let source = source_of(alloc, messages)?;
+    let sink = MemorySink::new(alloc, Vec::new(alloc));
+    serves_source(rt, config, source, sink, frames, outcome, counts);
+    Ok(())
 }
 
 /// Serves the first of these messages, so many, in a session with this outcome, which sends these frames and no note, and
@@ -59,56 +103,15 @@ fn serves<R: Wait + AllocGlobal + Abort>(
     messages: &[&[u8]],
     received: u64,
     frames: &[&[u8]],
-    expected: Result<(), SessionError>,
-) -> Result<(), AllocError> {
-    let calls = Calls {
-        made: 0,
+    outcome: Result<(), SessionError>,
+) -> Result<(), Fail> {
+    let counts = Counts {
+        received,
+        lost: 0,
+        calls: 0,
         notes: &[],
     };
-    serves_calls(rt, config, messages, received, frames, expected, calls)
-}
-
-/// How often a filesystem is called, and what is noted.
-#[derive(Clone, Copy, Debug)]
-struct Calls<'a> {
-    made: u64,
-    notes: &'a [(RequestId, u64)],
-}
-
-/// Serves the first of these messages, so many, in a session with this outcome, which sends these frames and notes, and
-/// calls the filesystem so often.
-fn serves_calls<R: Wait + AllocGlobal + Abort>(
-    rt: &R,
-    config: &Config,
-    messages: &[&[u8]],
-    received: u64,
-    frames: &[&[u8]],
-    expected: Result<(), SessionError>,
-    calls: Calls<'_>,
-) -> Result<(), AllocError> {
-    let alloc = rt.alloc();
-    let source = source_of(alloc, messages)?;
-    let sink = MemorySink::new(alloc, Vec::new(alloc));
-    let Ended {
-        filesystem,
-        source: _,
-        sink,
-        outcome,
-        transcript,
-    } = mount(rt, Counting::new(), source, sink, 0, 4096, config);
-    let counts = Transcript {
-        received,
-        frames: frames.len() as u64,
-        notes: calls.notes.len() as u64,
-        lost: 0,
-        unrecorded: 0,
-    };
-    assert_eq!(rt; outcome, expected);
-    assert_eq!(rt; transcript, counts);
-    assert_eq!(rt; filesystem.destroyed, 1);
-    assert_eq!(rt; filesystem.calls.load(Ordering::SeqCst), calls.made);
-    took(rt, &sink, frames, calls.notes);
-    Ok(())
+    serves_calls(rt, config, messages, frames, outcome, counts)
 }
 
 /// A message with no arguments.
@@ -160,13 +163,11 @@ fn ends_at_a_faulty_header(rt: HostRuntime) -> Result<(), Fail> {
     serves(&rt, &config, &[&short], 1, &[], no_header)?;
     serves(&rt, &config, &[&INIT_7_8[..48]], 1, &[], cut)?;
     serves(&rt, &config, &[&wrong], 1, &[], contradictory)?;
-    serves(&rt, &config, &[&INIT_7_8, &short], 2, &[&ACCEPTED], late)?;
-    Ok(())
+    serves(&rt, &config, &[&INIT_7_8, &short], 2, &[&ACCEPTED], late)
 }
 
 #[test]
 fn agrees_on_a_version(rt: HostRuntime) -> Result<(), Fail> {
-    let config = Config::new();
     let mut offer = [0; 80];
     offer[..24].copy_from_slice(&[
         0x50, 0, 0, 0, 0, 0, 0, 0, 1, 0, 0, 0, 0, 0, 0, 0, 7, 0, 0, 0, 0x28, 0, 0, 0,
@@ -184,6 +185,7 @@ fn agrees_on_a_version(rt: HostRuntime) -> Result<(), Fail> {
     latest[55] = 0x40;
     latest[56] = 0x20;
     let old = Err(SessionError::Unsupported(Version(7, 5)));
+    let config = Config::new();
     serves(&rt, &config, &[&INIT_7_8], 1, &[&ACCEPTED], Ok(()))?;
     serves(&rt, &config, &[&latest], 1, &[&full], Ok(()))?;
     serves(
@@ -194,8 +196,7 @@ fn agrees_on_a_version(rt: HostRuntime) -> Result<(), Fail> {
         &[&offer, &ACCEPTED],
         Ok(()),
     )?;
-    serves(&rt, &config, &[&init(7, 5)], 1, &[&refusal(1, 0xb9)], old)?;
-    Ok(())
+    serves(&rt, &config, &[&init(7, 5)], 1, &[&refusal(1, 0xb9)], old)
 }
 
 #[test]
@@ -204,18 +205,19 @@ fn awaits_init(rt: HostRuntime) -> Result<(), Fail> {
     let unknown = InvalidData::Operation(RequestError::UnknownOperation(7));
     let unknown = Err(SessionError::InvalidData(unknown));
     let destroy = Err(SessionError::InvalidData(InvalidData::NotInit(38)));
-    let not_connected = Err(SessionError::NotConnected);
-    serves(&rt, &config, &[], 0, &[], not_connected)?;
+    let early = Err(SessionError::InvalidData(InvalidData::NotInit(1)));
+    let refused = refusal(2, 0xfb);
+    serves(&rt, &config, &[], 0, &[], Err(SessionError::NotConnected))?;
     serves(&rt, &config, &[&message(7, 2, 1, 0)], 1, &[], unknown)?;
     serves(
         &rt,
         &config,
         &[&message(38, 2, 0, 0)],
         1,
-        &[&refusal(2, 0xfb)],
+        &[&refused],
         destroy,
     )?;
-    Ok(())
+    serves(&rt, &config, &[&lookup(2, 5)], 1, &[&refused], early)
 }
 
 #[test]
@@ -249,8 +251,7 @@ fn serves_behind_init(rt: HostRuntime) -> Result<(), Fail> {
         &[&ACCEPTED, &done],
         Ok(()),
     )?;
-    serves(&rt, &idle, &[&INIT_7_8], 1, &[&ACCEPTED], no_threads)?;
-    Ok(())
+    serves(&rt, &idle, &[&INIT_7_8], 1, &[&ACCEPTED], no_threads)
 }
 
 /// Puts a header, of which the length is made right, and a body into a message.
@@ -312,7 +313,6 @@ fn calls_the_filesystem_once_for_each_message(rt: HostRuntime) -> Result<(), Fai
             &forget(5, 0),
             &short_forget,
         ],
-        7,
         &[
             &ACCEPTED,
             &refusal(2, 0xfe),
@@ -322,12 +322,13 @@ fn calls_the_filesystem_once_for_each_message(rt: HostRuntime) -> Result<(), Fai
             &refusal(6, 0xda),
         ],
         Ok(()),
-        Calls {
-            made: 5,
+        Counts {
+            received: 7,
+            lost: 0,
+            calls: 5,
             notes: &[(RequestId(5), 3)],
         },
-    )?;
-    Ok(())
+    )
 }
 
 #[test]
@@ -350,7 +351,6 @@ fn refuses_before_the_filesystem_is_called(rt: HostRuntime) -> Result<(), Fail> 
             &read(7, 5, 0x7f),
             &init(7, 8),
         ],
-        7,
         &[
             &ACCEPTED,
             &refusal(2, 0xf3),
@@ -360,23 +360,11 @@ fn refuses_before_the_filesystem_is_called(rt: HostRuntime) -> Result<(), Fail> 
             &refusal(1, 0xfb),
         ],
         Ok(()),
-        Calls {
-            made: 2,
+        Counts {
+            received: 7,
+            lost: 0,
+            calls: 2,
             notes: &[(RequestId(4), 3)],
         },
-    )?;
-    Ok(())
-}
-
-#[test]
-fn awaits_init_before_any_call(rt: HostRuntime) -> Result<(), Fail> {
-    serves(
-        &rt,
-        &Config::new(),
-        &[&lookup(2, 5)],
-        1,
-        &[&refusal(2, 0xfb)],
-        Err(SessionError::InvalidData(InvalidData::NotInit(1))),
-    )?;
-    Ok(())
+    )
 }

@@ -18,14 +18,14 @@ use fuse_wire::{Errno, RequestId};
 use std::alloc::Global;
 
 /// Whose requests are served.
-#[derive(Clone, Copy, Debug, PartialEq, Eq)]
+#[derive(Clone, Copy)]
 pub(crate) struct Access {
     pub(crate) acl: SessionACL,
     pub(crate) owner: u32,
 }
 
 /// What a message comes to.
-#[derive(Debug, Drop)]
+#[derive(Drop)]
 pub(crate) enum Turn {
     /// It has no good header, and ends the run.
     Broken(RequestError),
@@ -160,18 +160,19 @@ pub(crate) fn turn_of<FS: Filesystem>(
         Ok(request) => request,
         Err(error) => return Turn::Broken(error),
     };
+    let id = request.unique();
     let operation = match request.operation() {
         Ok(operation) => operation,
-        Err(_) => return Turn::Next(refusal(alloc, request.unique(), Errno::ENOSYS)),
+        Err(_) => return Turn::Next(refusal(alloc, id, Errno::ENOSYS)),
     };
     if is_destroy(&operation) {
-        return Turn::Last(ReplyEmpty::new(alloc, request.unique()).ok().into_out());
+        return Turn::Last(ReplyEmpty::new(alloc, id).ok().into_out());
     }
     if !is_admitted(access, request.uid(), request.opcode()) {
-        return Turn::Next(refusal(alloc, request.unique(), Errno::EACCES));
+        return Turn::Next(refusal(alloc, id, Errno::EACCES));
     }
     match refused(&operation) {
-        Some(error) => Turn::Next(refusal(alloc, request.unique(), error)),
+        Some(error) => Turn::Next(refusal(alloc, id, error)),
         None => Turn::Next(dispatch(alloc, filesystem, &request, operation)),
     }
 }

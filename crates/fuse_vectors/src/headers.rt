@@ -1,6 +1,7 @@
 // Messages taken apart: their headers, what they ask, and why some are none.
 use fuse_request::{AnyRequest, RequestError};
 use std::alloc::{AllocError, Global};
+use std::process::Abort;
 use std::test::Fail;
 
 /// INIT, from a kernel of version 7.8.
@@ -26,6 +27,18 @@ pub(crate) fn text(alloc: Global, message: &[u8]) -> Result<String, AllocError> 
         Ok(request) => format!(in alloc; "{:?}", request.operation()),
         Err(error) => format!(in alloc; "no request: {error:?}"),
     }
+}
+
+/// A message asks this.
+pub(crate) fn expect_asked(
+    rt: &impl Abort,
+    alloc: Global,
+    message: &[u8],
+    expected: &str,
+) -> Result<(), AllocError> {
+    let found = text(alloc, message)?;
+    assert_eq!(rt; found.as_str(), expected);
+    Ok(())
 }
 
 #[test]
@@ -57,11 +70,10 @@ fn decodes_what_kernels_sent(rt: HostRuntime) -> Result<(), AllocError> {
     let alloc = rt.alloc();
     let init =
         "Ok(Init(Init { arguments: InitArguments { major: 7, minor: 8, max_readahead: 4096, flags: 0, flags2: 0 } }))";
-    assert_eq!(rt; text(alloc, &INIT)?.as_str(), init);
+    expect_asked(&rt, alloc, &INIT, init)?;
     let mknod =
         "Ok(MkNod(MkNod { arguments: MkNodArguments { mode: 420, rdev: 0, umask: 493 }, name: [102, 111, 111, 46, 116, 120, 116] }))";
-    assert_eq!(rt; text(alloc, &MKNOD)?.as_str(), mknod);
-    Ok(())
+    expect_asked(&rt, alloc, &MKNOD, mknod)
 }
 
 #[test]
@@ -77,8 +89,8 @@ fn refuses_what_is_no_request(rt: HostRuntime) -> Result<(), AllocError> {
         let mut message = INIT;
         message[0] = counted;
         message[4] = opcode;
-        let found = text(alloc, message.get(..length).unwrap_or(&[]))?;
-        assert_eq!(rt; found.as_str(), expected);
+        let part = message.get(..length).unwrap_or(&[]);
+        expect_asked(&rt, alloc, part, expected)?;
     }
     Ok(())
 }

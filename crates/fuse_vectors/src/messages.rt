@@ -7,7 +7,6 @@ use fuse_wire::Received::{Failed, Gone, Message, Retry};
 use fuse_wire::{Items, MemoryBytes, MemorySource, Received, Source, StreamSource, Turn};
 use std::alloc::{AllocError, Global};
 use std::process::Abort;
-use std::test::Fail;
 
 /// The length field of each message, and how many bytes of it there are: one is shorter than a header says that it is,
 /// one longer than the others, and the last ends where the stream does.
@@ -42,14 +41,15 @@ fn expect_messages<S: Source>(
     requires { length buffer.old ≡ BUFFER_SIZE }
 {
     for message in messages {
-        assert_eq!(rt; source.receive(buffer), Message(message.len()));
-        assert_eq!(rt; buffer.get(..message.len()), Some(message.as_slice()));
+        let answer = source.receive(buffer);
+        let found = (answer, buffer.get(..message.len()));
+        assert_eq!(rt; found, (Message(message.len()), Some(message.as_slice())));
     }
     assert_eq!(rt; source.receive(buffer), Gone);
 }
 
 #[test]
-fn a_stream_is_cut_by_its_length_fields(rt: HostRuntime) -> Result<(), Fail> {
+fn a_stream_is_cut_by_its_length_fields(rt: HostRuntime) -> Result<(), AllocError> {
     let alloc = rt.alloc();
     let messages = messages(alloc)?;
     let mut room = receive_buffer(alloc)?;
@@ -68,7 +68,7 @@ fn a_stream_is_cut_by_its_length_fields(rt: HostRuntime) -> Result<(), Fail> {
 }
 
 #[test]
-fn memory_gives_its_turns(rt: HostRuntime) -> Result<(), Fail> {
+fn memory_gives_its_turns(rt: HostRuntime) -> Result<(), AllocError> {
     let alloc = rt.alloc();
     let messages = messages(alloc)?;
     let mut turns = Vec::new(alloc);
@@ -81,39 +81,57 @@ fn memory_gives_its_turns(rt: HostRuntime) -> Result<(), Fail> {
 }
 
 /// What each turn of a source in memory gives: a Retry before a message changes nothing, and a Fail takes no message.
+/// Behind the last turn there is no more.
 const ANSWERS: [&[Received]; 6] = [
-    &[Retry, Message(48), Retry, Message(40), Retry],
-    &[Message(48), Retry, Failed],
-    &[Failed],
-    &[Message(40), Failed, Message(48), Failed],
-    &[Failed, Failed, Retry, Message(1000)],
-    &[],
+    &[Retry, Message(48), Retry, Message(40), Retry, Gone, Gone],
+    &[Message(48), Retry, Failed, Gone, Gone],
+    &[Failed, Gone, Gone],
+    &[Message(40), Failed, Message(48), Failed, Gone, Gone],
+    &[Failed, Failed, Retry, Message(1000), Gone, Gone],
+    &[Gone, Gone],
 ];
 
+/// The turns of a source in memory that give these answers.
+fn turns(alloc: Global, answers: &[Received]) -> Result<Vec<Turn>, AllocError> {
+    let mut turns = Vec::new(alloc);
+    for answer in answers {
+        turns.push(match answer {
+            Message(size) => Turn::Message(Items::from_vec(message(alloc, 7, *size)?)),
+            Retry => Turn::Retry,
+            Failed => Turn::Fail,
+            Gone => continue,
+        })?;
+    }
+    Ok(turns)
+}
+
+/// The source answers so, and a message is the bytes of its size.
+fn expect_answer(
+    rt: &impl Abort,
+    alloc: Global,
+    source: &mut MemorySource,
+    buffer: &mut [u8],
+    answer: Received,
+) -> Result<(), AllocError>
+    requires { length buffer.old ≡ BUFFER_SIZE }
+{
+    assert_eq!(rt; source.receive(buffer), answer);
+    if let Message(size) = answer {
+        let message = message(alloc, 7, size)?;
+        assert_eq!(rt; buffer.get(..size), Some(message.as_slice()));
+    }
+    Ok(())
+}
+
 #[test]
-fn turns_are_answered_in_order(rt: HostRuntime) -> Result<(), Fail> {
+fn turns_are_answered_in_order(rt: HostRuntime) -> Result<(), AllocError> {
     let alloc = rt.alloc();
     let mut room = receive_buffer(alloc)?;
     let buffer = room.as_mut_slice();
-    for answers in ANSWERS {
-        let mut turns = Vec::new(alloc);
-        for answer in answers {
-            turns.push(match answer {
-                Message(size) => Turn::Message(Items::from_vec(message(alloc, 7, *size)?)),
-                Retry => Turn::Retry,
-                Gone | Failed => Turn::Fail,
-            })?;
-        }
-        let mut source = MemorySource::new(turns);
-        for answer in answers {
-            assert_eq!(rt; source.receive(buffer), *answer);
-            if let Message(size) = answer {
-                let message = message(alloc, 7, *size)?;
-                assert_eq!(rt; buffer.get(..*size), Some(message.as_slice()));
-            }
-        }
-        for _ in 0..2 {
-            assert_eq!(rt; source.receive(buffer), Gone);
+    for answers in &ANSWERS {
+        let mut source = MemorySource::new(turns(alloc, answers)?);
+        for answer in *answers {
+            expect_answer(&rt, alloc, &mut source, buffer, *answer)?;
         }
     }
     Ok(())
@@ -127,18 +145,25 @@ const FAILING_READS: [(u64, [Received; 3]); 4] = [
     (4, [Message(48), Gone, Failed]),
 ];
 
+/// One message of 48 bytes, of which this read fails.
+fn failing_stream(alloc: Global, call: u64) -> Result<MemoryBytes, AllocError> {
+    let faults = Vec::from_slice(alloc, &[call])?;
+    Ok(MemoryBytes::new(message(alloc, 48, 48)?, 1000, faults))
+}
+
 #[test]
-fn a_read_that_fails_is_a_fault_of_the_source(rt: HostRuntime) -> Result<(), Fail> {
+fn a_read_that_fails_is_a_fault_of_the_source(rt: HostRuntime) -> Result<(), AllocError> {
     let alloc = rt.alloc();
     let mut room = receive_buffer(alloc)?;
     let buffer = room.as_mut_slice();
-    for (call, answers) in FAILING_READS {
-        let faults = Vec::from_slice(alloc, &[call])?;
-        let stream = MemoryBytes::new(message(alloc, 48, 48)?, 1000, faults);
-        let mut source = StreamSource::new(stream);
-        for answer in answers {
-            assert_eq!(rt; source.receive(buffer), answer, "call {call}");
-        }
+    for (call, answers) in &FAILING_READS {
+        let mut source = StreamSource::new(failing_stream(alloc, *call)?);
+        let found = [
+            source.receive(buffer),
+            source.receive(buffer),
+            source.receive(buffer),
+        ];
+        assert_eq!(rt; found, *answers, "call {call}");
         source.into_inner();
     }
     Ok(())

@@ -5,45 +5,54 @@ use fuse_wire::{
     FsyncFlags, GetattrFlags, InitFlags, IoctlFlags, PollEvents, PollFlags, ReadFlags,
     ReleaseFlags, RenameFlags, WriteFlags, flag_names, named_errors,
 };
+use std::alloc::AllocError;
 use std::process::Abort;
-use std::test::Fail;
 
 #[test]
-fn names_have_the_numbers_of_linux(rt: HostRuntime) -> Result<(), Fail> {
+fn names_have_the_numbers_of_linux(rt: HostRuntime) {
     for (name, errno, number) in named_errors() {
-        assert_eq!(rt; errno.code(), number, "{name}");
-        assert_eq!(rt; i32::from(errno), number, "{name}");
+        let numbers = [errno.code(), i32::from(errno)];
+        assert_eq!(rt; numbers, [number; 2], "{name}");
         assert_eq!(rt; Errno::from_i32(number), errno, "{name}");
     }
-    Ok(())
 }
 
 #[test]
-fn what_is_not_positive_is_eio(rt: HostRuntime) -> Result<(), Fail> {
+fn what_is_not_positive_is_eio(rt: HostRuntime) {
     for number in [0, -1, -2, -5, i32::MIN] {
         assert_eq!(rt; Errno::from_i32(number), Errno::EIO, "of {number}");
     }
-    Ok(())
 }
 
-// Says whether the names of a set and their bits are these.
-fn names<F: Flags<Bits = u32>>(rt: &impl Abort, expected: &[(&str, u32)]) {
+// Says whether the names and the constants of a set have these names and bits.
+fn names<F: Flags<Bits = u32>>(
+    rt: &impl Abort,
+    constants: &[(&'static str, F)],
+    expected: &[(&str, u32)],
+) {
     let flags = F::flags();
     assert_eq!(rt; flags.len(), expected.len());
-    for i in 0..flags.len() {
-        assert_eq!(rt; flags[i].name(), expected[i].0);
-        assert_eq!(rt; flags[i].value().bits(), expected[i].1);
+    assert_eq!(rt; constants.len(), expected.len());
+    for i in 0..expected.len() {
+        let flag = &flags[i];
+        let constant = &constants[i];
+        let found = [
+            (flag.name(), flag.value().bits()),
+            (constant.0, constant.1.bits()),
+        ];
+        assert_eq!(rt; found, [expected[i]; 2]);
     }
 }
 
-// The same, where the names have the bits 0, 1, 2 and so on.
+// Says whether the names of a set are these, with the bits 0, 1, 2 and so on.
 fn names_in_order<F: Flags<Bits = u64>>(rt: &impl Abort, expected: &[&str]) {
     let flags = F::flags();
     assert_eq!(rt; flags.len(), expected.len());
     let mut bit = 1u64;
     for i in 0..flags.len() {
-        assert_eq!(rt; flags[i].name(), expected[i]);
-        assert_eq!(rt; flags[i].value().bits(), bit);
+        let flag = &flags[i];
+        let found = (flag.name(), flag.value().bits());
+        assert_eq!(rt; found, (expected[i], bit));
         bit = bit.wrapping_mul(2);
     }
 }
@@ -177,53 +186,28 @@ const ACCESS_FLAGS: [(AccessFlags, i32); 4] = [
 
 #[test]
 fn names_and_values(rt: HostRuntime) {
-    names::<RenameFlags>(&rt, &RENAME_FLAGS);
-    names::<PollEvents>(&rt, &POLL_EVENTS);
-    names::<FopenFlags>(&rt, &FOPEN_FLAGS);
-    names::<IoctlFlags>(&rt, &IOCTL_FLAGS);
-    names::<WriteFlags>(&rt, &WRITE_FLAGS);
-    names::<FattrFlags>(&rt, &FATTR_FLAGS);
-    names::<ReleaseFlags>(&rt, &RELEASE_FLAGS);
-    names::<FsyncFlags>(&rt, &FSYNC_FLAGS);
-    names::<PollFlags>(&rt, &POLL_FLAGS);
-    names::<ReadFlags>(&rt, &READ_FLAGS);
-    names::<GetattrFlags>(&rt, &GETATTR_FLAGS);
-    names::<CuseInitFlags>(&rt, &CUSE_INIT_FLAGS);
-    names::<BsdFileFlags>(&rt, &[]);
-    names_in_order::<CopyFileRangeFlags>(&rt, &[]);
-    names_in_order::<InitFlags>(&rt, &INIT_FLAGS);
-    for (flag, value) in ACCESS_FLAGS {
-        assert_eq!(rt; flag.bits(), value);
-    }
-}
-
-// Says whether the constants of a set have the bits of their names.
-fn constants<F: Flags<Bits = u32>>(
-    rt: &impl Abort,
-    found: &[(&'static str, F)],
-    expected: &[(&str, u32)],
-) {
-    assert_eq!(rt; found.len(), expected.len());
-    for i in 0..found.len() {
-        assert_eq!(rt; found[i].0, expected[i].0);
-        assert_eq!(rt; found[i].1.bits(), expected[i].1);
-    }
+    names(&rt, &flag_names::rename_flags(), &RENAME_FLAGS);
+    names(&rt, &flag_names::poll_events(), &POLL_EVENTS);
+    names(&rt, &flag_names::poll_flags(), &POLL_FLAGS);
+    names(&rt, &flag_names::fopen_flags(), &FOPEN_FLAGS);
+    names(&rt, &flag_names::fsync_flags(), &FSYNC_FLAGS);
+    names(&rt, &flag_names::read_flags(), &READ_FLAGS);
+    names(&rt, &flag_names::write_flags(), &WRITE_FLAGS);
+    names(&rt, &flag_names::release_flags(), &RELEASE_FLAGS);
+    names(&rt, &flag_names::getattr_flags(), &GETATTR_FLAGS);
+    names(&rt, &flag_names::fattr_flags(), &FATTR_FLAGS);
+    names(&rt, &flag_names::ioctl_flags(), &IOCTL_FLAGS);
+    names(&rt, &flag_names::cuse_init_flags(), &CUSE_INIT_FLAGS);
+    names::<BsdFileFlags>(&rt, &[], &[]);
 }
 
 #[test]
-fn constants_have_the_bits_of_their_names(rt: HostRuntime) {
-    constants(&rt, &flag_names::rename_flags(), &RENAME_FLAGS);
-    constants(&rt, &flag_names::poll_events(), &POLL_EVENTS);
-    constants(&rt, &flag_names::poll_flags(), &POLL_FLAGS);
-    constants(&rt, &flag_names::fopen_flags(), &FOPEN_FLAGS);
-    constants(&rt, &flag_names::fsync_flags(), &FSYNC_FLAGS);
-    constants(&rt, &flag_names::read_flags(), &READ_FLAGS);
-    constants(&rt, &flag_names::write_flags(), &WRITE_FLAGS);
-    constants(&rt, &flag_names::release_flags(), &RELEASE_FLAGS);
-    constants(&rt, &flag_names::getattr_flags(), &GETATTR_FLAGS);
-    constants(&rt, &flag_names::fattr_flags(), &FATTR_FLAGS);
-    constants(&rt, &flag_names::ioctl_flags(), &IOCTL_FLAGS);
-    constants(&rt, &flag_names::cuse_init_flags(), &CUSE_INIT_FLAGS);
+fn names_in_order_of_their_bits(rt: HostRuntime) {
+    names_in_order::<CopyFileRangeFlags>(&rt, &[]);
+    names_in_order::<InitFlags>(&rt, &INIT_FLAGS);
+    for (flag, value) in &ACCESS_FLAGS {
+        assert_eq!(rt; flag.bits(), *value);
+    }
 }
 
 #[test]
@@ -233,55 +217,65 @@ fn errors_of_other_numbers_are_others(rt: HostRuntime) {
 }
 
 #[test]
-fn texts_are_decimal(rt: HostRuntime) -> Result<(), Fail> {
-    let texts = [
-        (
-            format!(in rt.alloc(); "{}", AccessFlags::from_bits_retain(-2))?,
-            "-2",
-        ),
-        (format!(in rt.alloc(); "{}", PollEvents::POLLWRBAND)?, "512"),
-        (format!(in rt.alloc(); "{}", RenameFlags::all())?, "7"),
-        (format!(in rt.alloc(); "{}", CuseInitFlags::all())?, "1"),
-        (format!(in rt.alloc(); "{}", FsyncFlags::empty())?, "0"),
-        (
-            format!(in rt.alloc(); "{}", IoctlFlags::FUSE_IOCTL_32BIT)?,
-            "8",
-        ),
-        (
-            format!(in rt.alloc(); "{}", PollFlags::from_bits_retain(4294967295))?,
-            "4294967295",
-        ),
-        (format!(in rt.alloc(); "{}", ReleaseFlags::all())?, "3"),
-    ];
-    for (text, expected) in &texts {
-        assert_eq!(rt; text.as_str(), *expected);
-    }
+fn texts_are_decimal(rt: HostRuntime) -> Result<(), AllocError> {
+    let found = format!(in rt.alloc();
+        "{} {} {} {} {} {} {} {}",
+        AccessFlags::from_bits_retain(-2),
+        PollEvents::POLLWRBAND,
+        RenameFlags::all(),
+        CuseInitFlags::all(),
+        FsyncFlags::empty(),
+        IoctlFlags::FUSE_IOCTL_32BIT,
+        PollFlags::from_bits_retain(4294967295),
+        ReleaseFlags::all()
+    )?;
+    assert_eq!(rt; found.as_str(), "-2 512 7 1 0 8 4294967295 3");
     Ok(())
 }
 
 #[test]
-fn sets_go_bit_by_bit(rt: HostRuntime) -> Result<(), Fail> {
+fn sets_go_bit_by_bit(rt: HostRuntime) {
     let size = FattrFlags::FATTR_SIZE;
     let odd = FattrFlags::from_bits_retain(0x1008);
-    assert_eq!(rt; FattrFlags::all().bits(), 0x7ff);
-    assert_eq!(rt; FattrFlags::from_bits(0x1008), None);
-    assert_eq!(rt; FattrFlags::from_bits(0x8), Some(size));
-    assert_eq!(rt; FattrFlags::from_bits_truncate(0x1008), size);
-    assert_eq!(rt; odd.complement().bits(), 0x7f7);
-    assert_eq!(rt; odd.difference(size).bits(), 0x1000);
-    assert!(rt; odd.contains(size) && !size.contains(odd) && size.intersects(odd));
-    assert!(rt; FattrFlags::from_bits_retain(0x17ff).is_all() && !odd.is_all());
-    assert_eq!(rt; ReadFlags::all().bits(), 2);
-    assert!(rt; BsdFileFlags::empty().is_all() && BsdFileFlags::from_bits(1).is_none());
-    assert_eq!(rt;
-        CopyFileRangeFlags::from_bits_retain(5).complement().bits(),
-        0
-    );
-    let read_write = AccessFlags::R_OK.union(AccessFlags::W_OK);
+    let bits = [
+        FattrFlags::all().bits(),
+        odd.complement().bits(),
+        odd.difference(size).bits(),
+        ReadFlags::all().bits(),
+    ];
+    assert_eq!(rt; bits, [0x7ff, 0x7f7, 0x1000, 2]);
+    let read = [
+        FattrFlags::from_bits(0x1008),
+        FattrFlags::from_bits(0x8),
+        Some(FattrFlags::from_bits_truncate(0x1008)),
+    ];
+    assert_eq!(rt; read, [None, Some(size), Some(size)]);
+    let none = CopyFileRangeFlags::from_bits_retain(5).complement();
+    let nothing = (none.bits(), BsdFileFlags::from_bits(1).is_none());
+    assert_eq!(rt; nothing, (0, true));
+}
+
+#[test]
+fn sets_hold_their_parts(rt: HostRuntime) {
+    let size = FattrFlags::FATTR_SIZE;
+    let odd = FattrFlags::from_bits_retain(0x1008);
+    let related = [
+        odd.contains(size),
+        size.contains(odd),
+        size.intersects(odd),
+        FattrFlags::from_bits_retain(0x17ff).is_all(),
+        odd.is_all(),
+        BsdFileFlags::empty().is_all(),
+    ];
+    assert_eq!(rt; related, [true, false, true, true, false, true]);
+    let read = AccessFlags::R_OK;
+    let read_write = read.union(AccessFlags::W_OK);
     assert_eq!(rt; read_write.bits(), 6);
-    assert!(rt;
-        read_write.contains(AccessFlags::R_OK) && read_write.contains(AccessFlags::empty())
-    );
-    assert!(rt; !AccessFlags::R_OK.contains(read_write) && !read_write.contains(AccessFlags::X_OK));
-    Ok(())
+    let held = [
+        read_write.contains(read),
+        read_write.contains(AccessFlags::empty()),
+        read.contains(read_write),
+        read_write.contains(AccessFlags::X_OK),
+    ];
+    assert_eq!(rt; held, [true, true, false, false]);
 }

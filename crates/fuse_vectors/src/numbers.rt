@@ -1,48 +1,66 @@
 // Numbers under names of their own, times and spans: their texts, their order, and the way they come and go.
 use fuse_wire::laws::{compared_as_nanoseconds, compared_as_numbers, equals_order_and_hash_alike};
 use fuse_wire::{
-    Duration, FileHandle, Generation, INodeNo, LockOwner, OpenAccMode, OpenFlags, PollHandle,
-    RequestId, SystemTime, Version, system_time_from_time, time_from_system_time,
+    Duration, FileHandle, Generation, INodeNo, Items, LockOwner, OpenAccMode, OpenFlags,
+    PollHandle, RequestId, SystemTime, Version, system_time_from_time, time_from_system_time,
 };
+use std::alloc::{AllocError, Global};
 use std::cmp::Ordering;
 use std::cmp::Ordering::{Equal, Greater, Less};
 use std::hash::{DefaultHasher, Hash, Hasher};
 use std::process::Abort;
-use std::test::Fail;
+
+/// Numbers, and the text of each, three times.
+const TEXTS: [(u64, &str); 5] = [
+    (0, "0 0 0"),
+    (1, "1 1 1"),
+    (10, "10 10 10"),
+    (4096, "4096 4096 4096"),
+    (
+        u64::MAX,
+        "18446744073709551615 18446744073709551615 18446744073709551615",
+    ),
+];
+
+/// The numbers of newtypes that are made of this one.
+fn numbers(number: u64) -> [u64; 4] {
+    [
+        u64::from(Generation(number)),
+        u64::from(RequestId(number)),
+        u64::from(INodeNo(number)),
+        u64::from(FileHandle(number)),
+    ]
+}
+
+/// The texts of newtypes that are made of this number.
+fn texts(alloc: Global, number: u64) -> Result<String, AllocError> {
+    format!(in alloc;
+        "{} {} {}",
+        INodeNo(number),
+        FileHandle(number),
+        LockOwner(number)
+    )
+}
 
 #[test]
-fn numbers_and_texts(rt: HostRuntime) -> Result<(), Fail> {
-    for (number, text) in [
-        (0, "0"),
-        (1, "1"),
-        (10, "10"),
-        (4096, "4096"),
-        (u64::MAX, "18446744073709551615"),
-    ] {
-        assert_eq!(rt; u64::from(Generation(number)), number);
-        assert_eq!(rt; u64::from(RequestId(number)), number);
-        assert_eq!(rt; u64::from(INodeNo(number)), number);
-        assert_eq!(rt; u64::from(FileHandle(number)), number);
-        let node = INodeNo(number).to_string(rt.alloc())?;
-        assert_eq!(rt; node.as_str(), text);
-        let handle = FileHandle(number).to_string(rt.alloc())?;
-        assert_eq!(rt; handle.as_str(), text);
-        let owner = LockOwner(number).to_string(rt.alloc())?;
-        assert_eq!(rt; owner.as_str(), text);
+fn numbers_and_texts(rt: HostRuntime) -> Result<(), AllocError> {
+    for (number, expected) in &TEXTS {
+        assert_eq!(rt; numbers(*number), [*number; 4]);
+        let found = texts(rt.alloc(), *number)?;
+        assert_eq!(rt; found.as_str(), *expected);
     }
     Ok(())
 }
 
 #[test]
-fn a_version_has_a_point(rt: HostRuntime) -> Result<(), Fail> {
-    for (version, text) in [
-        (Version(7, 40), "7.40"),
-        (Version(0, 0), "0.0"),
-        (Version(u32::MAX, 8), "4294967295.8"),
-    ] {
-        let found = version.to_string(rt.alloc())?;
-        assert_eq!(rt; found.as_str(), text);
-    }
+fn a_version_has_a_point(rt: HostRuntime) -> Result<(), AllocError> {
+    let found = format!(in rt.alloc();
+        "{} {} {}",
+        Version(7, 40),
+        Version(0, 0),
+        Version(u32::MAX, 8)
+    )?;
+    assert_eq!(rt; found.as_str(), "7.40 0.0 4294967295.8");
     Ok(())
 }
 
@@ -56,24 +74,27 @@ fn hash_of<T: Hash>(value: &T) -> u64 {
 /// The two values stand in this order, and are equal and hash alike just where it says so.
 fn expect_order<T: Ord + Hash>(rt: &impl Abort, one: &T, other: &T, expected: Ordering) {
     equals_order_and_hash_alike(one, other);
-    assert_eq!(rt; one == other, expected == Equal);
-    assert_eq!(rt; one.partial_cmp(other), Some(expected));
-    assert_eq!(rt; one.cmp(other), expected);
-    assert_eq!(rt; hash_of(one) == hash_of(other), expected == Equal);
+    let alike = [one == other, hash_of(one) == hash_of(other)];
+    assert_eq!(rt; alike, [expected == Equal; 2]);
+    let order = [one.partial_cmp(other), Some(one.cmp(other))];
+    assert_eq!(rt; order, [Some(expected); 2]);
 }
+
+/// Two numbers, and the order that they stand in.
+const ORDERS: [(u64, u64, Ordering); 7] = [
+    (0, 0, Equal),
+    (0, 1, Less),
+    (256, 255, Greater),
+    (1 << 32, u32::MAX as u64, Greater),
+    (u64::MAX, 0, Greater),
+    (u64::MAX - 1, u64::MAX, Less),
+    (u64::MAX, u64::MAX, Equal),
+];
 
 #[test]
 fn newtypes_are_ordered_and_hashed_as_their_numbers(rt: HostRuntime) {
     compared_as_numbers();
-    for (one, other, expected) in [
-        (0, 0, Equal),
-        (0, 1, Less),
-        (256, 255, Greater),
-        (1 << 32, u32::MAX as u64, Greater),
-        (u64::MAX, 0, Greater),
-        (u64::MAX - 1, u64::MAX, Less),
-        (u64::MAX, u64::MAX, Equal),
-    ] {
+    for &(one, other, expected) in &ORDERS {
         expect_order(&rt, &Generation(one), &Generation(other), expected);
         expect_order(&rt, &RequestId(one), &RequestId(other), expected);
         expect_order(&rt, &INodeNo(one), &INodeNo(other), expected);
@@ -116,17 +137,18 @@ fn an_earlier_time_and_a_shorter_span_come_first(rt: HostRuntime) {
 
 #[test]
 fn seconds_and_nanoseconds_are_added(rt: HostRuntime) {
-    assert_eq!(rt; Duration::new(0, 0).as_nanos(), 0);
-    assert_eq!(rt; Duration::new(2, 5).as_nanos(), 2_000_000_005);
-    assert_eq!(rt;
+    let found = [
+        Duration::new(0, 0).as_nanos(),
+        Duration::new(2, 5).as_nanos(),
         Duration::new(u64::MAX, 999_999_999).as_nanos(),
-        18_446_744_073_709_551_615_999_999_999
-    );
+    ];
+    let expected = [0, 2_000_000_005, 18_446_744_073_709_551_615_999_999_999];
+    assert_eq!(rt; found, expected);
 }
 
 #[test]
-fn rounds_down_and_stays_in_range(rt: HostRuntime) -> Result<(), Fail> {
-    for (nanos, expected) in [
+fn rounds_down_and_stays_in_range(rt: HostRuntime) {
+    for &(nanos, expected) in &[
         (-1_200_000_000, (-2, 800_000_000)),
         (-9_223_372_036_854_775_808_000_000_000, (i64::MIN, 0)),
         (-9_223_372_036_854_775_808_000_000_001, (i64::MIN, 0)),
@@ -143,12 +165,11 @@ fn rounds_down_and_stays_in_range(rt: HostRuntime) -> Result<(), Fail> {
         let found = time_from_system_time(&SystemTime(nanos));
         assert_eq!(rt; found, expected, "at {nanos}");
     }
-    Ok(())
 }
 
 #[test]
-fn seconds_and_nanoseconds_make_a_time(rt: HostRuntime) -> Result<(), Fail> {
-    for (secs, nanos, expected) in [
+fn seconds_and_nanoseconds_make_a_time(rt: HostRuntime) {
+    for &(secs, nanos, expected) in &[
         (0, 0, 0),
         (0, 999_999_999, 999_999_999),
         (-1, 0, -1_000_000_000),
@@ -163,15 +184,14 @@ fn seconds_and_nanoseconds_make_a_time(rt: HostRuntime) -> Result<(), Fail> {
         (i64::MAX, 999_999_999, 9_223_372_036_854_775_807_999_999_999),
     ] {
         let found = system_time_from_time(secs, nanos);
-        assert_eq!(rt; found.0, expected, "at {secs}, {nanos}");
-        assert_eq!(rt; time_from_system_time(&found), (secs, nanos), "back");
+        let back = time_from_system_time(&found);
+        assert_eq!(rt; (found.0, back), (expected, (secs, nanos)));
     }
-    Ok(())
 }
 
 #[test]
-fn the_low_two_bits_are_the_mode(rt: HostRuntime) -> Result<(), Fail> {
-    for (flags, mode) in [
+fn the_low_two_bits_are_the_mode(rt: HostRuntime) {
+    for &(flags, mode) in &[
         (0, OpenAccMode::O_RDONLY),
         (1, OpenAccMode::O_WRONLY),
         (2, OpenAccMode::O_RDWR),
@@ -188,6 +208,23 @@ fn the_low_two_bits_are_the_mode(rt: HostRuntime) -> Result<(), Fail> {
         (i32::MIN + 2, OpenAccMode::O_RDWR),
     ] {
         assert_eq!(rt; OpenFlags(flags).acc_mode(), mode, "of {flags}");
+    }
+}
+
+#[test]
+fn items_are_equal_one_by_one(rt: HostRuntime) -> Result<(), AllocError> {
+    let alloc = rt.alloc();
+    let items = Items::from_vec(Vec::from_slice(alloc, &[1, 2])?);
+    let others: [(&[u8], bool); 5] = [
+        (&[1, 2], true),
+        (&[1, 3], false),
+        (&[2, 1], false),
+        (&[1], false),
+        (&[1, 2, 0], false),
+    ];
+    for (other, equal) in &others {
+        let other = Items::from_vec(Vec::from_slice(alloc, other)?);
+        assert_eq!(rt; items == other, *equal);
     }
     Ok(())
 }

@@ -1,5 +1,5 @@
 // Messages of each opcode: what they decode to, which are cut short, and what their bits say.
-use crate::headers::text;
+use crate::headers::{expect_asked, text};
 use bitflags::Flags;
 use fuse_request::{
     AnyRequest, BatchForget, CopyFileRange, GetXAttrSize, GetXAttrSizeEnum, Operation, SetAttr,
@@ -7,7 +7,7 @@ use fuse_request::{
 };
 use fuse_wire::{Errno, FileHandle, LockOwner};
 use std::alloc::{AllocError, Global};
-use std::test::Fail;
+use std::process::Abort;
 
 /// What a message asks that is cut short.
 const CUT: &str = "Err(InsufficientData)";
@@ -308,34 +308,37 @@ const GOOD: [(u16, usize, &[u8], usize, &str); 46] = [
     (4096, 64, b"", 64, "Ok(CuseInit(CuseInit))"),
 ];
 
+/// Each part of a message that is shorter than is needed is cut short, and the whole asks what the row says.
+fn expect_decoded(
+    rt: &impl Abort,
+    alloc: Global,
+    row: &(u16, usize, &[u8], usize, &str),
+) -> Result<(), AllocError> {
+    let (opcode, fixed, tail, needed, expected) = *row;
+    let whole = fixed.saturating_add(tail.len()).min(100);
+    for length in 0..whole {
+        let found = text(alloc, &message(opcode, fixed, tail, length))?;
+        let cut = found.as_str() == CUT;
+        assert_eq!(rt; cut, length < needed, "{opcode} of {length}");
+    }
+    let whole = message(opcode, fixed, tail, whole);
+    expect_asked(rt, alloc, &whole, expected)
+}
+
 #[test]
 fn decodes_each_and_refuses_what_is_cut(rt: HostRuntime) -> Result<(), AllocError> {
-    let alloc = rt.alloc();
-    for (opcode, fixed, tail, needed, expected) in GOOD {
-        let whole = fixed.saturating_add(tail.len()).min(100);
-        for length in 0..whole {
-            let found = text(alloc, &message(opcode, fixed, tail, length))?;
-            assert_eq!(rt;
-                found.as_str() == CUT,
-                length < needed,
-                "{opcode} of {length}"
-            );
-        }
-        let found = text(alloc, &message(opcode, fixed, tail, whole))?;
-        assert_eq!(rt; found.as_str(), expected);
+    for row in &GOOD {
+        expect_decoded(&rt, rt.alloc(), row)?;
     }
     Ok(())
 }
 
 #[test]
 fn refuses_a_value_of_another_size(rt: HostRuntime) -> Result<(), AllocError> {
-    let alloc = rt.alloc();
-    let cases: [(u16, usize, &[u8], usize); 2] = [(16, 40, b"hello!", 46), (21, 8, b"a\0vw", 12)];
-    for (opcode, fixed, tail, length) in cases {
-        let found = text(alloc, &message(opcode, fixed, tail, length))?;
-        assert_eq!(rt; found.as_str(), CUT, "{opcode}");
-    }
-    Ok(())
+    let write = message(16, 40, b"hello!", 46);
+    expect_asked(&rt, rt.alloc(), &write, CUT)?;
+    let set_attribute = message(21, 8, b"a\0vw", 12);
+    expect_asked(&rt, rt.alloc(), &set_attribute, CUT)
 }
 
 /// What stands for a value that is not given, and for an offset that is refused.
@@ -368,10 +371,13 @@ fn offset(found: Result<u64, Errno>) -> u64 {
 
 /// Where COPY_FILE_RANGE reads and writes, and the node that it writes to.
 fn copied(copy: &CopyFileRange) -> [u64; 3] {
-    let from = copy.src().map(|file| file.offset);
+    let from = match copy.src() {
+        Ok(file) => file.offset,
+        Err(error) => offset(Err(error)),
+    };
     match copy.dest() {
-        Ok(file) => [offset(from), file.offset, file.inode.0],
-        Err(error) => [offset(from), offset(Err(error)), 0],
+        Ok(file) => [from, file.offset, file.inode.0],
+        Err(error) => [from, offset(Err(error)), 0],
     }
 }
 
@@ -510,12 +516,11 @@ fn said(opcode: u16, fixed: usize, tail: &[u8], place: usize, byte: u8) -> Optio
 }
 
 #[test]
-fn goes_by_the_bits(rt: HostRuntime) -> Result<(), Fail> {
-    for (opcode, fixed, tail, place, byte, expected) in CHANGED {
-        let found = said(opcode, fixed, tail, place, byte);
-        assert_eq!(rt; found, Some(expected), "{opcode} with {byte} at {place}");
+fn goes_by_the_bits(rt: HostRuntime) {
+    for (opcode, fixed, tail, place, byte, expected) in &CHANGED {
+        let found = said(*opcode, *fixed, tail, *place, *byte);
+        assert_eq!(rt; found, Some(*expected), "{opcode} with {byte} at {place}");
     }
-    Ok(())
 }
 
 /// SETATTR: read at -1.2 s, written at 1.000000005 s, changed at 3 s.
@@ -538,9 +543,10 @@ fn setattr(valid: u16) -> Option<SetAttr> {
     }
 }
 
-/// Which of its fields are set: mode, uid, gid, size, atime, mtime, file handle, ctime.
-fn set_fields(setattr: &SetAttr) -> [bool; 8] {
-    [
+/// Which fields SETATTR sets with these bits of `valid`: mode, uid, gid, size, atime, mtime, file handle, ctime.
+fn set_fields(valid: u16) -> Option<[bool; 8]> {
+    let setattr = setattr(valid)?;
+    Some([
         setattr.mode().is_some(),
         setattr.uid().is_some(),
         setattr.gid().is_some(),
@@ -549,7 +555,7 @@ fn set_fields(setattr: &SetAttr) -> [bool; 8] {
         setattr.mtime().is_some(),
         setattr.file_handle().is_some(),
         setattr.ctime().is_some(),
-    ]
+    ])
 }
 
 /// The field that each bit of `valid` sets, alone and beside another.
@@ -574,16 +580,14 @@ const VALID: [(u16, usize); 17] = [
 ];
 
 #[test]
-fn sets_what_valid_says(rt: HostRuntime) -> Result<(), Fail> {
-    for (valid, field) in VALID {
+fn sets_what_valid_says(rt: HostRuntime) {
+    for (valid, field) in &VALID {
         let mut expected = [false; 8];
-        if let Some(set) = expected.get_mut(field) {
+        if let Some(set) = expected.get_mut(*field) {
             *set = true;
         }
-        let found = setattr(valid).map(|setattr| set_fields(&setattr));
-        assert_eq!(rt; found, Some(expected), "of {valid}");
+        assert_eq!(rt; set_fields(*valid), Some(expected), "of {valid}");
     }
-    Ok(())
 }
 
 #[test]
@@ -592,16 +596,13 @@ fn sets_these_times(rt: HostRuntime) -> Result<(), AllocError> {
     let cases = [
         (
             0x430,
-            "Some(Some(SpecificTime(SystemTime(-1200000000)))) Some(Some(SpecificTime(SystemTime(1000000005)))) Some(Some(SystemTime(3000000000)))",
+            "Some((Some(SpecificTime(SystemTime(-1200000000))), Some(SpecificTime(SystemTime(1000000005))), Some(SystemTime(3000000000))))",
         ),
-        (0x1b0, "Some(Some(Now)) Some(Some(Now)) Some(None)"),
+        (0x1b0, "Some((Some(Now), Some(Now), None))"),
     ];
     for (valid, expected) in cases {
-        let setattr = setattr(valid);
-        let read = setattr.map(|setattr| setattr.atime());
-        let written = setattr.map(|setattr| setattr.mtime());
-        let changed = setattr.map(|setattr| setattr.ctime());
-        let found = format!(in alloc; "{read:?} {written:?} {changed:?}")?;
+        let times = setattr(valid).map(|set| (set.atime(), set.mtime(), set.ctime()));
+        let found = format!(in alloc; "{times:?}")?;
         assert_eq!(rt; found.as_str(), expected);
     }
     Ok(())
@@ -627,9 +628,10 @@ fn reads_nothing_behind(rt: HostRuntime) -> Result<(), AllocError> {
         let alone = whole.get(..counted).unwrap_or(&[]);
         let behind = whole.get(counted..).unwrap_or(&[]);
         laws::bytes_behind_are_not_read(alone, behind);
-        let expected = described(alloc, alone)?;
-        assert_eq!(rt; described(alloc, &whole)?.as_str(), expected.as_str());
         assert_eq!(rt; alone.len(), counted);
+        let expected = described(alloc, alone)?;
+        let found = described(alloc, &whole)?;
+        assert_eq!(rt; found.as_str(), expected.as_str());
     }
     Ok(())
 }

@@ -1,5 +1,5 @@
 -- What is compared and hashed as a number.
-use Rattle.std.specs.Prelude.{ℕ, Bool, true, List, [], ◌∷◌, Option, Some, IsTrue, ◌≡◌, ◌==◌, ◌&&◌, ◌++◌, ◌↔◌}
+use Rattle.std.specs.Prelude.{ℕ, pos, Bool, true, List, [], ◌∷◌, Option, Some, IsTrue, ◌≡◌, ◌==◌, ◌&&◌, ◌++◌, ◌↔◌}
 use Rattle.std.specs.declared.cmp.Ordering.{Ordering}
 use Rattle.std.specs.Ordering.{int_eq, nat_cmp, ordering_then}
 use Rattle.std.specs.Hash as fed
@@ -29,14 +29,19 @@ pub record OrderedAs {A : Type 0} {N : Type 0} (number : A → N) (equals : N �
   pub partial_order : (x y : A) → partial_cmp x y ≡ Some (compare (number x) (number y))
   pub order : (x y : A) → cmp x y ≡ compare (number x) (number y)
 
--- the equality and the hash of a set of flags are those of its bits
-pub record AsBits {A : Type 0} (bits : A → ℕ) (feed : ℕ → List (List ℕ)) (eq : A → A → Bool) (hash_input : A → List (List ℕ)) : Type 0 where
-  pub equality : (x y : A) → eq x y ≡ (bits x == bits y)
+-- the equality and the hash of a set of flags or of a flag number are those of its bits
+pub record AsBits {A : Type 0} {N : Type 0} (bits : A → N) (equals : N → N → Bool) (feed : N → List (List ℕ)) (eq : A → A → Bool)
+    (hash_input : A → List (List ℕ)) : Type 0 where
+  pub equality : (x y : A) → eq x y ≡ equals (bits x) (bits y)
   pub hash : (x : A) → hash_input x ≡ feed (bits x)
 
 -- the equality of a type says whether two values are the same
 pub record SaysSame {A : Type 0} (eq : A → A → Bool) : Type 0 where
   pub same : (x y : A) → IsTrue (eq x y) ↔ (x ≡ y)
+
+-- what an enum's variant is hashed as: its number, from 0 in the order of the variants
+abbrev pub variant : ℕ → List (List ℕ)
+variant number = fed.isize (pos number)
 
 -- all of these
 abbrev pub every : List Bool → Bool

@@ -17,6 +17,25 @@ impl<T> Model for Items<T> {
     ghost view = { λ a. a.items.items };
 }
 
+/// Equal where the items are, one by one.
+impl<T: PartialEq> PartialEq for Items<T> {
+    ghost use Rattle.std.specs.Cmp.Lexicographic.{lists_per, pointwise};
+
+    ghost eq = { pointwise T.eq };
+
+    ghost laws = { lists_per T.laws };
+
+    fn eq(&self, other: &Items<T>) -> bool {
+        self.as_slice() == other.as_slice()
+    }
+}
+
+impl<T: Eq> Eq for Items<T> {
+    ghost use Rattle.std.specs.Cmp.Lexicographic.{lists_equiv};
+
+    ghost laws = { lists_equiv T.Eq.laws };
+}
+
 impl<T> Items<T> {
     /// The items of a vector.
     pub fn from_vec(items: Vec<T>) -> Items<T>

@@ -35,7 +35,7 @@ returns-in-Err-operation g c =
     Pays-undecoded (promises fs.may_init fs.may_answer fs.may_note fs.may_destroy) c.args.filesystem.now c.args.access.acl c.args.access.owner
     c.args.message.now h c.in-Err-operation.field-0 c.refusal.result c.in-Ok.ensures.0
     (of-body h.opcode _ _ (Err c.in-Err-operation.field-0) c.in-Err-operation.ensures.operation c.in-Ok.ensures.1)
-    (to-id c.refusal.result 38 c.unique.result h.unique c.refusal.ensures c.unique.ensures)
+    (to-id c.refusal.result 38 c.unique-id.result h.unique c.refusal.ensures c.unique-id.ensures)
 
 pub returns-then-is_destroy : goal.returns-then-is_destroy
 returns-then-is_destroy g c =
@@ -46,7 +46,7 @@ returns-then-is_destroy g c =
     c.args.message.now h op c.into_out.result c.in-Ok.ensures.0
     (of-body h.opcode _ _ (Ok op) c.in-Ok-operation.ensures.operation c.in-Ok.ensures.1)
     (sym c.is_destroy.ensures ∙ c.if-is_destroy.true)
-    (let out = c.into_out.ensures in let ok = c.ok.ensures in let new = c.new.ensures in let id = c.unique-then-is_destroy.ensures in cc)
+    (let out = c.into_out.ensures in let ok = c.ok.ensures in let new = c.new.ensures in let id = c.unique-id.ensures in cc)
 
 pub returns-then-not-is_admitted : goal.returns-then-not-is_admitted
 returns-then-not-is_admitted g c =
@@ -58,8 +58,8 @@ returns-then-not-is_admitted g c =
     (of-body h.opcode _ _ (Ok op) c.in-Ok-operation.ensures.operation c.in-Ok.ensures.1)
     (sym c.is_destroy.ensures ∙ c.if-is_destroy.false)
     (by-rule _ _ _ h.uid _ h.opcode _ false c.is_admitted.ensures c.if-not-is_admitted.true c.uid.ensures c.opcode.ensures)
-    (to-id c.refusal-then-not-is_admitted.result 13 c.unique-then-not-is_admitted.result h.unique c.refusal-then-not-is_admitted.ensures
-    c.unique-then-not-is_admitted.ensures)
+    (to-id c.refusal-then-not-is_admitted.result 13 c.unique-id.result h.unique c.refusal-then-not-is_admitted.ensures
+    c.unique-id.ensures)
 
 pub returns-in-Some : goal.returns-in-Some
 returns-in-Some g c =
@@ -72,7 +72,7 @@ returns-in-Some g c =
     (sym c.is_destroy.ensures ∙ c.if-is_destroy.false)
     (by-rule _ _ _ h.uid _ h.opcode _ true c.is_admitted.ensures c.if-not-is_admitted.false c.uid.ensures c.opcode.ensures)
     (sym c.refused.ensures ∙ c.in-Some.is)
-    (to-id c.refusal-in-Some.result c.in-Some.error c.unique-in-Some.result h.unique c.refusal-in-Some.ensures c.unique-in-Some.ensures)
+    (to-id c.refusal-in-Some.result c.in-Some.error c.unique-id.result h.unique c.refusal-in-Some.ensures c.unique-id.ensures)
 
 pub returns-in-None : goal.returns-in-None
 returns-in-None g c =
