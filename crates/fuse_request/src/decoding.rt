@@ -1,5 +1,6 @@
 // What a body asks, by its opcode.
 ghost use Rattle.fuse_request.specs.Operation.{Is, Keeps, operation, place_operation, node_operation, file_operation, opened_operation, xattr_operation, device_operation, session_operation};
+ghost use Rattle.fuse_wire.specs.declared.newtypes.INodeNo.{INodeNo};
 
 use crate::forgets::ForgetList;
 use crate::parts::{at_least, exactly};
@@ -213,19 +214,15 @@ fn opened_operation<'a>(
         44 => Operation::ReadDirPlus(ReadDirPlus {
             arguments: whole!(arguments.fetch_read()),
         }),
-        opcode => return xattr_operation(opcode, node, body),
+        opcode => return xattr_operation(opcode, body),
     };
     Ok(operation)
 }
 
-/// What is asked about extended attributes, and what comes behind it.
-fn xattr_operation<'a>(
-    opcode: u32,
-    node: INodeNo,
-    body: &'a [u8],
-) -> Result<Operation<'a>, RequestError>
+/// What is asked about extended attributes, and what comes behind it. From here on no operation keeps the node of its request.
+fn xattr_operation(opcode: u32, body: &[u8]) -> Result<Operation<'_>, RequestError>
     ensures operation { Is result (xattr_operation opcode body.now) }
-    ensures node { Keeps result node }
+    ensures node { (node : INodeNo) → Keeps result node }
 {
     let mut arguments = ArgumentIterator::new(body);
     let operation = match opcode {
@@ -249,19 +246,15 @@ fn xattr_operation<'a>(
         24 => Operation::RemoveXAttr(RemoveXAttr {
             name: whole!(arguments.fetch_str()),
         }),
-        opcode => return device_operation(opcode, node, body),
+        opcode => return device_operation(opcode, body),
     };
     Ok(operation)
 }
 
 /// What is asked about locks, blocks and devices, and what comes behind it.
-fn device_operation<'a>(
-    opcode: u32,
-    node: INodeNo,
-    body: &'a [u8],
-) -> Result<Operation<'a>, RequestError>
+fn device_operation(opcode: u32, body: &[u8]) -> Result<Operation<'_>, RequestError>
     ensures operation { Is result (device_operation opcode body.now) }
-    ensures node { Keeps result node }
+    ensures node { (node : INodeNo) → Keeps result node }
 {
     let mut arguments = ArgumentIterator::new(body);
     let operation = match opcode {
@@ -290,19 +283,15 @@ fn device_operation<'a>(
         40 => Operation::Poll(Poll {
             arguments: whole!(arguments.fetch_poll()),
         }),
-        opcode => return session_operation(opcode, node, body),
+        opcode => return session_operation(opcode, body),
     };
     Ok(operation)
 }
 
 /// What is of the session itself. No other opcode is known.
-fn session_operation<'a>(
-    opcode: u32,
-    node: INodeNo,
-    body: &'a [u8],
-) -> Result<Operation<'a>, RequestError>
+fn session_operation(opcode: u32, body: &[u8]) -> Result<Operation<'_>, RequestError>
     ensures operation { Is result (session_operation opcode body.now) }
-    ensures node { Keeps result node }
+    ensures node { (node : INodeNo) → Keeps result node }
 {
     let mut arguments = ArgumentIterator::new(body);
     let operation = match opcode {
