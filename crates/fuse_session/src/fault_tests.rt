@@ -2,7 +2,7 @@
 ghost use Rattle.std.specs.Prelude.{None};
 
 use crate::counting::{Course, run};
-use crate::tests::{ACCEPTED, Counts, INIT_7_8, refusal, serves_source, source_of};
+use crate::tests::{ACCEPTED, Counts, INIT_7_8, forget, lookup, refusal, serves_source, source_of};
 use crate::{SessionError, Transcript};
 use fuse_config::Config;
 use fuse_wire::{Items, MemorySink, MemorySource, Noting, RequestId, Sending, Sink, Turn};
@@ -10,14 +10,6 @@ use std::alloc::{AllocError, Global};
 use std::process::Abort;
 use std::sync::Wait;
 use std::test::Fail;
-
-/// A LOOKUP of a name that is not there.
-fn lookup(id: u8) -> [u8; 45] {
-    let mut bytes =
-        *b"\x2d\0\0\0\x01\0\0\0\x00\0\0\0\0\0\0\0\x01\0\0\0\0\0\0\0\0\0\0\0\0\0\0\0\0\0\0\0\0\0\0\0none\0";
-    bytes[8] = id;
-    bytes
-}
 
 /// What the source gives next: these bytes, a turn with nothing, or a fault.
 #[derive(Clone, Copy)]
@@ -67,7 +59,7 @@ fn a_source_may_fail(rt: HostRuntime) -> Result<(), Fail> {
     use Next::{Bytes, Fault, Nothing};
     let alloc = rt.alloc();
     let failed = Err(SessionError::Receive);
-    let message = lookup(2);
+    let message = lookup(2, 0);
     let turns = [Bytes(&INIT_7_8), Nothing, Fault, Bytes(&message)];
     let sink = MemorySink::new(alloc, Vec::new(alloc));
     serves(&rt, &turns, sink, 1, &[&ACCEPTED], 0, failed)
@@ -86,7 +78,7 @@ fn a_source_may_fail_at_once(rt: HostRuntime) -> Result<(), Fail> {
 fn a_source_may_give_nothing(rt: HostRuntime) -> Result<(), Fail> {
     use Next::{Bytes, Nothing};
     let alloc = rt.alloc();
-    let message = lookup(2);
+    let message = lookup(2, 0);
     let turns = [
         Nothing,
         Bytes(&INIT_7_8),
@@ -103,8 +95,8 @@ fn a_source_may_give_nothing(rt: HostRuntime) -> Result<(), Fail> {
 #[test]
 fn a_sink_may_refuse(rt: HostRuntime) -> Result<(), Fail> {
     let alloc = rt.alloc();
-    let first = lookup(2);
-    let second = lookup(3);
+    let first = lookup(2, 0);
+    let second = lookup(3, 0);
     let turns = [
         Next::Bytes(&INIT_7_8),
         Next::Bytes(&first),
@@ -151,20 +143,10 @@ impl Sink for RefusingOnce {
     }
 }
 
-/// A FORGET of no lookup of the node 2.
-fn forget(id: u8) -> [u8; 48] {
-    let mut bytes = [0; 48];
-    bytes[0] = 48;
-    bytes[4] = 2;
-    bytes[8] = id;
-    bytes[16] = 2;
-    bytes
-}
-
 #[test]
 fn a_note_that_is_refused_is_lost(rt: HostRuntime) -> Result<(), Fail> {
     let alloc = rt.alloc();
-    let source = source_of(alloc, &[&INIT_7_8, &forget(2), &forget(3)])?;
+    let source = source_of(alloc, &[&INIT_7_8, &forget(2, 0), &forget(3, 0)])?;
     let sink = RefusingOnce {
         inner: MemorySink::new(alloc, Vec::new(alloc)),
         faults: 0,
@@ -183,7 +165,7 @@ fn a_note_that_is_refused_is_lost(rt: HostRuntime) -> Result<(), Fail> {
         destroyed: 1,
     };
     assert_eq!(rt; course, expected);
-    assert_eq!(rt; sink.inner.notes(), [(RequestId(3), 2)].as_slice());
+    assert_eq!(rt; sink.inner.notes(), [(RequestId(3), 3)].as_slice());
     Ok(())
 }
 

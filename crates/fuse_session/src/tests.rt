@@ -266,7 +266,7 @@ fn fill(message: &mut [u8], head: &[u8], body: &[u8]) {
 }
 
 /// A LOOKUP of the name `none`.
-fn lookup(id: u8, uid: u8) -> [u8; 45] {
+pub(crate) fn lookup(id: u8, uid: u8) -> [u8; 45] {
     let mut bytes = [0; 45];
     fill(&mut bytes, &message(1, id, 1, uid), b"none\0");
     bytes
@@ -281,7 +281,7 @@ fn read(id: u8, uid: u8, last: u8) -> [u8; 80] {
 }
 
 /// A FORGET of one lookup.
-fn forget(id: u8, uid: u8) -> [u8; 48] {
+pub(crate) fn forget(id: u8, uid: u8) -> [u8; 48] {
     let mut bytes = [0; 48];
     fill(&mut bytes, &message(2, id, 2, uid), &[1]);
     bytes
