@@ -5,8 +5,8 @@ ghost use Rattle.fuse_reply.specs.Reply.{Replies};
 ghost use Rattle.fuse_reply.specs.Answer.{IsAnswer};
 ghost use Rattle.fuse_reply.specs.Answer.Answer.{Data, Error};
 
-use crate::{NoMemory, Out, Packed, Replied};
-use fuse_wire::{Errno, RequestId};
+use crate::{Out, Packed, Replied};
+use fuse_wire::{Errno, NoMemory, RequestId};
 use std::alloc::Global;
 use std::marker::Model;
 

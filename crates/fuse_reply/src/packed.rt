@@ -4,8 +4,7 @@ ghost use Rattle.fuse_wire.specs.Numbers.{number};
 ghost use Rattle.fuse_wire.specs.Sink.{Sends};
 ghost use Rattle.fuse_reply.specs.Frame.{frame, out_header};
 
-use crate::NoMemory;
-use fuse_wire::{RequestId, Sending, Sink};
+use fuse_wire::{NoMemory, RequestId, Sending, Sink};
 use smallvec::SmallVec;
 use std::alloc::Global;
 use std::marker::Model;
