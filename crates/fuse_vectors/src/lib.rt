@@ -2,7 +2,6 @@
 //! stand apart from the code that they test, since the gate proves a crate once more for the tests that stand in it.
 #![tactic(auto)]
 
-mod buffer;
 #[cfg(test)]
 mod devices;
 #[cfg(test)]
@@ -15,5 +14,3 @@ mod names;
 mod numbers;
 #[cfg(test)]
 mod requests;
-
-pub use buffer::receive_buffer;

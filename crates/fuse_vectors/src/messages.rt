@@ -2,11 +2,13 @@
 ghost use Rattle.std.specs.Prelude.{◌≡◌, length};
 ghost use Rattle.fuse_wire.specs.declared.consts.TheConstants.{BUFFER_SIZE};
 
-use crate::receive_buffer;
 use fuse_wire::Received::{Failed, Gone, Message, Retry};
-use fuse_wire::{Items, MemoryBytes, MemorySource, Received, Source, StreamSource, Turn};
+use fuse_wire::{
+    Items, MemoryBytes, MemorySource, Received, Source, StreamSource, Turn, receive_buffer,
+};
 use std::alloc::{AllocError, Global};
 use std::process::Abort;
+use std::test::Fail;
 
 /// The length field of each message, and how many bytes of it there are: one is shorter than a header says that it is,
 /// one longer than the others, and the last ends where the stream does.
@@ -49,7 +51,7 @@ fn expect_messages<S: Source>(
 }
 
 #[test]
-fn a_stream_is_cut_by_its_length_fields(rt: HostRuntime) -> Result<(), AllocError> {
+fn a_stream_is_cut_by_its_length_fields(rt: HostRuntime) -> Result<(), Fail> {
     let alloc = rt.alloc();
     let messages = messages(alloc)?;
     let mut room = receive_buffer(alloc)?;
@@ -68,7 +70,7 @@ fn a_stream_is_cut_by_its_length_fields(rt: HostRuntime) -> Result<(), AllocErro
 }
 
 #[test]
-fn memory_gives_its_turns(rt: HostRuntime) -> Result<(), AllocError> {
+fn memory_gives_its_turns(rt: HostRuntime) -> Result<(), Fail> {
     let alloc = rt.alloc();
     let messages = messages(alloc)?;
     let mut turns = Vec::new(alloc);
@@ -124,7 +126,7 @@ fn expect_answer(
 }
 
 #[test]
-fn turns_are_answered_in_order(rt: HostRuntime) -> Result<(), AllocError> {
+fn turns_are_answered_in_order(rt: HostRuntime) -> Result<(), Fail> {
     let alloc = rt.alloc();
     let mut room = receive_buffer(alloc)?;
     let buffer = room.as_mut_slice();
@@ -152,7 +154,7 @@ fn failing_stream(alloc: Global, call: u64) -> Result<MemoryBytes, AllocError> {
 }
 
 #[test]
-fn a_read_that_fails_is_a_fault_of_the_source(rt: HostRuntime) -> Result<(), AllocError> {
+fn a_read_that_fails_is_a_fault_of_the_source(rt: HostRuntime) -> Result<(), Fail> {
     let alloc = rt.alloc();
     let mut room = receive_buffer(alloc)?;
     let buffer = room.as_mut_slice();

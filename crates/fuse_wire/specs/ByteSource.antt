@@ -2,7 +2,7 @@
 use Rattle.std.specs.Prelude.{◌≡◌, ◌≤◌, ◌++◌, ℕ, [], List, Option, IfSome, option_map, length, take}
 use Rattle.fuse_wire.specs.Faults.{Rose}
 use Rattle.fuse_wire.specs.declared.byte_source.ByteRead.{ByteRead}
-use Rattle.fuse_wire.specs.declared.byte_source.ByteRead.TheVariants.{Got, End, Failed}
+use Rattle.fuse_wire.specs.declared.byte_source.ByteRead.TheVariants.{Got, End, Failed as Unread}
 
 -- the bytes left, where the device tells them, and how often it has failed
 pub record ByteSourceState : Type 0 where
@@ -14,7 +14,16 @@ pub record TakesBytes (taken : List ℕ) (before after : ByteSourceState) : Type
   pub bytes : before.bytes ≡ option_map (λ left. taken ++ left) after.bytes
   pub faults : before.faults ≤ after.faults
 
+-- no byte is left, where the stream tells it
+abbrev pub NoByteLeft : ByteSourceState → Type 0
+NoByteLeft s = IfSome s.bytes (λ left. left ≡ [])
+
+-- the stream failed in this stretch, and counted it; of the bytes this says nothing
+abbrev pub Failed : ByteSourceState → ByteSourceState → Type 0
+Failed before after = (before.faults ≤ after.faults) × Rose before.faults after.faults
+
+-- what one read does, by its answer
 abbrev pub Reads : ByteRead → ByteSourceState → ByteSourceState → List ℕ → Type 0
 Reads (Got n) before after piece = (1 ≤ n) × (n ≤ length piece) × TakesBytes (take n piece) before after
-Reads End before after piece = IfSome before.bytes (λ left. left ≡ []) × TakesBytes [] before after
-Reads Failed before after piece = (before.faults ≤ after.faults) × Rose before.faults after.faults
+Reads End before after piece = NoByteLeft before × TakesBytes [] before after
+Reads Unread before after piece = Failed before after

@@ -3,7 +3,7 @@ use Rattle.std.specs.Prelude.{◌≡◌, ◌≤◌, ◌++◌, ℕ, [], ◌∷◌
 use Rattle.fuse_wire.specs.Faults.{Rose}
 use Rattle.fuse_wire.specs.declared.consts.TheConstants.{BUFFER_SIZE}
 use Rattle.fuse_wire.specs.declared.source.Received.{Received}
-use Rattle.fuse_wire.specs.declared.source.Received.TheVariants.{Message, Gone, Retry, Failed}
+use Rattle.fuse_wire.specs.declared.source.Received.TheVariants.{Message, Gone, Retry, Failed as Unreceived}
 
 -- the turns still to come, each the bytes of one message, where the source tells them, and how often it has failed
 pub record SourceState : Type 0 where
@@ -26,9 +26,17 @@ pub record TakesMessage (n : ℕ) (before after : SourceState) (buffer : List �
   pub fits : n ≤ BUFFER_SIZE
   pub bytes : take n buffer ≡ message turn
 
--- a failure says nothing of the turns
+-- nothing is left, where the source tells it
+abbrev pub NothingLeft : SourceState → Type 0
+NothingLeft s = IfSome s.turns (λ left. left ≡ [])
+
+-- the source failed in this stretch, and counted it; of the turns this says nothing
+abbrev pub Failed : SourceState → SourceState → Type 0
+Failed before after = (before.faults ≤ after.faults) × Rose before.faults after.faults
+
+-- what one receive does, by its answer
 abbrev pub Receives : Received → SourceState → SourceState → List ℕ → Type 0
 Receives (Message n) before after buffer = TakesMessage n before after buffer
-Receives Gone before after buffer = IfSome before.turns (λ left. left ≡ []) × Takes [] before after
+Receives Gone before after buffer = NothingLeft before × Takes [] before after
 Receives Retry before after buffer = Takes [] before after
-Receives Failed before after buffer = (before.faults ≤ after.faults) × Rose before.faults after.faults
+Receives Unreceived before after buffer = Failed before after

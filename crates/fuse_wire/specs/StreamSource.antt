@@ -1,9 +1,8 @@
 -- A source that cuts a stream of bytes into messages.
-use Rattle.std.specs.Prelude.{◌≡◌, ◌≤◌, ◌<◌, ℕ, [], List, Option, None, Some, IfSome, option_map, take}
-use Rattle.fuse_wire.specs.Faults.{Rose}
+use Rattle.std.specs.Prelude.{◌≤◌, ◌<◌, ℕ, List, Option, None, Some, option_map, take}
 use Rattle.fuse_wire.specs.Cut.{cut}
 use Rattle.fuse_wire.specs.Source.{SourceState}
-use Rattle.fuse_wire.specs.ByteSource.{ByteSourceState, TakesBytes}
+use Rattle.fuse_wire.specs.ByteSource.{ByteSourceState, TakesBytes, NoByteLeft, Failed}
 use Rattle.fuse_wire.specs.declared.stream_source.StreamSource.{StreamSource}
 
 -- the stream that the source cuts
@@ -18,8 +17,9 @@ stream_told stream = record { turns = option_map cut stream.bytes; faults = stre
 pub record Filled (count size : ℕ) (before after : ByteSourceState) (piece : List ℕ) : Type 0 where
   pub fits : count ≤ size
   pub taken : TakesBytes (take count piece) before after
-  pub whole : count < size → IfSome after.bytes (λ left. left ≡ [])
+  pub whole : count < size → NoByteLeft after
 
+-- what filling a piece of this size did: so many bytes came, or a read failed
 abbrev pub Fills : Option ℕ → ℕ → ByteSourceState → ByteSourceState → List ℕ → Type 0
 Fills (Some count) size before after piece = Filled count size before after piece
-Fills None size before after piece = (before.faults ≤ after.faults) × Rose before.faults after.faults
+Fills None size before after piece = Failed before after

@@ -5,6 +5,7 @@
 
 mod access_flags;
 mod attr_flags;
+mod buffer;
 mod byte_sink;
 mod byte_source;
 pub mod consts;
@@ -38,6 +39,7 @@ mod time;
 
 pub use access_flags::AccessFlags;
 pub use attr_flags::{FattrFlags, GetattrFlags};
+pub use buffer::receive_buffer;
 pub use byte_sink::{ByteSink, ByteWrite};
 pub use byte_source::{ByteRead, ByteSource};
 pub use duration::Duration;
