@@ -3,179 +3,308 @@ use bitflags::Flags;
 use fuse_wire::{
     AccessFlags, BsdFileFlags, CopyFileRangeFlags, CuseInitFlags, Errno, FattrFlags, FopenFlags,
     FsyncFlags, GetattrFlags, InitFlags, IoctlFlags, PollEvents, PollFlags, ReadFlags,
-    ReleaseFlags, RenameFlags, WriteFlags, flag_names, named_errors,
+    ReleaseFlags, RenameFlags, WriteFlags,
 };
 use std::alloc::AllocError;
+use std::fmt::Debug;
 use std::process::Abort;
 
+// A row for each error: its name, the constant of that name, and the number of Linux.
+macro_rules! errors {
+    ($($name:ident $number:literal,)*) => {
+        [$((stringify!($name), Errno::$name, $number)),*]
+    };
+}
+
+const ERRORS: [(&str, Errno, i32); 87] = errors![
+    EPERM 1,
+    ENOENT 2,
+    ESRCH 3,
+    EINTR 4,
+    EIO 5,
+    ENXIO 6,
+    E2BIG 7,
+    ENOEXEC 8,
+    EBADF 9,
+    ECHILD 10,
+    EAGAIN 11,
+    ENOMEM 12,
+    EACCES 13,
+    EFAULT 14,
+    ENOTBLK 15,
+    EBUSY 16,
+    EEXIST 17,
+    EXDEV 18,
+    ENODEV 19,
+    ENOTDIR 20,
+    EISDIR 21,
+    EINVAL 22,
+    ENFILE 23,
+    EMFILE 24,
+    ENOTTY 25,
+    ETXTBSY 26,
+    EFBIG 27,
+    ENOSPC 28,
+    ESPIPE 29,
+    EROFS 30,
+    EMLINK 31,
+    EPIPE 32,
+    EDOM 33,
+    ERANGE 34,
+    EDEADLK 35,
+    ENAMETOOLONG 36,
+    ENOLCK 37,
+    ENOSYS 38,
+    ENOTEMPTY 39,
+    ELOOP 40,
+    EWOULDBLOCK 11,
+    ENOMSG 42,
+    EIDRM 43,
+    ENODATA 61,
+    NO_XATTR 61,
+    EREMOTE 66,
+    ENOLINK 67,
+    EPROTO 71,
+    EMULTIHOP 72,
+    EBADMSG 74,
+    EOVERFLOW 75,
+    EILSEQ 84,
+    EUSERS 87,
+    ENOTSOCK 88,
+    EDESTADDRREQ 89,
+    EMSGSIZE 90,
+    EPROTOTYPE 91,
+    ENOPROTOOPT 92,
+    EPROTONOSUPPORT 93,
+    ESOCKTNOSUPPORT 94,
+    EOPNOTSUPP 95,
+    ENOTSUP 95,
+    EPFNOSUPPORT 96,
+    EAFNOSUPPORT 97,
+    EADDRINUSE 98,
+    EADDRNOTAVAIL 99,
+    ENETDOWN 100,
+    ENETUNREACH 101,
+    ENETRESET 102,
+    ECONNABORTED 103,
+    ECONNRESET 104,
+    ENOBUFS 105,
+    EISCONN 106,
+    ENOTCONN 107,
+    ESHUTDOWN 108,
+    ETOOMANYREFS 109,
+    ETIMEDOUT 110,
+    ECONNREFUSED 111,
+    EHOSTDOWN 112,
+    EHOSTUNREACH 113,
+    EALREADY 114,
+    EINPROGRESS 115,
+    ESTALE 116,
+    EDQUOT 122,
+    ECANCELED 125,
+    EOWNERDEAD 130,
+    ENOTRECOVERABLE 131,
+];
+
 #[test]
-fn names_have_the_numbers_of_linux(rt: HostRuntime) {
-    for (name, errno, number) in named_errors() {
-        let numbers = [errno.code(), i32::from(errno)];
-        assert_eq!(rt; numbers, [number; 2], "{name}");
-        assert_eq!(rt; Errno::from_i32(number), errno, "{name}");
+fn errors_have_the_numbers_of_linux(rt: HostRuntime) {
+    for (name, errno, number) in &ERRORS {
+        let numbers = [errno.code(), i32::from(*errno)];
+        assert_eq!(rt; numbers, [*number; 2], "{name}");
+        assert_eq!(rt; Errno::from_i32(*number).code(), *number, "{name}");
     }
 }
 
 #[test]
 fn what_is_not_positive_is_eio(rt: HostRuntime) {
     for number in [0, -1, -2, -5, i32::MIN] {
-        assert_eq!(rt; Errno::from_i32(number), Errno::EIO, "of {number}");
+        assert_eq!(rt; Errno::from_i32(number).code(), 5, "of {number}");
     }
 }
 
-// Says whether the names and the constants of a set have these names and bits.
-fn names<F: Flags<Bits = u32>>(
-    rt: &impl Abort,
-    constants: &[(&'static str, F)],
-    expected: &[(&str, u32)],
-) {
+// A row for each flag of a set: its name, the constant of that name, and its bits, of which one is set.
+macro_rules! flags {
+    ($set:ident: $($name:ident $bit:literal,)*) => {
+        [$((stringify!($name), $set::$name, 1 << $bit)),*]
+    };
+}
+
+const RENAME_FLAGS: [(&str, RenameFlags, u32); 3] = flags![
+    RenameFlags:
+    RENAME_NOREPLACE 0,
+    RENAME_EXCHANGE 1,
+    RENAME_WHITEOUT 2,
+];
+
+const POLL_EVENTS: [(&str, PollEvents, u32); 10] = flags![
+    PollEvents:
+    POLLIN 0,
+    POLLPRI 1,
+    POLLOUT 2,
+    POLLERR 3,
+    POLLHUP 4,
+    POLLNVAL 5,
+    POLLRDNORM 6,
+    POLLRDBAND 7,
+    POLLWRNORM 8,
+    POLLWRBAND 9,
+];
+
+const FOPEN_FLAGS: [(&str, FopenFlags, u32); 8] = flags![
+    FopenFlags:
+    FOPEN_DIRECT_IO 0,
+    FOPEN_KEEP_CACHE 1,
+    FOPEN_NONSEEKABLE 2,
+    FOPEN_CACHE_DIR 3,
+    FOPEN_STREAM 4,
+    FOPEN_NOFLUSH 5,
+    FOPEN_PARALLEL_DIRECT_WRITES 6,
+    FOPEN_PASSTHROUGH 7,
+];
+
+const FSYNC_FLAGS: [(&str, FsyncFlags, u32); 1] = flags![
+    FsyncFlags:
+    FUSE_FSYNC_FDATASYNC 0,
+];
+
+const IOCTL_FLAGS: [(&str, IoctlFlags, u32); 6] = flags![
+    IoctlFlags:
+    FUSE_IOCTL_COMPAT 0,
+    FUSE_IOCTL_UNRESTRICTED 1,
+    FUSE_IOCTL_RETRY 2,
+    FUSE_IOCTL_32BIT 3,
+    FUSE_IOCTL_DIR 4,
+    FUSE_IOCTL_COMPAT_X32 5,
+];
+
+const POLL_FLAGS: [(&str, PollFlags, u32); 1] = flags![
+    PollFlags:
+    FUSE_POLL_SCHEDULE_NOTIFY 0,
+];
+
+const WRITE_FLAGS: [(&str, WriteFlags, u32); 3] = flags![
+    WriteFlags:
+    FUSE_WRITE_CACHE 0,
+    FUSE_WRITE_LOCKOWNER 1,
+    FUSE_WRITE_KILL_SUIDGID 2,
+];
+
+const READ_FLAGS: [(&str, ReadFlags, u32); 1] = flags![
+    ReadFlags:
+    FUSE_READ_LOCKOWNER 1,
+];
+
+const GETATTR_FLAGS: [(&str, GetattrFlags, u32); 1] = flags![
+    GetattrFlags:
+    FUSE_GETATTR_FH 0,
+];
+
+const CUSE_INIT_FLAGS: [(&str, CuseInitFlags, u32); 1] = flags![
+    CuseInitFlags:
+    CUSE_UNRESTRICTED_IOCTL 0,
+];
+
+const RELEASE_FLAGS: [(&str, ReleaseFlags, u32); 2] = flags![
+    ReleaseFlags:
+    FUSE_RELEASE_FLUSH 0,
+    FUSE_RELEASE_FLOCK_UNLOCK 1,
+];
+
+const FATTR_FLAGS: [(&str, FattrFlags, u32); 11] = flags![
+    FattrFlags:
+    FATTR_MODE 0,
+    FATTR_UID 1,
+    FATTR_GID 2,
+    FATTR_SIZE 3,
+    FATTR_ATIME 4,
+    FATTR_MTIME 5,
+    FATTR_FH 6,
+    FATTR_ATIME_NOW 7,
+    FATTR_MTIME_NOW 8,
+    FATTR_LOCKOWNER 9,
+    FATTR_CTIME 10,
+];
+
+const INIT_FLAGS: [(&str, InitFlags, u64); 43] = flags![
+    InitFlags:
+    FUSE_ASYNC_READ 0,
+    FUSE_POSIX_LOCKS 1,
+    FUSE_FILE_OPS 2,
+    FUSE_ATOMIC_O_TRUNC 3,
+    FUSE_EXPORT_SUPPORT 4,
+    FUSE_BIG_WRITES 5,
+    FUSE_DONT_MASK 6,
+    FUSE_SPLICE_WRITE 7,
+    FUSE_SPLICE_MOVE 8,
+    FUSE_SPLICE_READ 9,
+    FUSE_FLOCK_LOCKS 10,
+    FUSE_HAS_IOCTL_DIR 11,
+    FUSE_AUTO_INVAL_DATA 12,
+    FUSE_DO_READDIRPLUS 13,
+    FUSE_READDIRPLUS_AUTO 14,
+    FUSE_ASYNC_DIO 15,
+    FUSE_WRITEBACK_CACHE 16,
+    FUSE_NO_OPEN_SUPPORT 17,
+    FUSE_PARALLEL_DIROPS 18,
+    FUSE_HANDLE_KILLPRIV 19,
+    FUSE_POSIX_ACL 20,
+    FUSE_ABORT_ERROR 21,
+    FUSE_MAX_PAGES 22,
+    FUSE_CACHE_SYMLINKS 23,
+    FUSE_NO_OPENDIR_SUPPORT 24,
+    FUSE_EXPLICIT_INVAL_DATA 25,
+    FUSE_MAP_ALIGNMENT 26,
+    FUSE_SUBMOUNTS 27,
+    FUSE_HANDLE_KILLPRIV_V2 28,
+    FUSE_SETXATTR_EXT 29,
+    FUSE_INIT_EXT 30,
+    FUSE_INIT_RESERVED 31,
+    FUSE_SECURITY_CTX 32,
+    FUSE_HAS_INODE_DAX 33,
+    FUSE_CREATE_SUPP_GROUP 34,
+    FUSE_HAS_EXPIRE_ONLY 35,
+    FUSE_DIRECT_IO_ALLOW_MMAP 36,
+    FUSE_PASSTHROUGH 37,
+    FUSE_NO_EXPORT_SUPPORT 38,
+    FUSE_HAS_RESEND 39,
+    FUSE_ALLOW_IDMAP 40,
+    FUSE_OVER_IO_URING 41,
+    FUSE_REQUEST_TIMEOUT 42,
+];
+
+/// The set has just these flags, in this order, and each constant has the bits of its name.
+fn expect_names<F: Flags>(rt: &impl Abort, rows: &[(&'static str, F, <F as Flags>::Bits)])
+where
+    <F as Flags>::Bits: Debug,
+{
     let flags = F::flags();
-    assert_eq!(rt; flags.len(), expected.len());
-    assert_eq!(rt; constants.len(), expected.len());
-    for i in 0..expected.len() {
+    assert_eq!(rt; flags.len(), rows.len());
+    for i in 0..rows.len() {
         let flag = &flags[i];
-        let constant = &constants[i];
-        let found = [
-            (flag.name(), flag.value().bits()),
-            (constant.0, constant.1.bits()),
-        ];
-        assert_eq!(rt; found, [expected[i]; 2]);
+        let (name, constant, bits) = &rows[i];
+        let found = (flag.name(), flag.value().bits(), constant.bits());
+        assert_eq!(rt; found, (*name, *bits, *bits));
     }
 }
 
-// Says whether the names of a set are these, with the bits 0, 1, 2 and so on.
-fn names_in_order<F: Flags<Bits = u64>>(rt: &impl Abort, expected: &[&str]) {
-    let flags = F::flags();
-    assert_eq!(rt; flags.len(), expected.len());
-    let mut bit = 1u64;
-    for i in 0..flags.len() {
-        let flag = &flags[i];
-        let found = (flag.name(), flag.value().bits());
-        assert_eq!(rt; found, (expected[i], bit));
-        bit = bit.wrapping_mul(2);
-    }
+#[test]
+fn flags_have_their_names_and_bits(rt: HostRuntime) {
+    expect_names(&rt, &RENAME_FLAGS);
+    expect_names(&rt, &POLL_EVENTS);
+    expect_names(&rt, &FOPEN_FLAGS);
+    expect_names(&rt, &FSYNC_FLAGS);
+    expect_names(&rt, &IOCTL_FLAGS);
+    expect_names(&rt, &POLL_FLAGS);
+    expect_names(&rt, &WRITE_FLAGS);
+    expect_names(&rt, &READ_FLAGS);
+    expect_names(&rt, &GETATTR_FLAGS);
+    expect_names(&rt, &CUSE_INIT_FLAGS);
+    expect_names(&rt, &RELEASE_FLAGS);
+    expect_names(&rt, &FATTR_FLAGS);
+    expect_names(&rt, &INIT_FLAGS);
+    expect_names::<BsdFileFlags>(&rt, &[]);
+    expect_names::<CopyFileRangeFlags>(&rt, &[]);
 }
-
-const RENAME_FLAGS: [(&str, u32); 3] = [
-    ("RENAME_NOREPLACE", 1 << 0),
-    ("RENAME_EXCHANGE", 1 << 1),
-    ("RENAME_WHITEOUT", 1 << 2),
-];
-
-const POLL_EVENTS: [(&str, u32); 10] = [
-    ("POLLIN", 1 << 0),
-    ("POLLPRI", 1 << 1),
-    ("POLLOUT", 1 << 2),
-    ("POLLERR", 1 << 3),
-    ("POLLHUP", 1 << 4),
-    ("POLLNVAL", 1 << 5),
-    ("POLLRDNORM", 1 << 6),
-    ("POLLRDBAND", 1 << 7),
-    ("POLLWRNORM", 1 << 8),
-    ("POLLWRBAND", 1 << 9),
-];
-
-const FOPEN_FLAGS: [(&str, u32); 8] = [
-    ("FOPEN_DIRECT_IO", 1 << 0),
-    ("FOPEN_KEEP_CACHE", 1 << 1),
-    ("FOPEN_NONSEEKABLE", 1 << 2),
-    ("FOPEN_CACHE_DIR", 1 << 3),
-    ("FOPEN_STREAM", 1 << 4),
-    ("FOPEN_NOFLUSH", 1 << 5),
-    ("FOPEN_PARALLEL_DIRECT_WRITES", 1 << 6),
-    ("FOPEN_PASSTHROUGH", 1 << 7),
-];
-
-const IOCTL_FLAGS: [(&str, u32); 6] = [
-    ("FUSE_IOCTL_COMPAT", 1 << 0),
-    ("FUSE_IOCTL_UNRESTRICTED", 1 << 1),
-    ("FUSE_IOCTL_RETRY", 1 << 2),
-    ("FUSE_IOCTL_32BIT", 1 << 3),
-    ("FUSE_IOCTL_DIR", 1 << 4),
-    ("FUSE_IOCTL_COMPAT_X32", 1 << 5),
-];
-
-const WRITE_FLAGS: [(&str, u32); 3] = [
-    ("FUSE_WRITE_CACHE", 1 << 0),
-    ("FUSE_WRITE_LOCKOWNER", 1 << 1),
-    ("FUSE_WRITE_KILL_SUIDGID", 1 << 2),
-];
-
-const FATTR_FLAGS: [(&str, u32); 11] = [
-    ("FATTR_MODE", 1 << 0),
-    ("FATTR_UID", 1 << 1),
-    ("FATTR_GID", 1 << 2),
-    ("FATTR_SIZE", 1 << 3),
-    ("FATTR_ATIME", 1 << 4),
-    ("FATTR_MTIME", 1 << 5),
-    ("FATTR_FH", 1 << 6),
-    ("FATTR_ATIME_NOW", 1 << 7),
-    ("FATTR_MTIME_NOW", 1 << 8),
-    ("FATTR_LOCKOWNER", 1 << 9),
-    ("FATTR_CTIME", 1 << 10),
-];
-
-const RELEASE_FLAGS: [(&str, u32); 2] = [
-    ("FUSE_RELEASE_FLUSH", 1 << 0),
-    ("FUSE_RELEASE_FLOCK_UNLOCK", 1 << 1),
-];
-
-const FSYNC_FLAGS: [(&str, u32); 1] = [("FUSE_FSYNC_FDATASYNC", 1 << 0)];
-
-const POLL_FLAGS: [(&str, u32); 1] = [("FUSE_POLL_SCHEDULE_NOTIFY", 1 << 0)];
-
-const READ_FLAGS: [(&str, u32); 1] = [("FUSE_READ_LOCKOWNER", 1 << 1)];
-
-const GETATTR_FLAGS: [(&str, u32); 1] = [("FUSE_GETATTR_FH", 1 << 0)];
-
-const CUSE_INIT_FLAGS: [(&str, u32); 1] = [("CUSE_UNRESTRICTED_IOCTL", 1 << 0)];
-
-const INIT_FLAGS: [&str; 43] = [
-    "FUSE_ASYNC_READ",
-    "FUSE_POSIX_LOCKS",
-    "FUSE_FILE_OPS",
-    "FUSE_ATOMIC_O_TRUNC",
-    "FUSE_EXPORT_SUPPORT",
-    "FUSE_BIG_WRITES",
-    "FUSE_DONT_MASK",
-    "FUSE_SPLICE_WRITE",
-    "FUSE_SPLICE_MOVE",
-    "FUSE_SPLICE_READ",
-    "FUSE_FLOCK_LOCKS",
-    "FUSE_HAS_IOCTL_DIR",
-    "FUSE_AUTO_INVAL_DATA",
-    "FUSE_DO_READDIRPLUS",
-    "FUSE_READDIRPLUS_AUTO",
-    "FUSE_ASYNC_DIO",
-    "FUSE_WRITEBACK_CACHE",
-    "FUSE_NO_OPEN_SUPPORT",
-    "FUSE_PARALLEL_DIROPS",
-    "FUSE_HANDLE_KILLPRIV",
-    "FUSE_POSIX_ACL",
-    "FUSE_ABORT_ERROR",
-    "FUSE_MAX_PAGES",
-    "FUSE_CACHE_SYMLINKS",
-    "FUSE_NO_OPENDIR_SUPPORT",
-    "FUSE_EXPLICIT_INVAL_DATA",
-    "FUSE_MAP_ALIGNMENT",
-    "FUSE_SUBMOUNTS",
-    "FUSE_HANDLE_KILLPRIV_V2",
-    "FUSE_SETXATTR_EXT",
-    "FUSE_INIT_EXT",
-    "FUSE_INIT_RESERVED",
-    "FUSE_SECURITY_CTX",
-    "FUSE_HAS_INODE_DAX",
-    "FUSE_CREATE_SUPP_GROUP",
-    "FUSE_HAS_EXPIRE_ONLY",
-    "FUSE_DIRECT_IO_ALLOW_MMAP",
-    "FUSE_PASSTHROUGH",
-    "FUSE_NO_EXPORT_SUPPORT",
-    "FUSE_HAS_RESEND",
-    "FUSE_ALLOW_IDMAP",
-    "FUSE_OVER_IO_URING",
-    "FUSE_REQUEST_TIMEOUT",
-];
 
 const ACCESS_FLAGS: [(AccessFlags, i32); 4] = [
     (AccessFlags::F_OK, 0),
@@ -185,26 +314,7 @@ const ACCESS_FLAGS: [(AccessFlags, i32); 4] = [
 ];
 
 #[test]
-fn names_and_values(rt: HostRuntime) {
-    names(&rt, &flag_names::rename_flags(), &RENAME_FLAGS);
-    names(&rt, &flag_names::poll_events(), &POLL_EVENTS);
-    names(&rt, &flag_names::poll_flags(), &POLL_FLAGS);
-    names(&rt, &flag_names::fopen_flags(), &FOPEN_FLAGS);
-    names(&rt, &flag_names::fsync_flags(), &FSYNC_FLAGS);
-    names(&rt, &flag_names::read_flags(), &READ_FLAGS);
-    names(&rt, &flag_names::write_flags(), &WRITE_FLAGS);
-    names(&rt, &flag_names::release_flags(), &RELEASE_FLAGS);
-    names(&rt, &flag_names::getattr_flags(), &GETATTR_FLAGS);
-    names(&rt, &flag_names::fattr_flags(), &FATTR_FLAGS);
-    names(&rt, &flag_names::ioctl_flags(), &IOCTL_FLAGS);
-    names(&rt, &flag_names::cuse_init_flags(), &CUSE_INIT_FLAGS);
-    names::<BsdFileFlags>(&rt, &[], &[]);
-}
-
-#[test]
-fn names_in_order_of_their_bits(rt: HostRuntime) {
-    names_in_order::<CopyFileRangeFlags>(&rt, &[]);
-    names_in_order::<InitFlags>(&rt, &INIT_FLAGS);
+fn what_access_asks_has_the_numbers_of_linux(rt: HostRuntime) {
     for (flag, value) in &ACCESS_FLAGS {
         assert_eq!(rt; flag.bits(), *value);
     }

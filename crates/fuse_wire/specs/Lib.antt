@@ -16,13 +16,8 @@ pub mod MemorySink
 pub mod StreamSource
 pub mod StreamSink
 pub mod HeldSink
-pub mod InitFlags
 pub mod Times
 pub mod OpenMode
-pub mod FileFlags
-pub mod NodeFlags
-pub mod AttrFlags
-pub mod PollFlags
-pub mod IoctlFlags
+pub mod FlagNames
 pub mod AccessFlags
 pub mod StdDevices

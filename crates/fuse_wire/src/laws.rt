@@ -1,9 +1,10 @@
-//! Laws of the definitions. Each function here does nothing, or gives constants: its contract is the law, which holds of all
-//! its arguments.
+//! Laws of the definitions. Each function here does nothing, or gives constants: its contract is the law, which holds of
+//! all its arguments.
 ghost use Rattle.std.specs.Prelude.{ℕ, List, ◌≡◌, ◌<◌, ◌^◌, ◌+◌, ◌/◌, ◌%◌, [], ◌∷◌, ◌++◌, map, pos, IsTrue, nat_eq};
 ghost use Rattle.std.specs.Cmp.Lexicographic.{pointwise};
 ghost use Rattle.std.specs.Ordering.{int_cmp, int_eq, nat_cmp};
-ghost use Rattle.fuse_wire.specs.Numbered.{AsBits, AsNumber, AsTwoNumbers, OrderedAs, SaysSame, same_attributes, variant};
+ghost use Rattle.fuse_wire.specs.Numbered.{AsBits, AsNumber, AsTwoNumbers, OrderedAs, SaysSame, same_attributes};
+ghost use Rattle.fuse_wire.specs.Numbered.{variant};
 ghost use Rattle.std.specs.Hash as fed;
 ghost use Rattle.fuse_wire.specs.Times.{time_in, time_out};
 ghost use Rattle.fuse_wire.specs.declared.time.SystemTime.{SystemTime};
@@ -17,11 +18,11 @@ use crate::consts::{
     FUSE_MIN_READ_BUFFER, MAX_WRITE_SIZE, REQUEST_HEADER_SIZE,
 };
 use crate::{
-    AccessFlags, BsdFileFlags, CopyFileRangeFlags, CuseInitFlags, Duration, Errno, FattrFlags,
-    FileAttr, FileHandle, FileType, FopenFlags, FsyncFlags, Generation, GetattrFlags, INodeNo,
-    InitFlags, IoctlFlags, Items, LockOwner, OpenAccMode, OpenFlags, PollEvents, PollFlags,
-    PollHandle, ReadFlags, ReleaseFlags, RenameFlags, RequestId, SystemTime, TimeOrNow, Version,
-    WriteFlags,
+    AccessFlags, BsdFileFlags, ByteRead, ByteWrite, CopyFileRangeFlags, CuseInitFlags, Duration,
+    Errno, FattrFlags, FileAttr, FileHandle, FileType, FopenFlags, FsyncFlags, Generation,
+    GetattrFlags, INodeNo, InitFlags, IoctlFlags, Items, LockOwner, NoMemory, Noting, OpenAccMode,
+    OpenFlags, PollEvents, PollFlags, PollHandle, ReadFlags, Received, ReleaseFlags, RenameFlags,
+    RequestId, Sending, SystemTime, TimeOrNow, Version, WriteFlags,
 };
 use std::cmp::Ordering;
 use std::hash::Hash;
@@ -32,8 +33,8 @@ pub fn equals_order_and_hash_alike<T: Ord + Hash>(one: &T, other: &T)
     ensures hash { IsTrue (T.eq one.now other.now) → T.hash_input one.now ≡ T.hash_input other.now }
 {}
 
-/// The newtypes are compared and hashed as their numbers: a version by its major number, and where that is the same by its
-/// minor one.
+/// The newtypes are compared and hashed as their numbers: a version by its major number, and where that is the same by
+/// its minor one.
 pub fn compared_as_numbers()
     ensures generations { AsNumber (λ n. n.0) ⟦<Generation as PartialEq>⟧.eq ⟦<Generation as PartialOrd>⟧.partial_cmp
         ⟦<Generation as Ord>⟧.cmp ⟦<Generation as Hash>⟧.hash_input }
@@ -47,8 +48,8 @@ pub fn compared_as_numbers()
         ⟦<LockOwner as Ord>⟧.cmp ⟦<LockOwner as Hash>⟧.hash_input }
     ensures poll_handles { AsNumber (λ n. n.0) ⟦<PollHandle as PartialEq>⟧.eq ⟦<PollHandle as PartialOrd>⟧.partial_cmp
         ⟦<PollHandle as Ord>⟧.cmp ⟦<PollHandle as Hash>⟧.hash_input }
-    ensures versions { AsTwoNumbers (λ v. v.0) (λ v. v.1) ⟦<Version as PartialEq>⟧.eq ⟦<Version as PartialOrd>⟧.partial_cmp
-        ⟦<Version as Ord>⟧.cmp ⟦<Version as Hash>⟧.hash_input }
+    ensures versions { AsTwoNumbers (λ v. v.0) (λ v. v.1) ⟦<Version as PartialEq>⟧.eq
+        ⟦<Version as PartialOrd>⟧.partial_cmp ⟦<Version as Ord>⟧.cmp ⟦<Version as Hash>⟧.hash_input }
 {}
 
 /// Times and spans of time are compared as their nanoseconds. Times are hashed as these, and spans as their seconds and
@@ -65,23 +66,40 @@ pub fn compared_as_nanoseconds()
 
 /// Sets of flags and flag numbers are equal where they have the same bits, and are hashed as these.
 pub fn sets_compared_by_their_bits()
-    ensures rename_flags { AsBits (λ f. f.0) nat_eq fed.u32 ⟦<RenameFlags as PartialEq>⟧.eq ⟦<RenameFlags as Hash>⟧.hash_input }
-    ensures poll_events { AsBits (λ f. f.0) nat_eq fed.u32 ⟦<PollEvents as PartialEq>⟧.eq ⟦<PollEvents as Hash>⟧.hash_input }
-    ensures poll_flags { AsBits (λ f. f.0) nat_eq fed.u32 ⟦<PollFlags as PartialEq>⟧.eq ⟦<PollFlags as Hash>⟧.hash_input }
-    ensures fopen_flags { AsBits (λ f. f.0) nat_eq fed.u32 ⟦<FopenFlags as PartialEq>⟧.eq ⟦<FopenFlags as Hash>⟧.hash_input }
-    ensures fsync_flags { AsBits (λ f. f.0) nat_eq fed.u32 ⟦<FsyncFlags as PartialEq>⟧.eq ⟦<FsyncFlags as Hash>⟧.hash_input }
-    ensures read_flags { AsBits (λ f. f.0) nat_eq fed.u32 ⟦<ReadFlags as PartialEq>⟧.eq ⟦<ReadFlags as Hash>⟧.hash_input }
-    ensures write_flags { AsBits (λ f. f.0) nat_eq fed.u32 ⟦<WriteFlags as PartialEq>⟧.eq ⟦<WriteFlags as Hash>⟧.hash_input }
-    ensures release_flags { AsBits (λ f. f.0) nat_eq fed.u32 ⟦<ReleaseFlags as PartialEq>⟧.eq ⟦<ReleaseFlags as Hash>⟧.hash_input }
-    ensures getattr_flags { AsBits (λ f. f.0) nat_eq fed.u32 ⟦<GetattrFlags as PartialEq>⟧.eq ⟦<GetattrFlags as Hash>⟧.hash_input }
-    ensures fattr_flags { AsBits (λ f. f.0) nat_eq fed.u32 ⟦<FattrFlags as PartialEq>⟧.eq ⟦<FattrFlags as Hash>⟧.hash_input }
-    ensures ioctl_flags { AsBits (λ f. f.0) nat_eq fed.u32 ⟦<IoctlFlags as PartialEq>⟧.eq ⟦<IoctlFlags as Hash>⟧.hash_input }
-    ensures cuse_init_flags { AsBits (λ f. f.0) nat_eq fed.u32 ⟦<CuseInitFlags as PartialEq>⟧.eq ⟦<CuseInitFlags as Hash>⟧.hash_input }
-    ensures bsd_file_flags { AsBits (λ f. f.0) nat_eq fed.u32 ⟦<BsdFileFlags as PartialEq>⟧.eq ⟦<BsdFileFlags as Hash>⟧.hash_input }
-    ensures copy_file_range_flags { AsBits (λ f. f.0) nat_eq fed.u64 ⟦<CopyFileRangeFlags as PartialEq>⟧.eq ⟦<CopyFileRangeFlags as Hash>⟧.hash_input }
-    ensures init_flags { AsBits (λ f. f.0) nat_eq fed.u64 ⟦<InitFlags as PartialEq>⟧.eq ⟦<InitFlags as Hash>⟧.hash_input }
-    ensures open_flags { AsBits (λ f. f.0) int_eq fed.i32 ⟦<OpenFlags as PartialEq>⟧.eq ⟦<OpenFlags as Hash>⟧.hash_input }
-    ensures access_flags { AsBits (λ f. f.0) int_eq fed.i32 ⟦<AccessFlags as PartialEq>⟧.eq ⟦<AccessFlags as Hash>⟧.hash_input }
+    ensures rename_flags { AsBits (λ f. f.0) nat_eq fed.u32
+        ⟦<RenameFlags as PartialEq>⟧.eq ⟦<RenameFlags as Hash>⟧.hash_input }
+    ensures poll_events { AsBits (λ f. f.0) nat_eq fed.u32
+        ⟦<PollEvents as PartialEq>⟧.eq ⟦<PollEvents as Hash>⟧.hash_input }
+    ensures poll_flags { AsBits (λ f. f.0) nat_eq fed.u32
+        ⟦<PollFlags as PartialEq>⟧.eq ⟦<PollFlags as Hash>⟧.hash_input }
+    ensures fopen_flags { AsBits (λ f. f.0) nat_eq fed.u32
+        ⟦<FopenFlags as PartialEq>⟧.eq ⟦<FopenFlags as Hash>⟧.hash_input }
+    ensures fsync_flags { AsBits (λ f. f.0) nat_eq fed.u32
+        ⟦<FsyncFlags as PartialEq>⟧.eq ⟦<FsyncFlags as Hash>⟧.hash_input }
+    ensures read_flags { AsBits (λ f. f.0) nat_eq fed.u32
+        ⟦<ReadFlags as PartialEq>⟧.eq ⟦<ReadFlags as Hash>⟧.hash_input }
+    ensures write_flags { AsBits (λ f. f.0) nat_eq fed.u32
+        ⟦<WriteFlags as PartialEq>⟧.eq ⟦<WriteFlags as Hash>⟧.hash_input }
+    ensures release_flags { AsBits (λ f. f.0) nat_eq fed.u32
+        ⟦<ReleaseFlags as PartialEq>⟧.eq ⟦<ReleaseFlags as Hash>⟧.hash_input }
+    ensures getattr_flags { AsBits (λ f. f.0) nat_eq fed.u32
+        ⟦<GetattrFlags as PartialEq>⟧.eq ⟦<GetattrFlags as Hash>⟧.hash_input }
+    ensures fattr_flags { AsBits (λ f. f.0) nat_eq fed.u32
+        ⟦<FattrFlags as PartialEq>⟧.eq ⟦<FattrFlags as Hash>⟧.hash_input }
+    ensures ioctl_flags { AsBits (λ f. f.0) nat_eq fed.u32
+        ⟦<IoctlFlags as PartialEq>⟧.eq ⟦<IoctlFlags as Hash>⟧.hash_input }
+    ensures cuse_init_flags { AsBits (λ f. f.0) nat_eq fed.u32
+        ⟦<CuseInitFlags as PartialEq>⟧.eq ⟦<CuseInitFlags as Hash>⟧.hash_input }
+    ensures bsd_file_flags { AsBits (λ f. f.0) nat_eq fed.u32
+        ⟦<BsdFileFlags as PartialEq>⟧.eq ⟦<BsdFileFlags as Hash>⟧.hash_input }
+    ensures copy_file_range_flags { AsBits (λ f. f.0) nat_eq fed.u64
+        ⟦<CopyFileRangeFlags as PartialEq>⟧.eq ⟦<CopyFileRangeFlags as Hash>⟧.hash_input }
+    ensures init_flags { AsBits (λ f. f.0) nat_eq fed.u64
+        ⟦<InitFlags as PartialEq>⟧.eq ⟦<InitFlags as Hash>⟧.hash_input }
+    ensures open_flags { AsBits (λ f. f.0) int_eq fed.i32
+        ⟦<OpenFlags as PartialEq>⟧.eq ⟦<OpenFlags as Hash>⟧.hash_input }
+    ensures access_flags { AsBits (λ f. f.0) int_eq fed.i32
+        ⟦<AccessFlags as PartialEq>⟧.eq ⟦<AccessFlags as Hash>⟧.hash_input }
 {}
 
 /// Errors and the other values that have no order are equal where they are the same, and attributes where each field is.
@@ -90,17 +108,30 @@ pub fn equal_where_they_are_the_same()
     ensures open_modes { SaysSame ⟦<OpenAccMode as PartialEq>⟧.eq }
     ensures kinds { SaysSame ⟦<FileType as PartialEq>⟧.eq }
     ensures times_to_set { SaysSame ⟦<TimeOrNow as PartialEq>⟧.eq }
-    ensures attributes { (x y : FileAttr) → ⟦<FileAttr as PartialEq>⟧.eq x y ≡ same_attributes ⟦<FileType as PartialEq>⟧.eq x y }
+    ensures want_of_memory { SaysSame ⟦<NoMemory as PartialEq>⟧.eq }
+    ensures attributes { (x y : FileAttr) →
+        ⟦<FileAttr as PartialEq>⟧.eq x y ≡ same_attributes ⟦<FileType as PartialEq>⟧.eq x y }
 {}
 
-/// A value of an enum is hashed as the number of its variant, from 0 in the order in which these are declared, and then as
-/// what it holds.
+/// Answers of devices are equal where they are the same.
+pub fn answers_equal_where_they_are_the_same()
+    ensures received { SaysSame ⟦<Received as PartialEq>⟧.eq }
+    ensures sendings { SaysSame ⟦<Sending as PartialEq>⟧.eq }
+    ensures notings { SaysSame ⟦<Noting as PartialEq>⟧.eq }
+    ensures byte_reads { SaysSame ⟦<ByteRead as PartialEq>⟧.eq }
+    ensures byte_writes { SaysSame ⟦<ByteWrite as PartialEq>⟧.eq }
+{}
+
+/// A value of an enum is hashed as the number of its variant, from 0 in the order in which these are declared, and then
+/// as what it holds.
 pub fn hashed_by_their_variants()
-    ensures kinds { map ⟦<FileType as Hash>⟧.hash_input (FileKind.NamedPipe ∷ FileKind.CharDevice ∷ FileKind.BlockDevice
-        ∷ FileKind.Directory ∷ FileKind.RegularFile ∷ FileKind.Symlink ∷ FileKind.Socket ∷ [])
+    ensures kinds { map ⟦<FileType as Hash>⟧.hash_input (FileKind.NamedPipe ∷ FileKind.CharDevice
+        ∷ FileKind.BlockDevice ∷ FileKind.Directory ∷ FileKind.RegularFile ∷ FileKind.Symlink ∷ FileKind.Socket ∷ [])
         ≡ map variant (0 ∷ 1 ∷ 2 ∷ 3 ∷ 4 ∷ 5 ∷ 6 ∷ []) }
-    ensures open_modes { map ⟦<OpenAccMode as Hash>⟧.hash_input (O_RDONLY ∷ O_WRONLY ∷ O_RDWR ∷ []) ≡ map variant (0 ∷ 1 ∷ 2 ∷ []) }
-    ensures specific_times { (time : SystemTime) → ⟦<TimeOrNow as Hash>⟧.hash_input (SpecificTime time) ≡ variant 0 ++ fed.i128 time.0 }
+    ensures open_modes { map ⟦<OpenAccMode as Hash>⟧.hash_input (O_RDONLY ∷ O_WRONLY ∷ O_RDWR ∷ [])
+        ≡ map variant (0 ∷ 1 ∷ 2 ∷ []) }
+    ensures specific_times { (time : SystemTime) →
+        ⟦<TimeOrNow as Hash>⟧.hash_input (SpecificTime time) ≡ variant 0 ++ fed.i128 time.0 }
     ensures now { ⟦<TimeOrNow as Hash>⟧.hash_input Now ≡ variant 1 }
 {}
 
