@@ -138,7 +138,7 @@ fn keeps_frames_and_notes(rt: HostRuntime) {
     assert_eq!(rt; frame, expected.as_slice());
 }
 
-/// What a note and a send behind it are answered.
+/// What a note and a send after it are answered.
 const SENT: (Noting, Sending) = (Noting::Sent, Sending::Sent);
 
 const FAILED: (Noting, Sending) = (Noting::Sent, Sending::Failed);
@@ -288,7 +288,7 @@ const FAULTS: [(usize, u64, usize); 13] = [
 ];
 
 #[test]
-fn nothing_is_written_behind_a_write_that_failed(rt: HostRuntime) -> Result<(), AllocError> {
+fn nothing_is_written_after_a_write_that_failed(rt: HostRuntime) -> Result<(), AllocError> {
     let alloc = rt.alloc();
     for (step, fault, written) in &FAULTS {
         let faults = Vec::from_slice(alloc, &[*fault])?;

@@ -83,7 +83,7 @@ fn memory_gives_its_turns(rt: HostRuntime) -> Result<(), Fail> {
 }
 
 /// What each turn of a source in memory gives: a Retry before a message changes nothing, and a Fail takes no message.
-/// Behind the last turn there is no more.
+/// After the last turn there is no more.
 const ANSWERS: [&[Received]; 6] = [
     &[Retry, Message(48), Retry, Message(40), Retry, Gone, Gone],
     &[Message(48), Retry, Failed, Gone, Gone],

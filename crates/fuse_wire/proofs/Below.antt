@@ -4,7 +4,7 @@ use Rattle.std.specs.Io.{WritesAtMost}
 use Rattle.std.specs.Io.KnownBytes.{Appends, Keeps, WriteAppends}
 use Rattle.std.proofs.KnownBytes.{Appends-kept, Keeps-refl, Keeps-trans}
 
--- known bytes that stay have nothing put behind them
+-- known bytes that stay have nothing put after them
 appends_none : (a b : Option (List ℕ)) → Keeps a b → Appends a b []
 appends_none None b kept = tt
 appends_none (Some x) None kept = absurd kept

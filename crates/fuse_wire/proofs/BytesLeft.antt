@@ -3,7 +3,7 @@ use Rattle.std.proofs.Common.{◌≡◌, ℕ, ◌+◌, ◌-◌, ◌≤◌, List,
 use Rattle.std.proofs.lemmas.List.{take-append-drop, drop-drop, take-take, take_rest}
 use Rattle.fuse_wire.specs.ByteSource.{TakesBytes}
 
--- the front of what is left of some bytes, and what is left behind it
+-- the front of what is left of some bytes, and what is left after it
 pub TakesBytes-drop : (bytes front : List ℕ) (next n faults : ℕ) → front ≡ take n (drop next bytes) →
     TakesBytes front (record { bytes = Some (drop next bytes); faults = faults }) (record { bytes = Some (drop (next + n) bytes); faults = faults })
 TakesBytes-drop bytes front next n faults taken =

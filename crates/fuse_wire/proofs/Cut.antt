@@ -30,14 +30,14 @@ cut_in-zero : (bytes : List ℕ) → cut_in zero bytes ≡ []
 unfolding cut_in
 cut_in-zero bytes = refl
 
--- the first message is cut off, and then those behind it
+-- the first message is cut off, and then those after it
 pub cut_in-step : (more : ℕ) (bytes : List ℕ) → 0 < length bytes →
     cut_in (suc more) bytes ≡ take (first_length bytes) bytes ∷ cut_in more (drop (first_length bytes) bytes)
 unfolding cut_in
 cut_in-step more [] some = absurd (omega arith)
 cut_in-step more (byte ∷ bytes) some = refl
 
--- what is left behind the first message is shorter by one at least
+-- what is left after the first message is shorter by one at least
 first_length-left : (n : ℕ) (bytes : List ℕ) → 0 < length bytes → length bytes ≤ suc n → length (drop (first_length bytes) bytes) ≤ n
 first_length-left n bytes some within =
     omega (arith, length-drop (first_length bytes) bytes, first_length-some bytes some)
@@ -64,7 +64,7 @@ cut_in-enough n bytes within = cut_in-same n (length bytes) bytes within (omega 
 pub cut-nil : cut [] ≡ []
 cut-nil = cut_in-nil 0
 
--- the first message stands in front of those behind it
+-- the first message stands in front of those after it
 pub cut-step : (bytes : List ℕ) → 0 < length bytes → cut bytes ≡ take (first_length bytes) bytes ∷ cut (drop (first_length bytes) bytes)
 cut-step bytes some =
     let rest = drop (first_length bytes) bytes in

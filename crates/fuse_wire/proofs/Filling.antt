@@ -1,5 +1,6 @@
 -- A message read from a stream of bytes.
-use Rattle.std.proofs.Common.{◌≡◌, ℕ, ◌+◌, ◌-◌, ◌<◌, ◌≤◌, min, max, List, [], ◌∷◌, ◌++◌, Option, None, Some, option_map, IfSome, length, take, drop, sym, ap, subst, ◌∙◌, arith}
+use Rattle.std.proofs.Common.{◌≡◌, ℕ, ◌+◌, ◌-◌, ◌<◌, ◌≤◌, min, max, List, [], ◌∷◌, ◌++◌, Option, None, Some, option_map, IfSome}
+use Rattle.std.proofs.Common.{length, take, drop, sym, ap, subst, ◌∙◌, arith}
 use Rattle.std.proofs.lemmas.List.{length-take-le, take_all, take-append-le, length-append, length-drop}
 use Rattle.std.proofs.lemmas.Option.{IfSome_then}
 use Rattle.std.proofs.Math.Seq.{take-append-add}
@@ -99,7 +100,7 @@ first_length-filled : (taken : List ℕ) (after : Option (List ℕ)) → 4 ≤ l
 first_length-filled taken None header within ended = tt
 first_length-filled taken (Some left) header within ended = first_length-front taken left header within ended
 
--- a whole header, and behind it what its length field says, or all that was left of that
+-- a whole header, and after it what its length field says, or all that was left of that
 pub TakesMessage-long : (more end size : ℕ) (before between after : ByteSourceState) (held piece : List ℕ) →
     TakesBytes (take 40 held) before between → Filled more size between after piece →
     length held ≡ BUFFER_SIZE → end ≡ min BUFFER_SIZE (max 40 (number held 0 4)) → size ≡ end - 40 → length piece ≡ size →

@@ -1,5 +1,6 @@
 -- The frames of a stream that was made of whole frames, and of a part of one more.
-use Rattle.std.proofs.Common.{◌≡◌, ℕ, zero, suc, ◌+◌, ◌<◌, ◌≤◌, true, false, leb, ⊎_elim, List, [], ◌∷◌, ◌++◌, length, take, drop, refl, ap, sym, ◌∙◌, arith, append_assoc, length-append}
+use Rattle.std.proofs.Common.{◌≡◌, ℕ, zero, suc, ◌+◌, ◌<◌, ◌≤◌, true, false, leb, ⊎_elim, List, [], ◌∷◌, ◌++◌, length, take, drop}
+use Rattle.std.proofs.Common.{refl, ap, sym, ◌∙◌, arith, append_assoc, length-append}
 use Rattle.std.specs.List.{concat, AllByRecursion}
 use Rattle.std.proofs.lemmas.List.{take_at, drop_at, append-nil}
 use Rattle.std.proofs.lemmas.Bool.{le-leb, lt-leb, and_from, and_left, and_right, cond-true, cond-false, cases_lt}
@@ -12,11 +13,13 @@ use Rattle.fuse_wire.proofs.NumberLaws.{number-append}
 pub has_frame-short : (bytes : List ℕ) → length bytes < 16 → has_frame bytes ≡ false
 has_frame-short bytes short =
     ⊎_elim
-    (λ (small : frame_length bytes < 16). and_left (leb 16 (frame_length bytes)) (leb (frame_length bytes) (length bytes)) (lt-leb 16 (frame_length bytes) small))
-    (λ (large : 16 ≤ frame_length bytes). and_right (leb 16 (frame_length bytes)) (leb (frame_length bytes) (length bytes)) (lt-leb (frame_length bytes) (length bytes) (omega arith)))
+    (λ (small : frame_length bytes < 16). and_left (leb 16 (frame_length bytes)) (leb (frame_length bytes) (length bytes))
+    (lt-leb 16 (frame_length bytes) small))
+    (λ (large : 16 ≤ frame_length bytes). and_right (leb 16 (frame_length bytes)) (leb (frame_length bytes) (length bytes))
+    (lt-leb (frame_length bytes) (length bytes) (omega arith)))
     (cases_lt (frame_length bytes) 16)
 
--- a length field above what is there has no whole frame behind it
+-- a length field above what is there has no whole frame after it
 pub has_frame-long : (bytes : List ℕ) → length bytes < frame_length bytes → has_frame bytes ≡ false
 has_frame-long bytes long =
     and_right (leb 16 (frame_length bytes)) (leb (frame_length bytes) (length bytes)) (lt-leb (frame_length bytes) (length bytes) long)
@@ -67,7 +70,8 @@ frames_in-torn zero torn t = refl
 frames_in-torn (suc more) torn t = cond-false (has_frame torn) _ [] (has_frame-torn torn t)
 
 -- the frames of a stream of frames and of a part of one more, where enough are asked for
-pub frames_in-concat : (more : ℕ) (sent : List (List ℕ)) (torn : List ℕ) → AllByRecursion IsFrame sent → IsTorn torn → length (concat sent ++ torn) ≤ more → frames_in more (concat sent ++ torn) ≡ sent
+pub frames_in-concat : (more : ℕ) (sent : List (List ℕ)) (torn : List ℕ) → AllByRecursion IsFrame sent → IsTorn torn →
+    length (concat sent ++ torn) ≤ more → frames_in more (concat sent ++ torn) ≡ sent
 frames_in-concat more [] torn each t enough = frames_in-torn more torn t
 frames_in-concat zero (frame ∷ sent) torn each t enough =
     let header : 16 ≤ length frame = each.0.header in

@@ -10,10 +10,11 @@ use Rattle.fuse_wire.proofs.Options.{option_map-back_none}
 -- no send is listed as sent
 fails : (faults : List (ℕ × Sending)) (number : ℕ) → EachFails faults → answer_at faults number ≡ Some Sent → ⊥
 fails [] number each found = let no : None ≡ Some Sent = found in cc
-fails (fault ∷ faults) number each found = elim (fault.0 == number) as (λ (here : Bool). (if here then Some fault.1 else answer_at faults number) ≡ Some Sent → ⊥) [
-  | true ↦ λ found. each.0 (let same : fault.1 ≡ Sent = cc in same)
-  | false ↦ λ found. fails faults number each.1 found
-] found
+fails (fault ∷ faults) number each found = elim (fault.0 == number) as
+    (λ (here : Bool). (if here then Some fault.1 else answer_at faults number) ≡ Some Sent → ⊥) [
+      | true ↦ λ found. each.0 (let same : fault.1 ≡ Sent = cc in same)
+      | false ↦ λ found. fails faults number each.1 found
+    ] found
 
 -- nothing is put where a listed send fails, and the count of faults rises
 pub Refuses-listed : (before after : FramesHeld) → after ≡ sent_once before before.frames (counted before.reached 1) before.starved →

@@ -14,7 +14,7 @@ number-append xs ys at (suc width) fits =
     let rest : number (xs ++ ys) (suc at) width ≡ number xs (suc at) width = number-append xs ys (suc at) width (omega arith) in
     cc
 
--- behind a list, it is the number of what stands there
+-- after a list, it is the number of what stands there
 pub number-append_right : (xs ys : List ℕ) (at width : ℕ) → number (xs ++ ys) (length xs + at) width ≡ number ys at width
 unfolding number
 number-append_right xs ys at zero = refl
@@ -36,7 +36,8 @@ number-split bytes at (suc low) high =
     let width : suc low + high ≡ suc (low + high) = omega arith in
     let place : suc at + low ≡ at + suc low = omega arith in
     let opened : number bytes at (suc low + high) ≡ get_or bytes at 0 + 256 * number bytes (suc at) (low + high) = ap (number bytes at) width in
-    let rest : number bytes (suc at) (low + high) ≡ number bytes (suc at) low + 256 ^ low * number bytes (suc at + low) high = number-split bytes (suc at) low high in
+    let rest : number bytes (suc at) (low + high) ≡ number bytes (suc at) low + 256 ^ low * number bytes (suc at + low) high =
+    number-split bytes (suc at) low high in
     let moved : number bytes (suc at + low) high ≡ number bytes (at + suc low) high = ap (λ n. number bytes n high) place in
     let moved_product : 256 ^ low * number bytes (suc at + low) high ≡ 256 ^ low * number bytes (at + suc low) high = ap (λ n. 256 ^ low * n) moved in
     let worth : 256 ^ suc low * number bytes (at + suc low) high ≡ 256 * (256 ^ low * number bytes (at + suc low) high) =
@@ -52,7 +53,7 @@ number-below bytes at (suc width) each =
     let rest : number bytes (suc at) width < 256 ^ width = number-below bytes (suc at) width each in
     omega (arith, pow-succ' 256 width)
 
--- behind a byte
+-- after a byte
 pub number-cons : (x : ℕ) (xs : List ℕ) (at width : ℕ) → number (x ∷ xs) (suc at) width ≡ number xs at width
 number-cons x xs at width =
     let place : 1 + at ≡ suc at = omega arith in
@@ -72,7 +73,8 @@ number-bytes_low_first i (suc width) n rest fits =
     let low : byte_at i n ≡ n / 256 ^ i % 256 = byte_at_is i n in
     let parts : 256 * (n / 256 ^ i / 256) + n / 256 ^ i % 256 ≡ n / 256 ^ i = div-add-mod (n / 256 ^ i) 256 in
     let below : n / 256 ^ suc i < 256 ^ width = omega (arith, next, parts, fits, pow-succ' 256 width) in
-    let moved : number (byte_at i n ∷ (bytes_low_first (suc i) width n ++ rest)) 1 width ≡ number (bytes_low_first (suc i) width n ++ rest) 0 width = number-cons _ _ 0 width in
+    let moved : number (byte_at i n ∷ (bytes_low_first (suc i) width n ++ rest)) 1 width ≡ number (bytes_low_first (suc i) width n ++ rest) 0 width =
+    number-cons _ _ 0 width in
     let rest_is : number (bytes_low_first (suc i) width n ++ rest) 0 width ≡ n / 256 ^ suc i = number-bytes_low_first (suc i) width n rest below in
     omega (arith, next, low, parts, moved, rest_is)
 

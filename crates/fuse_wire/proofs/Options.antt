@@ -13,12 +13,12 @@ pub option_map-front_then : {A : Type 0} (xs ys : List A) (x : Option (List A)) 
 option_map-front_then xs ys None = refl
 option_map-front_then xs ys (Some left) = ap Some (sym (append_assoc xs ys left))
 
--- nothing put behind a list changes nothing
+-- nothing put after a list changes nothing
 pub option_map-back_none : {A : Type 0} (x : Option (List A)) → x ≡ option_map (λ held. held ++ []) x
 option_map-back_none None = refl
 option_map-back_none (Some held) = ap Some (sym (append-nil held))
 
--- one list put behind, and another behind that
+-- one list put after, and another after that
 pub option_map-back_then : {A : Type 0} (xs ys : List A) (x : Option (List A)) →
     option_map (λ held. held ++ ys) (option_map (λ held. held ++ xs) x) ≡ option_map (λ held. held ++ (xs ++ ys)) x
 option_map-back_then xs ys None = refl

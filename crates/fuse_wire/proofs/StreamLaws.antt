@@ -1,5 +1,6 @@
--- How the stream behind a sink stands, at the start, after a frame and after a write that failed.
-use Rattle.std.proofs.Common.{◌≡◌, ℕ, ◌+◌, ◌<◌, ◌≤◌, Bool, true, false, Option, None, Some, List, [], ◌∷◌, ◌++◌, length, take, drop, refl, ap, sym, ◌∙◌, subst, arith, append_assoc, length-append}
+-- How the stream below a sink stands, at the start, after a frame and after a write that failed.
+use Rattle.std.proofs.Common.{◌≡◌, ℕ, ◌+◌, ◌<◌, ◌≤◌, Bool, true, false, Option, None, Some, List, [], ◌∷◌, ◌++◌, length, take}
+use Rattle.std.proofs.Common.{drop, refl, ap, sym, ◌∙◌, subst, arith, append_assoc, length-append}
 use Rattle.std.specs.Prelude.{option_map}
 use Rattle.std.specs.List.{concat, AllByRecursion}
 use Rattle.std.proofs.lemmas.List.{drop_at, append-nil, length-take-le, take-append-drop, take-append-le}
@@ -22,7 +23,9 @@ option-append_nil None = refl
 option-append_nil (Some held) = ap Some (sym (append-nil held))
 
 -- appending twice to what is told
-pub option-append_twice : {A : Type 0} (before middle after : Option (List A)) (first second : List A) → middle ≡ option_map (λ held. held ++ first) before → after ≡ option_map (λ held. held ++ second) middle → after ≡ option_map (λ held. held ++ (first ++ second)) before
+pub option-append_twice : {A : Type 0} (before middle after : Option (List A)) (first second : List A) →
+    middle ≡ option_map (λ held. held ++ first) before → after ≡ option_map (λ held. held ++ second) middle →
+    after ≡ option_map (λ held. held ++ (first ++ second)) before
 option-append_twice None middle after first second e f = f ∙ ap (option_map (λ held. held ++ second)) e
 option-append_twice (Some held) middle after first second e f = f ∙ ap (option_map (λ held. held ++ second)) e ∙ ap Some (append_assoc held first second)
 
@@ -31,14 +34,17 @@ pub PutsBytes-nil : (state : ByteSinkState) → PutsBytes [] state state
 PutsBytes-nil state = record { bytes = option-append_nil state.bytes; faults = omega arith }
 
 -- one piece was put after another
-pub PutsBytes-append : (first second : List ℕ) (before middle after : ByteSinkState) → PutsBytes first before middle → PutsBytes second middle after → PutsBytes (first ++ second) before after
+pub PutsBytes-append : (first second : List ℕ) (before middle after : ByteSinkState) → PutsBytes first before middle →
+    PutsBytes second middle after → PutsBytes (first ++ second) before after
 PutsBytes-append first second before middle after p q = record {
   bytes = option-append_twice before.bytes middle.bytes after.bytes first second p.bytes q.bytes;
   faults = omega arith;
 }
 
 -- the frames told of a stream that stands so
-pub frames_since-concat : (first now : Option (List ℕ)) (sent : List (List ℕ)) (torn : List ℕ) → AllByRecursion IsFrame sent → IsTorn torn → now ≡ option_map (λ held. held ++ (concat sent ++ torn)) first → frames_since first now ≡ option_map (λ held. sent) first
+pub frames_since-concat : (first now : Option (List ℕ)) (sent : List (List ℕ)) (torn : List ℕ) → AllByRecursion IsFrame sent →
+    IsTorn torn → now ≡ option_map (λ held. held ++ (concat sent ++ torn)) first →
+    frames_since first now ≡ option_map (λ held. sent) first
 frames_since-concat None now sent torn each part e = refl
 frames_since-concat (Some held) now sent torn each part e =
     ap (frames_since (Some held)) e
@@ -62,8 +68,9 @@ Stands-new stream =
       counts = λ _. omega arith;
     }
 
--- a piece is written behind one that was
-pub WritesAll-append : (done : Bool) (first second : List ℕ) (before middle after : ByteSinkState) → PutsBytes first before middle → WritesAll done second middle after → WritesAll done (first ++ second) before after
+-- a piece is written after one that was
+pub WritesAll-append : (done : Bool) (first second : List ℕ) (before middle after : ByteSinkState) →
+    PutsBytes first before middle → WritesAll done second middle after → WritesAll done (first ++ second) before after
 WritesAll-append true first second before middle after p q = PutsBytes-append first second before middle after p q
 WritesAll-append false first second before middle after p q =
     let within : q.0 < length second = q.1 in
@@ -77,7 +84,8 @@ WritesAll-append false first second before middle after p q =
     )
 
 -- a write that failed in the first of two pieces
-pub WritesAll-front : (first second : List ℕ) (before after : ByteSinkState) → WritesAll false first before after → WritesAll false (first ++ second) before after
+pub WritesAll-front : (first second : List ℕ) (before after : ByteSinkState) → WritesAll false first before after →
+    WritesAll false (first ++ second) before after
 WritesAll-front first second before after q =
     let within : q.0 < length first = q.1 in (
       q.0,
@@ -86,7 +94,7 @@ WritesAll-front first second before after q =
       q.3,
     )
 
--- one more element behind all that hold
+-- one more element after all that hold
 pub AllByRecursion-push : {X : Type 0} (P : X → Type 0) (xs : List X) (x : X) → AllByRecursion P xs → P x → AllByRecursion P (xs ++ x ∷ [])
 AllByRecursion-push P [] x each here = (here, tt)
 AllByRecursion-push P (y ∷ xs) x each here = (each.0, AllByRecursion-push P xs x each.1 here)
@@ -96,18 +104,23 @@ pub IsTorn-take : (frame : List ℕ) (count : ℕ) → IsFrame frame → count <
 IsTorn-take frame count is_frame within =
     let some : length (take count frame) ≡ count = length-take-le count frame (omega arith) in
     let parts : take count frame ++ drop count frame ≡ frame = take-append-drop count frame in
-    let total : length (take count frame ++ drop count frame) ≡ length (take count frame) + length (drop count frame) = length-append (take count frame) (drop count frame) in
+    let total : length (take count frame ++ drop count frame) ≡ length (take count frame) + length (drop count frame) =
+    length-append (take count frame) (drop count frame) in
     record { more = drop count frame; whole = subst IsFrame (sym parts) is_frame; part = omega (arith, some, ap length parts, total, within) }
 
--- bytes put behind whole frames
-pub bytes_behind : (first before after : Option (List ℕ)) (sent : List (List ℕ)) (torn more : List ℕ) → torn ≡ [] → before ≡ option_map (λ held. held ++ (concat sent ++ torn)) first → after ≡ option_map (λ held. held ++ more) before → after ≡ option_map (λ held. held ++ (concat sent ++ more)) first
-bytes_behind first before after sent torn more none e f =
+-- bytes put after whole frames
+pub bytes_after : (first before after : Option (List ℕ)) (sent : List (List ℕ)) (torn more : List ℕ) → torn ≡ [] →
+    before ≡ option_map (λ held. held ++ (concat sent ++ torn)) first → after ≡ option_map (λ held. held ++ more) before →
+    after ≡ option_map (λ held. held ++ (concat sent ++ more)) first
+bytes_after first before after sent torn more none e f =
     option-append_twice first before after (concat sent) more
     (e ∙ ap (λ rest. option_map (λ held. held ++ rest) first) (ap (λ rest. concat sent ++ rest) none ∙ append-nil (concat sent)))
     f
 
 -- how the stream stands after one more frame
-pub Stands-more : (frame : List ℕ) (origin before after : ByteSinkState) (refused : ℕ) → IsFrame frame → PutsBytes frame before after → Stands (stream_told origin before refused) before false → Stands (stream_told origin after refused) after false
+pub Stands-more : (frame : List ℕ) (origin before after : ByteSinkState) (refused : ℕ) → IsFrame frame →
+    PutsBytes frame before after → Stands (stream_told origin before refused) before false →
+    Stands (stream_told origin after refused) after false
 Stands-more frame origin before after refused is_frame put s =
     let grown : before.faults ≤ after.faults = put.faults in
     let since : origin.faults ≤ before.faults = s.faults in
@@ -116,7 +129,7 @@ Stands-more frame origin before after refused is_frame put s =
     let joined : concat s.sent ++ frame ≡ concat (s.sent ++ frame ∷ []) ++ [] =
     sym (append-nil (concat (s.sent ++ frame ∷ [])) ∙ concat-append s.sent (frame ∷ []) ∙ ap (λ rest. concat s.sent ++ rest) (append-nil frame)) in
     let bytes : after.bytes ≡ option_map (λ held. held ++ (concat (s.sent ++ frame ∷ []) ++ [])) origin.bytes =
-    bytes_behind origin.bytes before.bytes after.bytes s.sent s.torn frame (s.whole refl) s.bytes put.bytes
+    bytes_after origin.bytes before.bytes after.bytes s.sent s.torn frame (s.whole refl) s.bytes put.bytes
     ∙ ap (λ rest. option_map (λ held. held ++ rest) origin.bytes) joined in
     record {
       sent = s.sent ++ frame ∷ [];
@@ -132,7 +145,9 @@ Stands-more frame origin before after refused is_frame put s =
     }
 
 -- how the stream stands after a write that failed
-pub Stands-torn : (frame : List ℕ) (origin before after : ByteSinkState) (refused : ℕ) → IsFrame frame → WritesAll false frame before after → Stands (stream_told origin before refused) before false → Stands (stream_told origin after refused) after true
+pub Stands-torn : (frame : List ℕ) (origin before after : ByteSinkState) (refused : ℕ) → IsFrame frame →
+    WritesAll false frame before after → Stands (stream_told origin before refused) before false →
+    Stands (stream_told origin after refused) after true
 Stands-torn frame origin before after refused is_frame wrote s =
     let put : PutsBytes (take wrote.0 frame) before after = wrote.2 in
     let rose : Rose before.faults after.faults = wrote.3 in
@@ -140,7 +155,7 @@ Stands-torn frame origin before after refused is_frame wrote s =
     let since : origin.faults ≤ before.faults = s.faults in
     let part : IsTorn (take wrote.0 frame) = IsTorn-take frame wrote.0 is_frame wrote.1 in
     let bytes : after.bytes ≡ option_map (λ held. held ++ (concat s.sent ++ take wrote.0 frame)) origin.bytes =
-    bytes_behind origin.bytes before.bytes after.bytes s.sent s.torn (take wrote.0 frame) (s.whole refl) s.bytes put.bytes in
+    bytes_after origin.bytes before.bytes after.bytes s.sent s.torn (take wrote.0 frame) (s.whole refl) s.bytes put.bytes in
     record {
       sent = s.sent;
       torn = take wrote.0 frame;
@@ -155,7 +170,8 @@ Stands-torn frame origin before after refused is_frame wrote s =
     }
 
 -- a send that is refused after a write has failed leaves the stream as it stands
-pub Stands-refused : (origin now : ByteSinkState) (refused more : ℕ) (broken : Bool) → broken ≡ true → Stands (stream_told origin now refused) now broken → Stands (stream_told origin now more) now broken
+pub Stands-refused : (origin now : ByteSinkState) (refused more : ℕ) (broken : Bool) → broken ≡ true →
+    Stands (stream_told origin now refused) now broken → Stands (stream_told origin now more) now broken
 Stands-refused origin now refused more broken failed s = record {
   sent = s.sent;
   torn = s.torn;
@@ -170,18 +186,24 @@ Stands-refused origin now refused more broken failed s = record {
 }
 
 -- more frames told, at the end of those that were
-pub told_more : (first : Option (List ℕ)) (before after : Option (List (List ℕ))) (sent more : List (List ℕ)) → before ≡ option_map (λ held. sent) first → after ≡ option_map (λ held. sent ++ more) first → after ≡ option_map (λ held. held ++ more) before
+pub told_more : (first : Option (List ℕ)) (before after : Option (List (List ℕ))) (sent more : List (List ℕ)) →
+    before ≡ option_map (λ held. sent) first → after ≡ option_map (λ held. sent ++ more) first →
+    after ≡ option_map (λ held. held ++ more) before
 told_more None before after sent more e f = f ∙ sym (ap (option_map (λ held. held ++ more)) e)
 told_more (Some held) before after sent more e f = f ∙ sym (ap (option_map (λ frames. frames ++ more)) e)
 
 -- what a stream tells after one more frame
-pub framed_more : (frame : List ℕ) (origin before after : ByteSinkState) (refused : ℕ) → IsFrame frame → PutsBytes frame before after → Stands (stream_told origin before refused) before false → frames_since origin.bytes after.bytes ≡ option_map (λ held. held ++ frame ∷ []) (frames_since origin.bytes before.bytes)
+pub framed_more : (frame : List ℕ) (origin before after : ByteSinkState) (refused : ℕ) → IsFrame frame →
+    PutsBytes frame before after → Stands (stream_told origin before refused) before false →
+    frames_since origin.bytes after.bytes ≡ option_map (λ held. held ++ frame ∷ []) (frames_since origin.bytes before.bytes)
 unfolding Stands-more
 framed_more frame origin before after refused is_frame put s =
     told_more origin.bytes _ _ s.sent (frame ∷ []) s.told (Stands-more frame origin before after refused is_frame put s).told
 
 -- what a stream tells after a write that failed
-pub framed_torn : (frame : List ℕ) (origin before after : ByteSinkState) (refused : ℕ) → IsFrame frame → WritesAll false frame before after → Stands (stream_told origin before refused) before false → frames_since origin.bytes after.bytes ≡ option_map (λ held. held ++ []) (frames_since origin.bytes before.bytes)
+pub framed_torn : (frame : List ℕ) (origin before after : ByteSinkState) (refused : ℕ) → IsFrame frame →
+    WritesAll false frame before after → Stands (stream_told origin before refused) before false →
+    frames_since origin.bytes after.bytes ≡ option_map (λ held. held ++ []) (frames_since origin.bytes before.bytes)
 unfolding Stands-torn
 framed_torn frame origin before after refused is_frame wrote s =
     (Stands-torn frame origin before after refused is_frame wrote s).told ∙ sym s.told ∙ option-append_nil (frames_since origin.bytes before.bytes)
@@ -194,21 +216,28 @@ IsFrame-joined header payload size field =
     record { header = omega (arith, total, size); length_field = omega (arith, total, size, same, field) }
 
 -- a sink that is whole stays so after one more frame
-pub kept_more : (frame : List ℕ) (origin before after : ByteSinkState) (refused : ℕ) (broken : Bool) → broken ≡ false → IsFrame frame → PutsBytes frame before after → ∥ Stands (stream_told origin before refused) before broken ∥₁ → ∥ Stands (stream_told origin after refused) after broken ∥₁
+pub kept_more : (frame : List ℕ) (origin before after : ByteSinkState) (refused : ℕ) (broken : Bool) → broken ≡ false →
+    IsFrame frame → PutsBytes frame before after → ∥ Stands (stream_told origin before refused) before broken ∥₁ →
+    ∥ Stands (stream_told origin after refused) after broken ∥₁
 kept_more frame origin before after refused true whole is_frame put s = cc
 kept_more frame origin before after refused false whole is_frame put s = ∥∥₁_map s (Stands-more frame origin before after refused is_frame put)
 
 -- a sink is broken after a write that failed
-pub kept_torn : (frame : List ℕ) (origin before after : ByteSinkState) (refused : ℕ) (broken : Bool) → broken ≡ false → IsFrame frame → WritesAll false frame before after → ∥ Stands (stream_told origin before refused) before broken ∥₁ → ∥ Stands (stream_told origin after refused) after true ∥₁
+pub kept_torn : (frame : List ℕ) (origin before after : ByteSinkState) (refused : ℕ) (broken : Bool) → broken ≡ false →
+    IsFrame frame → WritesAll false frame before after → ∥ Stands (stream_told origin before refused) before broken ∥₁ →
+    ∥ Stands (stream_told origin after refused) after true ∥₁
 kept_torn frame origin before after refused true whole is_frame wrote s = cc
 kept_torn frame origin before after refused false whole is_frame wrote s = ∥∥₁_map s (Stands-torn frame origin before after refused is_frame wrote)
 
 -- a send that is refused after a write has failed keeps what was told
-pub kept_refused : (origin now : ByteSinkState) (refused more : ℕ) (broken : Bool) → broken ≡ true → ∥ Stands (stream_told origin now refused) now broken ∥₁ → ∥ Stands (stream_told origin now more) now broken ∥₁
+pub kept_refused : (origin now : ByteSinkState) (refused more : ℕ) (broken : Bool) → broken ≡ true →
+    ∥ Stands (stream_told origin now refused) now broken ∥₁ → ∥ Stands (stream_told origin now more) now broken ∥₁
 kept_refused origin now refused more broken failed s = ∥∥₁_map s (Stands-refused origin now refused more broken failed)
 
 -- one more frame is told after it was written
-pub Appends-more : (frame : List ℕ) (origin before after : ByteSinkState) (refused : ℕ) (broken : Bool) → broken ≡ false → IsFrame frame → PutsBytes frame before after → ∥ Stands (stream_told origin before refused) before broken ∥₁ → Appends (frame ∷ []) [] (stream_told origin before refused) (stream_told origin after refused)
+pub Appends-more : (frame : List ℕ) (origin before after : ByteSinkState) (refused : ℕ) (broken : Bool) → broken ≡ false →
+    IsFrame frame → PutsBytes frame before after → ∥ Stands (stream_told origin before refused) before broken ∥₁ →
+    Appends (frame ∷ []) [] (stream_told origin before refused) (stream_told origin after refused)
 Appends-more frame origin before after refused true whole is_frame put s = cc
 Appends-more frame origin before after refused false whole is_frame put s =
     let grown : before.faults ≤ after.faults = put.faults in
@@ -220,7 +249,9 @@ Appends-more frame origin before after refused false whole is_frame put s =
     }
 
 -- nothing is told of a frame whose write failed, and a fault is counted
-pub Refuses-torn : (frame : List ℕ) (origin before after : ByteSinkState) (refused : ℕ) (broken : Bool) → broken ≡ false → IsFrame frame → WritesAll false frame before after → ∥ Stands (stream_told origin before refused) before broken ∥₁ → Refuses (stream_told origin before refused) (stream_told origin after refused)
+pub Refuses-torn : (frame : List ℕ) (origin before after : ByteSinkState) (refused : ℕ) (broken : Bool) → broken ≡ false →
+    IsFrame frame → WritesAll false frame before after → ∥ Stands (stream_told origin before refused) before broken ∥₁ →
+    Refuses (stream_told origin before refused) (stream_told origin after refused)
 Refuses-torn frame origin before after refused true whole is_frame wrote s = cc
 Refuses-torn frame origin before after refused false whole is_frame wrote s =
     let put : PutsBytes (take wrote.0 frame) before after = wrote.2 in
@@ -235,7 +266,9 @@ Refuses-torn frame origin before after refused false whole is_frame wrote s =
     (told, λ (last : counted after.faults refused < last_count). omega (arith, grown, rose))
 
 -- the front that is written grows by what one more write took of the rest
-pub PutsBytes-take : (piece rest : List ℕ) (count more : ℕ) (before middle after : ByteSinkState) → rest ≡ drop count piece → PutsBytes (take count piece) before middle → PutsBytes (take more rest) middle after → PutsBytes (take (count + more) piece) before after
+pub PutsBytes-take : (piece rest : List ℕ) (count more : ℕ) (before middle after : ByteSinkState) → rest ≡ drop count piece →
+    PutsBytes (take count piece) before middle → PutsBytes (take more rest) middle after →
+    PutsBytes (take (count + more) piece) before after
 PutsBytes-take piece rest count more before middle after left p q =
     let parts : take count piece ++ take more rest ≡ take (count + more) piece =
     ap (λ behind. take count piece ++ take more behind) left ∙ sym (take-add count more piece) in

@@ -2,7 +2,8 @@
 use Rattle.std.specs.Prelude.{◌≡◌, ◌⊎◌, ℕ, Bool, true, false, List}
 use Rattle.fuse_wire.specs.Faults.{counted}
 use Rattle.fuse_wire.specs.ByteSink.{ByteSinkState}
-use Rattle.fuse_wire.specs.StreamSink.{WritesAll}
+use Rattle.fuse_wire.specs.Sink.{SinkState}
+use Rattle.fuse_wire.specs.StreamSink.{WritesAll, stream_told}
 use Rattle.fuse_wire.specs.declared.sink.Sending.{Sending}
 use Rattle.fuse_wire.specs.declared.sink.Sending.TheVariants.{Sent, Absent, Failed}
 use Rattle.fuse_wire.specs.declared.stream_sink.StreamSink.{StreamSink}
@@ -23,6 +24,10 @@ is_broken sink = sink.broken
 abbrev pub refusals : {O : Type 0} {g : _} → StreamSink O g → ℕ
 refusals sink = sink.refused
 
+-- what it tells, where its stream tells this
+abbrev pub sink_told : {O : Type 0} {g : _} → (told : O → ByteSinkState) → StreamSink O g → SinkState
+sink_told told sink = stream_told (told (made_over sink)) (told (held sink)) (refusals sink)
+
 -- no write had failed, and what the sink was made over and its count of refusals are as before
 abbrev pub Attempts : {O : Type 0} {g : _} → StreamSink O g → StreamSink O g → Type 0
 Attempts old new = (is_broken old ≡ false) × (made_over new ≡ made_over old) × (refusals new ≡ refusals old)
@@ -33,8 +38,10 @@ RefusesUnwritten old new =
     (is_broken old ≡ true) × (is_broken new ≡ true) × (held new ≡ held old) × (made_over new ≡ made_over old)
     × (refusals new ≡ counted (refusals old) 1)
 
--- What one send does, where the stream below told this before and tells this after. The frame is written whole, or a write fails and the sink is broken from then on, or it was broken. A stream never answers Absent.
-abbrev pub SendsStream : {O : Type 0} {g : _} → Sending → List ℕ → ByteSinkState → ByteSinkState → StreamSink O g → StreamSink O g → Type 0
+-- What one send does, where the stream below told this before and tells this after. The frame is written whole, or a write
+-- fails and the sink is broken from then on, or it was broken. A stream never answers Absent.
+abbrev pub SendsStream : {O : Type 0} {g : _} →
+    Sending → List ℕ → ByteSinkState → ByteSinkState → StreamSink O g → StreamSink O g → Type 0
 SendsStream Sent frame before after old new = Attempts old new × (is_broken new ≡ false) × WritesAll true frame before after
 SendsStream Absent frame before after old new = ⊥
 SendsStream Failed frame before after old new =

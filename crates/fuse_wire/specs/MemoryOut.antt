@@ -7,7 +7,8 @@ use Rattle.fuse_wire.specs.ByteSink.{ByteSinkState}
 use Rattle.fuse_wire.specs.declared.byte_sink.ByteWrite.{ByteWrite}
 use Rattle.fuse_wire.specs.declared.byte_sink.ByteWrite.TheVariants.{Wrote, Failed}
 
--- the bytes written, the most that a write takes, how many writes there were, the numbers of those that fail, how many of these came, and how many others found no memory
+-- the bytes written, the most that a write takes, how many writes there were, the numbers of those that fail, how many of these
+-- came, and how many others found no memory
 pub record BytesHeld : Type 0 where
   pub bytes : List ℕ
   pub step : ℕ

@@ -29,7 +29,8 @@ NumbersDiffer (fault ∷ faults) = AllByRecursion (λ other. other.0 ≢ fault.0
 abbrev pub EachFails : List (ℕ × Sending) → Type 0
 EachFails faults = AllByRecursion (λ fault. fault.1 ≢ Sent) faults
 
--- its frames and notes, how many sends there were, the numbers of those that fail with their answers, how many of these came, and how many frames and notes found no memory
+-- its frames and notes, how many sends there were, the numbers of those that fail with their answers, how many of these came,
+-- and how many frames and notes found no memory
 pub record FramesHeld : Type 0 where
   pub frames : List (List ℕ)
   pub notes : List Note

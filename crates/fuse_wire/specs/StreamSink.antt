@@ -6,7 +6,7 @@ use Rattle.fuse_wire.specs.Frames.{frames, IsFrame}
 use Rattle.fuse_wire.specs.Sink.{SinkState}
 use Rattle.fuse_wire.specs.ByteSink.{ByteSinkState, PutsBytes}
 
--- the frames that stand behind the bytes that were there at first
+-- the frames that stand after the bytes that were there at first
 abbrev pub frames_since : Option (List ℕ) → Option (List ℕ) → Option (List (List ℕ))
 frames_since None now = None
 frames_since (Some first) None = None
@@ -23,7 +23,8 @@ pub record IsTorn (torn : List ℕ) : Type 0 where
   pub whole : IsFrame (torn ++ more)
   pub part : 0 < length more
 
--- How the stream behind a sink stands: at its end are the sink's frames, joined, and after a write that failed a part of one more. While no write has failed it counts no fault but the stream's.
+-- How the stream below a sink stands: at its end are the sink's frames, joined, and after a write that failed a part of one
+-- more. While no write has failed it counts no fault but the stream's.
 pub record Stands (sink : SinkState) (stream : ByteSinkState) (broken : Bool) : Type 0 where
   pub sent : List (List ℕ)
   pub torn : List ℕ

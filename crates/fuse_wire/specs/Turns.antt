@@ -24,7 +24,8 @@ pub record TurnsLeft : Type 0 where
 abbrev pub turns_told : TurnsLeft → SourceState
 turns_told source = record { turns = Some (messages_of source.left); faults = source.failed }
 
--- What one receive does where these turns are left, and so many Fail turns came before: it answers as the first turn says, and leaves those behind it. A Fail alone is counted.
+-- What one receive does where these turns are left, and so many Fail turns came before: it answers as the first turn says, and
+-- leaves those after it. A Fail alone is counted.
 abbrev pub TakesTurn : List Turn → ℕ → Received → TurnsLeft → Type 0
 TakesTurn [] failed answer after = (answer ≡ Gone) × (after ≡ record { left = []; failed = failed })
 TakesTurn (Message bytes ∷ left) failed answer after =

@@ -1,4 +1,4 @@
-// What ACCESS asks.
+//! What ACCESS asks.
 ghost use Rattle.std.specs.Prelude.{◌≡◌, pos, Some};
 ghost use Rattle.std.specs.Int.{w32, int_bit_or};
 ghost use Rattle.std.specs.Fmt.{signed_decimal, styled_signed_decimal};

@@ -1,4 +1,4 @@
-// The flags that a BSD marks a file with.
+//! The flags that a BSD marks a file with.
 ghost use Rattle.std.specs.Prelude.{⊤, []};
 
 use bitflags::{Flag, Flags};

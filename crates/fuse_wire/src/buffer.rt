@@ -1,12 +1,13 @@
-// The buffer that messages are received in.
+//! The buffer that messages are received in.
 ghost use Rattle.std.specs.Prelude.{◌≡◌, IfOk, length};
 
 use crate::NoMemory;
 use crate::consts::BUFFER_SIZE;
 use std::alloc::Global;
 
-/// A receive buffer of zero bytes, as many as a source asks for: `BUFFER_SIZE`. `NoMemory` comes where there is no room for
-/// them.
+/// A receive buffer of zero bytes, as many as a source asks for: `BUFFER_SIZE`.
+///
+/// `NoMemory` comes where they find no memory, and else there is no error.
 pub fn receive_buffer(alloc: Global) -> Result<Vec<u8>, NoMemory>
     ensures { IfOk result (λ buffer. length buffer.items ≡ BUFFER_SIZE) }
 {

@@ -1,4 +1,4 @@
-// A stream of bytes to write.
+//! A stream of bytes to write.
 ghost use Rattle.std.specs.Prelude.{◌≤◌, ◌<◌, length};
 ghost use Rattle.fuse_wire.specs.ByteSink.{ByteSinkState, Writes};
 

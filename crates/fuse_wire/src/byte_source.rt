@@ -1,4 +1,4 @@
-// A stream of bytes to read.
+//! A stream of bytes to read.
 ghost use Rattle.std.specs.Prelude.{◌≤◌, ◌<◌, length};
 ghost use Rattle.fuse_wire.specs.ByteSource.{ByteSourceState, Reads};
 

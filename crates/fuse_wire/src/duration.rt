@@ -1,11 +1,11 @@
-// Spans of time.
+//! Spans of time.
 ghost use Rattle.std.specs.Prelude.{◌≡◌, ◌+◌, ◌*◌, ◌<◌, ◌^◌};
 
 use std::marker::Model;
 
-/// A span of time, in whole nanoseconds: up to 2^64 seconds, without the last nanosecond of these. A reply carries it as
-/// seconds and nanoseconds, as `attr_valid` and `attr_valid_nsec` of `struct fuse_attr_out`. A contract sees the number
-/// of nanoseconds.
+/// A span of time, in whole nanoseconds: up to 2^64 seconds, without the last nanosecond of these. A reply carries it
+/// as seconds and nanoseconds, as `attr_valid` and `attr_valid_nsec` of `struct fuse_attr_out`. A contract sees the
+/// number of nanoseconds.
 #[derive(Clone, Copy, Debug, PartialEq, Eq, PartialOrd, Ord, Hash)]
 pub struct Duration {
     secs: u64,

@@ -1,4 +1,4 @@
-// Error numbers of Linux.
+//! Error numbers of Linux.
 ghost use Rattle.std.specs.Prelude.{◌≡◌, ℕ, pos, ◌<◌, ◌^◌, map};
 ghost use Rattle.fuse_wire.specs.Errno.{errno_from, named_numbers};
 
@@ -317,8 +317,8 @@ impl From<Errno> for i32 {
     }
 }
 
-// A row for each name: the name as a text, and the constant's number. The text is made of the name of the constant, so that a
-// clause over the texts speaks of these constants.
+// A row for each name: the name as a text, and the constant's number. The text is made of the name of the constant, so
+// that a clause over the texts speaks of these constants.
 macro_rules! rows {
     ($($name:ident),* $(,)?) => {
         [$((stringify!($name), Errno::$name.code)),*]

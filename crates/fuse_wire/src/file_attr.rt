@@ -1,4 +1,4 @@
-// Attributes of a file.
+//! Attributes of a file.
 use crate::{INodeNo, SystemTime};
 
 /// What kind of file an inode is: the type bits of a mode, `S_IFMT` of `linux/stat.h`.
@@ -20,8 +20,8 @@ pub enum FileType {
     Socket,
 }
 
-/// Attributes of a file: what `struct fuse_attr` carries, and two more that Linux does not ask for. Each number may have
-/// any value of its type; names of `fuse.h` stand where they differ.
+/// Attributes of a file: what `struct fuse_attr` carries, and two more that Linux does not ask for. Each number may
+/// have any value of its type; names of `fuse.h` stand where they differ.
 #[derive(Clone, Copy, Debug, PartialEq, Eq)]
 pub struct FileAttr {
     /// The inode's number.

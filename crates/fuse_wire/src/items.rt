@@ -1,4 +1,4 @@
-// A vector that contracts see as a list.
+//! A vector that contracts see as a list.
 ghost use Rattle.std.specs.Prelude.{◌≡◌};
 
 use std::marker::Model;

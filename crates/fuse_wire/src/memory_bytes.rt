@@ -1,4 +1,4 @@
-// Bytes from memory.
+//! Bytes from memory.
 ghost use Rattle.std.specs.Prelude.{◌≡◌, ◌≤◌, ◌<◌, length};
 ghost use Rattle.fuse_wire.specs.ByteSource.{Reads};
 ghost use Rattle.fuse_wire.specs.MemoryBytes.{ReadsMemory, bytes_left_told};

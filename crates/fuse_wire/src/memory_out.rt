@@ -1,4 +1,4 @@
-// Bytes written to memory.
+//! Bytes written to memory.
 ghost use Rattle.std.specs.Prelude.{◌≡◌, ◌≤◌, ◌<◌, [], length};
 ghost use Rattle.fuse_wire.specs.ByteSink.{Writes};
 ghost use Rattle.fuse_wire.specs.MemoryOut.{WritesMemory, bytes_held_told};
@@ -42,7 +42,14 @@ impl MemoryOut {
     /// finds no memory fails too.
     pub fn new(alloc: Global, step: usize, faults: Vec<u64>) -> MemoryOut
         requires { 1 ≤ step }
-        ensures { result ≡ record { bytes = []; step = step; calls = 0; listed = faults.items; reached = 0; starved = 0 } }
+        ensures { result ≡ record {
+          bytes = [];
+          step = step;
+          calls = 0;
+          listed = faults.items;
+          reached = 0;
+          starved = 0;
+        } }
     {
         MemoryOut {
             bytes: Vec::new(alloc),

@@ -1,14 +1,15 @@
-// Frames and notes kept in memory.
+//! Frames and notes kept in memory.
 ghost use Rattle.std.specs.Prelude.{◌≡◌, ◌+◌, ◌∷◌, ◌++◌, [], length, IfOk, OnOk, OnErr};
 ghost use Rattle.fuse_wire.specs.Numbers.{number};
 ghost use Rattle.fuse_wire.specs.Sink.{Sends, Notes};
-ghost use Rattle.fuse_wire.specs.MemorySink.{EachFails, NotesMemory, NumbersDiffer, SendsMemory, answer_at, frames_held_told, notes_of};
+ghost use Rattle.fuse_wire.specs.MemorySink.{EachFails, NotesMemory, NumbersDiffer, SendsMemory};
+ghost use Rattle.fuse_wire.specs.MemorySink.{answer_at, frames_held_told, notes_of};
 
 use crate::{Items, Noting, RequestId, Sending, Sink};
 use std::alloc::{AllocError, Global};
 
-/// A sink that keeps its frames and notes, fails at some sends, and tells what it holds. It counts the sends that failed
-/// so, and the frames and notes that found no memory.
+/// A sink that keeps its frames and notes, fails at some sends, and tells what it holds. It counts the sends that
+/// failed so, and the frames and notes that found no memory.
 #[derive(Debug, Drop)]
 pub struct MemorySink {
     alloc: Global,
@@ -44,7 +45,14 @@ impl MemorySink {
     pub fn new(alloc: Global, faults: Vec<(u64, Sending)>) -> MemorySink
         requires numbers { NumbersDiffer faults.items }
         requires answers { EachFails faults.items }
-        ensures { result ≡ record { frames = []; notes = []; calls = 0; listed = faults.items; reached = 0; starved = 0 } }
+        ensures { result ≡ record {
+          frames = [];
+          notes = [];
+          calls = 0;
+          listed = faults.items;
+          reached = 0;
+          starved = 0;
+        } }
     {
         MemorySink {
             alloc,
@@ -122,7 +130,8 @@ impl Sink for MemorySink {
     /// Answers as the list says, or keeps the frame. It fails where it finds no memory.
     fn send(&mut self, header: &[u8; 16], payload: &[u8]) -> Sending
         requires { number header.now 0 4 ≡ 16 + length payload.now }
-        ensures sends { Sends result (header.now ++ payload.now) (frames_held_told self.old) (frames_held_told self.new) }
+        ensures sends { Sends result (header.now ++ payload.now)
+            (frames_held_told self.old) (frames_held_told self.new) }
         ensures exactly { SendsMemory result (header.now ++ payload.now) self.old self.new }
     {
         self.calls = self.calls.saturating_add(1);

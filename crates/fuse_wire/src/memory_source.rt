@@ -1,4 +1,4 @@
-// Messages from memory.
+//! Messages from memory.
 ghost use Rattle.std.specs.Prelude.{◌≡◌, length};
 ghost use Rattle.fuse_wire.specs.Source.{Receives};
 ghost use Rattle.fuse_wire.specs.Turns.{TakesTurn, turns_told};
@@ -53,7 +53,7 @@ impl MemorySource {
 impl Source for MemorySource {
     ghost told = { turns_told };
 
-    /// Answers as the next turn says, and goes to the one behind it.
+    /// Answers as the next turn says, and goes to the one after it.
     fn receive(&mut self, buffer: &mut [u8]) -> Received
         requires { length buffer.old ≡ BUFFER_SIZE }
         ensures received { Receives result (turns_told self.old) (turns_told self.new) buffer.new }

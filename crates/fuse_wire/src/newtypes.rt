@@ -1,8 +1,8 @@
-// Numbers of the protocol under names of their own.
+//! Numbers of the protocol under names of their own.
 use std::fmt;
 
-/// The number of a request, from 0 to the last u64: `unique` of `struct fuse_in_header`. It is unique among the requests
-/// that wait for their reply, and the reply has it too.
+/// The number of a request, from 0 to the last u64: `unique` of `struct fuse_in_header`. It is unique among the
+/// requests that wait for their reply, and the reply has it too.
 #[derive(Clone, Copy, Debug, PartialEq, Eq, PartialOrd, Ord, Hash)]
 pub struct RequestId(pub u64);
 
@@ -16,8 +16,8 @@ impl INodeNo {
     pub const ROOT: INodeNo = INodeNo(1);
 }
 
-/// Which of the files that had the same inode number, one after another: `generation` of `struct fuse_entry_out`, from 0
-/// to the last u64.
+/// Which of the files that had the same inode number, one after another: `generation` of `struct fuse_entry_out`, from
+/// 0 to the last u64.
 #[derive(Clone, Copy, Debug, PartialEq, Eq, PartialOrd, Ord, Hash)]
 pub struct Generation(pub u64);
 

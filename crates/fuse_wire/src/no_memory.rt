@@ -1,4 +1,4 @@
-// Want of memory.
+//! Want of memory.
 use std::alloc::AllocError;
 
 /// No memory was to be had.

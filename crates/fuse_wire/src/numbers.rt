@@ -1,9 +1,10 @@
-// Reading a little-endian number at an offset.
+//! Reading a little-endian number at an offset.
 ghost use Rattle.std.specs.Prelude.{◌≡◌, ◌+◌, ◌≤◌, ◌<◌, ◌^◌, length, slice_index};
 ghost use Rattle.std.specs.Int.{w32, w64};
 ghost use Rattle.fuse_wire.specs.Numbers.{number, signed};
 
 /// The little-endian `u32` in the 4 bytes from an offset on.
+#[inline(always)]
 #[tactic(auto, unfolding(crate::specs::Numbers::number))]
 pub fn u32_at(bytes: &[u8], at: usize) -> u32
     requires { at + 4 ≤ length bytes.now }
@@ -13,6 +14,7 @@ pub fn u32_at(bytes: &[u8], at: usize) -> u32
 }
 
 /// The little-endian `u64` in the 8 bytes from an offset on.
+#[inline(always)]
 #[tactic(auto, unfolding(crate::specs::Numbers::number))]
 pub fn u64_at(bytes: &[u8], at: usize) -> u64
     requires { at + 8 ≤ length bytes.now }
@@ -31,6 +33,7 @@ pub fn u64_at(bytes: &[u8], at: usize) -> u64
 }
 
 /// The little-endian `i32` in the 4 bytes from an offset on, in two's complement.
+#[inline(always)]
 pub fn i32_at(bytes: &[u8], at: usize) -> i32
     requires { at + 4 ≤ length bytes.now }
     ensures { result ≡ signed w32 bytes.now at }
@@ -39,6 +42,7 @@ pub fn i32_at(bytes: &[u8], at: usize) -> i32
 }
 
 /// The little-endian `i64` in the 8 bytes from an offset on, in two's complement.
+#[inline(always)]
 pub fn i64_at(bytes: &[u8], at: usize) -> i64
     requires { at + 8 ≤ length bytes.now }
     ensures { result ≡ signed w64 bytes.now at }
@@ -47,6 +51,7 @@ pub fn i64_at(bytes: &[u8], at: usize) -> i64
 }
 
 /// The little-endian `u32` in the 4 bytes from an offset on, where a byte that is not there counts as 0.
+#[inline(always)]
 #[tactic(auto, unfolding(crate::specs::Numbers::number))]
 pub fn u32_or_zero_at(bytes: &[u8], at: usize) -> u32
     requires { at + 4 < 2 ^ 64 }
@@ -61,6 +66,7 @@ pub fn u32_or_zero_at(bytes: &[u8], at: usize) -> u32
 }
 
 /// The byte at an offset, or 0 where there is none.
+#[inline(always)]
 fn byte_or_zero_at(bytes: &[u8], at: usize) -> u8
     ensures { result ≡ slice_index bytes.now at }
 {

@@ -1,4 +1,4 @@
-// Flags of an open file.
+//! Flags of an open file.
 ghost use Rattle.std.specs.Prelude.{◌≡◌};
 ghost use Rattle.fuse_wire.specs.OpenMode.{acc_mode};
 
@@ -13,8 +13,8 @@ pub enum OpenAccMode {
     O_RDWR,
 }
 
-/// The flags of `open(2)` and of the file that they opened, as the kernel sends them: `flags` of `struct fuse_open_in`. Any
-/// i32 is one, and bits without a name are kept.
+/// The flags of `open(2)` and of the file that they opened, as the kernel sends them: `flags` of `struct fuse_open_in`.
+/// Any i32 is one, and bits without a name are kept.
 #[derive(Clone, Copy, Debug, PartialEq, Eq, Hash)]
 pub struct OpenFlags(pub i32);
 

@@ -1,4 +1,4 @@
-// Copying bytes to the front of a piece.
+//! Copying bytes to the front of a piece.
 ghost use Rattle.std.specs.Prelude.{◌≡◌, drop, length, min, take};
 
 /// Copies as many bytes as fit to the front of a piece, and says how many.

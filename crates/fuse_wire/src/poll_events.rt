@@ -1,4 +1,4 @@
-// What a file is ready for.
+//! What a file is ready for.
 ghost use Rattle.std.specs.Prelude.{⊤, Some, decimal};
 ghost use Rattle.std.specs.Fmt.{styled_decimal};
 ghost use Rattle.fuse_wire.specs.FlagNames.{poll_events_table};

@@ -1,4 +1,4 @@
-// How a file is renamed.
+//! How a file is renamed.
 ghost use Rattle.std.specs.Prelude.{⊤, Some, decimal};
 ghost use Rattle.std.specs.Fmt.{styled_decimal};
 ghost use Rattle.fuse_wire.specs.FlagNames.{rename_flags_table};

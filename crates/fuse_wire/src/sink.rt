@@ -1,4 +1,4 @@
-// Where replies go.
+//! Where replies go.
 ghost use Rattle.std.specs.Prelude.{◌≡◌, ◌+◌, ◌++◌, length};
 ghost use Rattle.fuse_wire.specs.Numbers.{number};
 ghost use Rattle.fuse_wire.specs.Sink.{SinkState, Sends, Notes};

@@ -1,4 +1,4 @@
-// Where messages come from.
+//! Where messages come from.
 ghost use Rattle.std.specs.Prelude.{◌≡◌, length};
 ghost use Rattle.fuse_wire.specs.Source.{SourceState, Receives};
 

@@ -1,13 +1,13 @@
-// Bytes to a writer of std.
-ghost use Rattle.std.specs.Prelude.{◌≡◌, ◌<◌, None, length};
+//! Bytes to a writer of std.
+ghost use Rattle.std.specs.Prelude.{◌≡◌, ◌<◌, length};
 ghost use Rattle.fuse_wire.specs.ByteSink.{Writes};
-ghost use Rattle.fuse_wire.specs.StdDevices.{CountsWrite, WritesBelow, failed_writes, writer_below};
+ghost use Rattle.fuse_wire.specs.StdDevices.{CountsWrite, WritesBelow, failed_writes, writer_below, writer_told};
 
 use crate::{ByteSink, ByteWrite};
 use std::io::Write;
 
 /// The bytes of a writer, which is flushed after each write. It tells none of them, and counts its errors: a write that
-/// takes no byte is one too. Where the flush behind a write fails, the writer may still have taken the bytes.
+/// takes no byte is one too. Where the flush after a write fails, the writer may still have taken the bytes.
 #[derive(Debug, Drop)]
 pub struct StdSink<W> {
     writer: W,
@@ -25,13 +25,15 @@ impl<W: Write> StdSink<W> {
 }
 
 impl<W: Write> ByteSink for StdSink<W> {
-    ghost told = { λ s. record { bytes = None; faults = s.faults } };
+    ghost told = { writer_told };
 
-    /// Writes once, and flushes. Where a flush fails, some of the piece may stand in the writer although the write failed.
+    /// Writes once, and flushes. Where a flush fails, some of the piece may stand in the writer although the write
+    /// failed.
     fn write(&mut self, piece: &[u8]) -> ByteWrite
         requires { 0 < length piece.now }
-        ensures writes { Writes result piece.now (record { bytes = None; faults = failed_writes self.old }) (record { bytes = None; faults = failed_writes self.new }) }
-        ensures below { WritesBelow result piece.now (W.contents (writer_below self.old)) (W.contents (writer_below self.new)) }
+        ensures writes { Writes result piece.now (writer_told self.old) (writer_told self.new) }
+        ensures below { WritesBelow result piece.now
+            (W.contents (writer_below self.old)) (W.contents (writer_below self.new)) }
         ensures counts { CountsWrite result (failed_writes self.old) (failed_writes self.new) }
     {
         if let Ok(count) = self.writer.write(piece) {

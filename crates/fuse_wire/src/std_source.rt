@@ -1,7 +1,7 @@
-// Bytes from a reader of std.
-ghost use Rattle.std.specs.Prelude.{◌≡◌, ◌<◌, None, length};
+//! Bytes from a reader of std.
+ghost use Rattle.std.specs.Prelude.{◌≡◌, ◌<◌, length};
 ghost use Rattle.fuse_wire.specs.ByteSource.{Reads};
-ghost use Rattle.fuse_wire.specs.StdDevices.{CountsRead, ReadsBelow, failed_reads, reader_below};
+ghost use Rattle.fuse_wire.specs.StdDevices.{CountsRead, ReadsBelow, failed_reads, reader_below, reader_told};
 
 use crate::{ByteRead, ByteSource};
 use std::io::Read;
@@ -24,13 +24,14 @@ impl<R: Read> StdSource<R> {
 }
 
 impl<R: Read> ByteSource for StdSource<R> {
-    ghost told = { λ s. record { bytes = None; faults = s.faults } };
+    ghost told = { reader_told };
 
     /// Reads once. A failure passes over no byte that the reader knows of.
     fn read(&mut self, piece: &mut [u8]) -> ByteRead
         requires { 0 < length piece.old }
-        ensures reads { Reads result (record { bytes = None; faults = failed_reads self.old }) (record { bytes = None; faults = failed_reads self.new }) piece.new }
-        ensures below { ReadsBelow result piece.new (R.remaining (reader_below self.old)) (R.remaining (reader_below self.new)) }
+        ensures reads { Reads result (reader_told self.old) (reader_told self.new) piece.new }
+        ensures below { ReadsBelow result piece.new
+            (R.remaining (reader_below self.old)) (R.remaining (reader_below self.new)) }
         ensures counts { CountsRead result (failed_reads self.old) (failed_reads self.new) }
     {
         match self.reader.read(piece) {

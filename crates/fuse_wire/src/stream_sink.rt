@@ -1,15 +1,17 @@
-// Frames written to a stream of bytes.
+//! Frames written to a stream of bytes.
 ghost use Rattle.std.specs.Prelude.{◌≡◌, ◌+◌, ◌++◌, false, length};
 ghost use Rattle.fuse_wire.specs.Numbers.{number};
 ghost use Rattle.fuse_wire.specs.Sink.{Notes, Sends};
 ghost use Rattle.fuse_wire.specs.StreamSink.{Stands, WritesAll, stream_told};
 
 use crate::{ByteSink, ByteWrite, Noting, RequestId, Sending, Sink};
+use std::fmt;
 use std::snapshot::Snapshot;
 
 /// A sink that writes its frames one after the other, and keeps none. Once a write has failed nothing more is written,
-/// so that what is on the stream is whole frames and at most a part of one behind them. Each later send is refused, and
-/// counted with the faults of the stream.
+/// so that what is on the stream is whole frames and at most a part of one after them. Each later send is refused, and
+/// counted with the faults of the stream. It is spent by `into_inner`, and can't be dropped, so that the stream is not
+/// lost.
 pub struct StreamSink<O: ByteSink> {
     inner: O,
     broken: bool,
@@ -44,10 +46,11 @@ impl<O: ByteSink> StreamSink<O> {
         self.broken
     }
 
-    /// The stream, behind the last byte that was written.
+    /// The stream, after the last byte that was written.
     pub fn into_inner(self) -> O
         ensures held { result ≡ held self }
-        ensures stands { ∥ Stands (stream_told (O.told (made_over self)) (O.told result) (refusals self)) (O.told result) (is_broken self) ∥₁ }
+        ensures stands { ∥ Stands (stream_told (O.told (made_over self)) (O.told result) (refusals self))
+            (O.told result) (is_broken self) ∥₁ }
     {
         let StreamSink {
             inner,
@@ -80,16 +83,27 @@ fn write_frame<O: ByteSink>(inner: &mut O, header: &[u8; 16], payload: &[u8]) ->
     write_all(inner, header) && write_all(inner, payload)
 }
 
-impl<O: ByteSink> Sink for StreamSink<O> {
-    ghost use Rattle.fuse_wire.specs.HeldSink.{SendsStream, held, made_over, refusals};
+impl<O: ByteSink + fmt::Debug> fmt::Debug for StreamSink<O> {
+    fn fmt<W: fmt::Write>(&self, f: &mut fmt::Formatter<W>) -> fmt::Result {
+        f.debug_struct("StreamSink")
+            .field("inner", &self.inner)
+            .field("broken", &self.broken)
+            .field("refused", &self.refused)
+            .finish()
+    }
+}
 
-    ghost told = { λ s. stream_told (O.told s.origin.value) (O.told s.inner) s.refused };
+impl<O: ByteSink> Sink for StreamSink<O> {
+    ghost use Rattle.fuse_wire.specs.HeldSink.{SendsStream, held, sink_told};
+
+    ghost told = { sink_told O.told };
 
     /// Writes the frame, or says that a write failed, now or before.
     fn send(&mut self, header: &[u8; 16], payload: &[u8]) -> Sending
         requires { number header.now 0 4 ≡ 16 + length payload.now }
-        ensures sends { Sends result (header.now ++ payload.now) (stream_told (O.told (made_over self.old)) (O.told (held self.old)) (refusals self.old)) (stream_told (O.told (made_over self.new)) (O.told (held self.new)) (refusals self.new)) }
-        ensures exactly { SendsStream result (header.now ++ payload.now) (O.told (held self.old)) (O.told (held self.new)) self.old self.new }
+        ensures sends { Sends result (header.now ++ payload.now) (sink_told O.told self.old) (sink_told O.told self.new) }
+        ensures exactly { SendsStream result (header.now ++ payload.now)
+            (O.told (held self.old)) (O.told (held self.new)) self.old self.new }
     {
         if self.broken {
             self.refused = self.refused.saturating_add(1);
@@ -104,7 +118,7 @@ impl<O: ByteSink> Sink for StreamSink<O> {
 
     /// A stream has no place for notes: each is taken, and none is told.
     fn note(&mut self, _id: RequestId, _mark: u64) -> Noting
-        ensures notes { Notes result (_id.0, _mark) (stream_told (O.told (made_over self.old)) (O.told (held self.old)) (refusals self.old)) (stream_told (O.told (made_over self.new)) (O.told (held self.new)) (refusals self.new)) }
+        ensures notes { Notes result (_id.0, _mark) (sink_told O.told self.old) (sink_told O.told self.new) }
         ensures sent { result ≡ Noting.Sent }
         ensures unchanged { self.new ≡ self.old }
     {

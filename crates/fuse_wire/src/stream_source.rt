@@ -1,4 +1,4 @@
-// Messages cut from a stream of bytes.
+//! Messages cut from a stream of bytes.
 ghost use Rattle.std.specs.Prelude.{◌≡◌, ◌≢◌, ◌≤◌, length};
 ghost use Rattle.fuse_wire.specs.Numbers.{number};
 ghost use Rattle.fuse_wire.specs.Source.{Receives};
@@ -7,7 +7,8 @@ ghost use Rattle.fuse_wire.specs.StreamSource.{held, Fills, stream_told};
 use crate::consts::{BUFFER_SIZE, REQUEST_HEADER_SIZE};
 use crate::{ByteRead, ByteSource, Received, Source, u32_at};
 
-/// A source that cuts a stream of bytes into messages, by their length fields.
+/// A source that cuts a stream of bytes into messages, by their length fields. It is spent by `into_inner`, and can't be
+/// dropped, so that the stream is not lost.
 #[derive(Debug)]
 pub struct StreamSource<I> {
     inner: I,
@@ -21,7 +22,7 @@ impl<I> StreamSource<I> {
         StreamSource { inner }
     }
 
-    /// The stream, at the byte behind the last message that was taken.
+    /// The stream, at the byte after the last message that was taken.
     pub fn into_inner(self) -> I
         ensures { result ≡ held self }
     {
@@ -51,7 +52,8 @@ impl<I: ByteSource> Source for StreamSource<I> {
     /// The next message. A stream that has none now is waited for: the answer is never Retry.
     fn receive(&mut self, buffer: &mut [u8]) -> Received
         requires { length buffer.old ≡ BUFFER_SIZE }
-        ensures received { Receives result (stream_told (I.told (held self.old))) (stream_told (I.told (held self.new))) buffer.new }
+        ensures received { Receives result
+            (stream_told (I.told (held self.old))) (stream_told (I.told (held self.new))) buffer.new }
         ensures never_retries { result ≢ Received.Retry }
     {
         let Some(count) = fill(&mut self.inner, &mut buffer[..REQUEST_HEADER_SIZE]) else {

@@ -1,4 +1,4 @@
-// Points in time.
+//! Points in time.
 ghost use Rattle.std.specs.Prelude.{◌≡◌};
 ghost use Rattle.fuse_wire.specs.Times.{time_in, time_out};
 
@@ -19,9 +19,9 @@ pub enum TimeOrNow {
 /// How many nanoseconds a second has.
 const SECOND: i128 = 1_000_000_000;
 
-/// The whole seconds of a time, rounded down, and the nanoseconds above them, from 0 to 999999999: what `struct fuse_attr`
-/// carries. A time past the last second of an i64 gives the last nanosecond of that one, and a time before the first
-/// second gives its start.
+/// The whole seconds of a time, rounded down, and the nanoseconds above them, from 0 to 999999999: what
+/// `struct fuse_attr` carries. A time past the last second of an i64 gives the last nanosecond of that one, and a time
+/// before the first second gives its start.
 pub fn time_from_system_time(time: &SystemTime) -> (i64, u32)
     ensures { result ≡ time_out time.now.0 }
 {
@@ -36,8 +36,8 @@ pub fn time_from_system_time(time: &SystemTime) -> (i64, u32)
     }
 }
 
-/// The time of so many seconds and nanoseconds from the epoch: the seconds may be negative, and the nanoseconds are added
-/// to them. No sum leaves an i128, so that nanoseconds of a second and more are taken too.
+/// The time of so many seconds and nanoseconds from the epoch: the seconds may be negative, and the nanoseconds are
+/// added to them. No sum leaves an i128, so that nanoseconds of a second and more are taken too.
 pub fn system_time_from_time(secs: i64, nanos: u32) -> SystemTime
     ensures { result.0 ≡ time_in secs nanos }
 {

@@ -1,4 +1,4 @@
-// How a range is copied.
+//! How a range is copied.
 ghost use Rattle.std.specs.Prelude.{⊤, []};
 
 use bitflags::{Flag, Flags};

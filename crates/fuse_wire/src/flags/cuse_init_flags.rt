@@ -1,4 +1,4 @@
-// What a character device may do.
+//! What a character device may do.
 ghost use Rattle.std.specs.Prelude.{⊤, Some, decimal};
 ghost use Rattle.std.specs.Fmt.{styled_decimal};
 ghost use Rattle.fuse_wire.specs.FlagNames.{cuse_init_flags_table};

@@ -1,4 +1,4 @@
-// Which attributes are set.
+//! Which attributes are set.
 ghost use Rattle.std.specs.Prelude.{⊤};
 ghost use Rattle.fuse_wire.specs.FlagNames.{fattr_flags_table};
 

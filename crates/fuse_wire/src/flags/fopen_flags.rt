@@ -1,4 +1,4 @@
-// How an opened file is treated.
+//! How an opened file is treated.
 ghost use Rattle.std.specs.Prelude.{⊤};
 ghost use Rattle.fuse_wire.specs.FlagNames.{fopen_flags_table};
 

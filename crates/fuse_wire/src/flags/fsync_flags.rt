@@ -1,4 +1,4 @@
-// What is brought to the disk.
+//! What is brought to the disk.
 ghost use Rattle.std.specs.Prelude.{⊤, Some, decimal};
 ghost use Rattle.std.specs.Fmt.{styled_decimal};
 ghost use Rattle.fuse_wire.specs.FlagNames.{fsync_flags_table};

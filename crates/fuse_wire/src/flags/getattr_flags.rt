@@ -1,4 +1,4 @@
-// What GETATTR says.
+//! What GETATTR says.
 ghost use Rattle.std.specs.Prelude.{⊤};
 ghost use Rattle.fuse_wire.specs.FlagNames.{getattr_flags_table};
 

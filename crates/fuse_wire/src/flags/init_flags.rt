@@ -1,4 +1,4 @@
-// The capabilities that INIT negotiates.
+//! The capabilities that INIT negotiates.
 ghost use Rattle.std.specs.Prelude.{⊤, ◌≡◌, ◌%◌, ◌/◌, ◌^◌};
 ghost use Rattle.fuse_wire.specs.FlagNames.{init_flags_table};
 

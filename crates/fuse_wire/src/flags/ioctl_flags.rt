@@ -1,4 +1,4 @@
-// How an `ioctl` is called.
+//! How an `ioctl` is called.
 ghost use Rattle.std.specs.Prelude.{⊤, Some, decimal};
 ghost use Rattle.std.specs.Fmt.{styled_decimal};
 ghost use Rattle.fuse_wire.specs.FlagNames.{ioctl_flags_table};

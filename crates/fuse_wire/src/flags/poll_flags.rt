@@ -1,4 +1,4 @@
-// How a file is polled.
+//! How a file is polled.
 ghost use Rattle.std.specs.Prelude.{⊤, Some, decimal};
 ghost use Rattle.std.specs.Fmt.{styled_decimal};
 ghost use Rattle.fuse_wire.specs.FlagNames.{poll_flags_table};

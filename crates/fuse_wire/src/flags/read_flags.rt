@@ -1,4 +1,4 @@
-// How a file is read.
+//! How a file is read.
 ghost use Rattle.std.specs.Prelude.{⊤};
 ghost use Rattle.fuse_wire.specs.FlagNames.{read_flags_table};
 

@@ -1,4 +1,4 @@
-// What a release does.
+//! What a release does.
 ghost use Rattle.std.specs.Prelude.{⊤, Some, decimal};
 ghost use Rattle.std.specs.Fmt.{styled_decimal};
 ghost use Rattle.fuse_wire.specs.FlagNames.{release_flags_table};

@@ -1,4 +1,4 @@
-// How a file is written.
+//! How a file is written.
 ghost use Rattle.std.specs.Prelude.{⊤};
 ghost use Rattle.fuse_wire.specs.FlagNames.{write_flags_table};
 

@@ -20,4 +20,5 @@ returns-in-Message-clause-received c =
     drop_more turns next turn within ∙ ap (λ at. at ∷ drop (next + 1) turns) (here ∙ message) in
     let before : c.args.self.now ≡ record { left = Message bytes ∷ drop (next + 1) turns; failed = c.self.inside.failed } =
     sym c.self.view_is ∙ ap (λ (left : List Turn). record { left = left; failed = c.self.inside.failed }) first in
-    rw before (TakesMessage-turn bytes (drop (next + 1) turns) c.self.inside.failed n (length c.args.buffer.now) c.put_front.new.piece c.requires c.put_front.ensures.count c.put_front.ensures.front)
+    rw before (TakesMessage-turn bytes (drop (next + 1) turns) c.self.inside.failed n (length c.args.buffer.now)
+    c.put_front.new.piece c.requires c.put_front.ensures.count c.put_front.ensures.front)
