@@ -1,5 +1,5 @@
-//! Laws of the definitions. Each function here does nothing, or gives constants: its contract is the law, which holds of
-//! all its arguments.
+//! Laws of the definitions. Each function here does nothing, or gives constants: its contract is the law, which holds
+//! of all its arguments.
 ghost use Rattle.std.specs.Prelude.{ℕ, List, ◌≡◌, ◌<◌, ◌^◌, ◌+◌, ◌/◌, ◌%◌, [], ◌∷◌, ◌++◌, map, pos, IsTrue, nat_eq};
 ghost use Rattle.std.specs.Cmp.Lexicographic.{pointwise};
 ghost use Rattle.std.specs.Ordering.{int_cmp, int_eq, nat_cmp};
@@ -102,7 +102,8 @@ pub fn sets_compared_by_their_bits()
         ⟦<AccessFlags as PartialEq>⟧.eq ⟦<AccessFlags as Hash>⟧.hash_input }
 {}
 
-/// Errors and the other values that have no order are equal where they are the same, and attributes where each field is.
+/// Errors and the other values that have no order are equal where they are the same, and attributes where each field
+/// is.
 pub fn equal_where_they_are_the_same()
     ensures errors { SaysSame ⟦<Errno as PartialEq>⟧.eq }
     ensures open_modes { SaysSame ⟦<OpenAccMode as PartialEq>⟧.eq }

@@ -101,7 +101,8 @@ impl<O: ByteSink> Sink for StreamSink<O> {
     /// Writes the frame, or says that a write failed, now or before.
     fn send(&mut self, header: &[u8; 16], payload: &[u8]) -> Sending
         requires { number header.now 0 4 ≡ 16 + length payload.now }
-        ensures sends { Sends result (header.now ++ payload.now) (sink_told O.told self.old) (sink_told O.told self.new) }
+        ensures sends { Sends result (header.now ++ payload.now)
+            (sink_told O.told self.old) (sink_told O.told self.new) }
         ensures exactly { SendsStream result (header.now ++ payload.now)
             (O.told (held self.old)) (O.told (held self.new)) self.old self.new }
     {

@@ -7,8 +7,8 @@ ghost use Rattle.fuse_wire.specs.StreamSource.{held, Fills, stream_told};
 use crate::consts::{BUFFER_SIZE, REQUEST_HEADER_SIZE};
 use crate::{ByteRead, ByteSource, Received, Source, u32_at};
 
-/// A source that cuts a stream of bytes into messages, by their length fields. It is spent by `into_inner`, and can't be
-/// dropped, so that the stream is not lost.
+/// A source that cuts a stream of bytes into messages, by their length fields. It is spent by `into_inner`, and can't
+/// be dropped, so that the stream is not lost.
 #[derive(Debug)]
 pub struct StreamSource<I> {
     inner: I,
