@@ -1,13 +1,15 @@
-// What the types of `fuse_wire` are, beside what they hold: a derive that is lost does not compile here.
+//! What the types of `fuse_wire` are, beside what they hold: a derive that is lost does not compile here.
 use fuse_wire::{
     AccessFlags, BsdFileFlags, ByteRead, ByteWrite, CopyFileRangeFlags, CuseInitFlags, Duration,
     Errno, FattrFlags, FileAttr, FileHandle, FileType, FopenFlags, FsyncFlags, Generation,
-    GetattrFlags, INodeNo, InitFlags, IoctlFlags, Items, LockOwner, NoMemory, Noting, OpenAccMode,
-    OpenFlags, PollEvents, PollFlags, PollHandle, ReadFlags, Received, ReleaseFlags, RenameFlags,
-    RequestId, Sending, SystemTime, TimeOrNow, Version, WriteFlags,
+    GetattrFlags, INodeNo, InitFlags, IoctlFlags, Items, LockOwner, MemoryBytes, MemoryOut,
+    MemorySink, MemorySource, NoMemory, Noting, OpenAccMode, OpenFlags, PollEvents, PollFlags,
+    PollHandle, ReadFlags, Received, ReleaseFlags, RenameFlags, RequestId, Sending, StdSink,
+    StdSource, StreamSink, StreamSource, SystemTime, TimeOrNow, Turn, Version, WriteFlags,
 };
 use std::fmt::Debug;
 use std::hash::Hash;
+use std::io::{Empty, Sink};
 
 fn is_ordered<T: Copy + Ord + Hash + Debug>() {}
 
@@ -16,6 +18,8 @@ fn is_hashed<T: Copy + Eq + Hash + Debug>() {}
 fn is_compared<T: Copy + Eq + Debug>() {}
 
 fn is_equal<T: Eq + Debug>() {}
+
+fn is_shown<T: Debug>() {}
 
 #[test]
 fn numbers_and_times_are_ordered() {
@@ -65,4 +69,17 @@ fn errors_attributes_and_answers_are_compared() {
     is_compared::<ByteRead>();
     is_compared::<ByteWrite>();
     is_equal::<Items<u8>>();
+}
+
+#[test]
+fn devices_are_shown() {
+    is_shown::<Turn>();
+    is_shown::<MemorySource>();
+    is_shown::<MemorySink>();
+    is_shown::<MemoryBytes>();
+    is_shown::<MemoryOut>();
+    is_shown::<StdSource<Empty>>();
+    is_shown::<StdSink<Sink>>();
+    is_shown::<StreamSource<MemoryBytes>>();
+    is_shown::<StreamSink<MemoryOut>>();
 }

@@ -1,4 +1,4 @@
-// Devices in memory, those of std, and frames on a stream.
+//! Devices in memory, those of std, and frames on a stream.
 ghost use Rattle.std.specs.Prelude.{◌≤◌};
 ghost use Rattle.fuse_wire.specs.MemorySink.{EachFails, NumbersDiffer};
 
@@ -11,8 +11,8 @@ use std::io;
 use std::io::{Cursor, Read, Write};
 use std::process::Abort;
 
-/// How many bytes are read at once, and what each of five reads gives, with the piece that it reads into. The second read
-/// fails.
+/// How many bytes are read at once, and what each of five reads gives, with the piece that it reads into. The second
+/// read fails.
 const READS: [(usize, [(ByteRead, [u8; 4]); 5]); 3] = [
     (
         1,

@@ -1,4 +1,4 @@
-// Messages from a stream of bytes, and from memory.
+//! Messages from a stream of bytes, and from memory.
 ghost use Rattle.std.specs.Prelude.{◌≡◌, length};
 ghost use Rattle.fuse_wire.specs.declared.consts.TheConstants.{BUFFER_SIZE};
 

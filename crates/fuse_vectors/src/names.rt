@@ -1,4 +1,4 @@
-// Errors and flags: the names and values of `errno.h`, `fuse.h`, `poll(2)`, `renameat2(2)` and `access(2)`.
+//! Errors and flags: the names and values of `errno.h`, `fuse.h`, `poll(2)`, `renameat2(2)` and `access(2)`.
 use bitflags::Flags;
 use fuse_wire::{
     AccessFlags, BsdFileFlags, CopyFileRangeFlags, CuseInitFlags, Errno, FattrFlags, FopenFlags,

@@ -1,4 +1,4 @@
-// Numbers under names of their own, times and spans: their texts, their order, and the way they come and go.
+//! Numbers under names of their own, times and spans: their texts, their order, and the way they come and go.
 use fuse_wire::{
     Duration, FileHandle, Generation, INodeNo, Items, LockOwner, OpenAccMode, OpenFlags,
     PollHandle, RequestId, SystemTime, Version, system_time_from_time, time_from_system_time,

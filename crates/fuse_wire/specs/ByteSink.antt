@@ -14,6 +14,7 @@ pub record PutsBytes (put : List ℕ) (before after : ByteSinkState) : Type 0 wh
   pub bytes : after.bytes ≡ option_map (λ held. held ++ put) before.bytes
   pub faults : before.faults ≤ after.faults
 
+-- what one write does, by its answer
 abbrev pub Writes : ByteWrite → List ℕ → ByteSinkState → ByteSinkState → Type 0
 Writes (Wrote n) piece before after = (1 ≤ n) × (n ≤ length piece) × PutsBytes (take n piece) before after
 Writes Failed piece before after = PutsBytes [] before after × Rose before.faults after.faults

@@ -29,11 +29,13 @@ pub record Appends (frames : List (List ℕ)) (notes : List Note) (before after 
 abbrev pub Refuses : SinkState → SinkState → Type 0
 Refuses before after = Appends [] [] before after × Rose before.faults after.faults
 
+-- what one send does, by its answer
 abbrev pub Sends : Sending → List ℕ → SinkState → SinkState → Type 0
 Sends Sent frame before after = Appends (frame ∷ []) [] before after
 Sends Absent frame before after = Refuses before after
 Sends Failed frame before after = Refuses before after
 
+-- what one note does, by its answer
 abbrev pub Notes : Noting → Note → SinkState → SinkState → Type 0
 Notes Noted note before after = Appends [] (note ∷ []) before after
 Notes Unnoted note before after = Refuses before after
