@@ -16,103 +16,136 @@ macro_rules! errors {
     };
 }
 
-const ERRORS: [(&str, Errno, i32); 87] = errors![
-    EPERM 1,
-    ENOENT 2,
-    ESRCH 3,
-    EINTR 4,
-    EIO 5,
-    ENXIO 6,
-    E2BIG 7,
-    ENOEXEC 8,
-    EBADF 9,
-    ECHILD 10,
-    EAGAIN 11,
-    ENOMEM 12,
-    EACCES 13,
-    EFAULT 14,
-    ENOTBLK 15,
-    EBUSY 16,
-    EEXIST 17,
-    EXDEV 18,
-    ENODEV 19,
-    ENOTDIR 20,
-    EISDIR 21,
-    EINVAL 22,
-    ENFILE 23,
-    EMFILE 24,
-    ENOTTY 25,
-    ETXTBSY 26,
-    EFBIG 27,
-    ENOSPC 28,
-    ESPIPE 29,
-    EROFS 30,
-    EMLINK 31,
-    EPIPE 32,
-    EDOM 33,
-    ERANGE 34,
-    EDEADLK 35,
-    ENAMETOOLONG 36,
-    ENOLCK 37,
-    ENOSYS 38,
-    ENOTEMPTY 39,
-    ELOOP 40,
-    EWOULDBLOCK 11,
-    ENOMSG 42,
-    EIDRM 43,
-    ENODATA 61,
-    NO_XATTR 61,
-    EREMOTE 66,
-    ENOLINK 67,
-    EPROTO 71,
-    EMULTIHOP 72,
-    EBADMSG 74,
-    EOVERFLOW 75,
-    EILSEQ 84,
-    EUSERS 87,
-    ENOTSOCK 88,
-    EDESTADDRREQ 89,
-    EMSGSIZE 90,
-    EPROTOTYPE 91,
-    ENOPROTOOPT 92,
-    EPROTONOSUPPORT 93,
-    ESOCKTNOSUPPORT 94,
-    EOPNOTSUPP 95,
-    ENOTSUP 95,
-    EPFNOSUPPORT 96,
-    EAFNOSUPPORT 97,
-    EADDRINUSE 98,
-    EADDRNOTAVAIL 99,
-    ENETDOWN 100,
-    ENETUNREACH 101,
-    ENETRESET 102,
-    ECONNABORTED 103,
-    ECONNRESET 104,
-    ENOBUFS 105,
-    EISCONN 106,
-    ENOTCONN 107,
-    ESHUTDOWN 108,
-    ETOOMANYREFS 109,
-    ETIMEDOUT 110,
-    ECONNREFUSED 111,
-    EHOSTDOWN 112,
-    EHOSTUNREACH 113,
-    EALREADY 114,
-    EINPROGRESS 115,
-    ESTALE 116,
-    EDQUOT 122,
-    ECANCELED 125,
-    EOWNERDEAD 130,
-    ENOTRECOVERABLE 131,
-];
+/// Each constant has the number of its name, and the number gives it.
+fn expect_numbers(rt: &impl Abort, errors: &[(&str, Errno, i32)]) {
+    for (name, errno, number) in errors {
+        let read = Errno::from_i32(*number).code();
+        let found = (*name, errno.code(), i32::from(*errno), read);
+        assert_eq!(rt; found, (*name, *number, *number, *number));
+    }
+}
 
 #[test]
-fn errors_have_the_numbers_of_linux(rt: HostRuntime) {
-    for (name, errno, number) in &ERRORS {
-        let numbers = [errno.code(), i32::from(*errno)];
-        assert_eq!(rt; numbers, [*number; 2], "{name}");
-        assert_eq!(rt; Errno::from_i32(*number).code(), *number, "{name}");
-    }
+fn errors_from_1_to_22(rt: HostRuntime) {
+    expect_numbers(
+        &rt,
+        &errors![
+            EPERM 1,
+            ENOENT 2,
+            ESRCH 3,
+            EINTR 4,
+            EIO 5,
+            ENXIO 6,
+            E2BIG 7,
+            ENOEXEC 8,
+            EBADF 9,
+            ECHILD 10,
+            EAGAIN 11,
+            ENOMEM 12,
+            EACCES 13,
+            EFAULT 14,
+            ENOTBLK 15,
+            EBUSY 16,
+            EEXIST 17,
+            EXDEV 18,
+            ENODEV 19,
+            ENOTDIR 20,
+            EISDIR 21,
+            EINVAL 22,
+            EWOULDBLOCK 11,
+        ],
+    );
+}
+
+#[test]
+fn errors_from_23_to_67(rt: HostRuntime) {
+    expect_numbers(
+        &rt,
+        &errors![
+            ENFILE 23,
+            EMFILE 24,
+            ENOTTY 25,
+            ETXTBSY 26,
+            EFBIG 27,
+            ENOSPC 28,
+            ESPIPE 29,
+            EROFS 30,
+            EMLINK 31,
+            EPIPE 32,
+            EDOM 33,
+            ERANGE 34,
+            EDEADLK 35,
+            ENAMETOOLONG 36,
+            ENOLCK 37,
+            ENOSYS 38,
+            ENOTEMPTY 39,
+            ELOOP 40,
+            ENOMSG 42,
+            EIDRM 43,
+            ENODATA 61,
+            NO_XATTR 61,
+            EREMOTE 66,
+            ENOLINK 67,
+        ],
+    );
+}
+
+#[test]
+fn errors_from_71_to_98(rt: HostRuntime) {
+    expect_numbers(
+        &rt,
+        &errors![
+            EPROTO 71,
+            EMULTIHOP 72,
+            EBADMSG 74,
+            EOVERFLOW 75,
+            EILSEQ 84,
+            EUSERS 87,
+            ENOTSOCK 88,
+            EDESTADDRREQ 89,
+            EMSGSIZE 90,
+            EPROTOTYPE 91,
+            ENOPROTOOPT 92,
+            EPROTONOSUPPORT 93,
+            ESOCKTNOSUPPORT 94,
+            EOPNOTSUPP 95,
+            ENOTSUP 95,
+            EPFNOSUPPORT 96,
+            EAFNOSUPPORT 97,
+            EADDRINUSE 98,
+        ],
+    );
+}
+
+#[test]
+fn errors_from_99_to_131(rt: HostRuntime) {
+    expect_numbers(
+        &rt,
+        &errors![
+            EADDRNOTAVAIL 99,
+            ENETDOWN 100,
+            ENETUNREACH 101,
+            ENETRESET 102,
+            ECONNABORTED 103,
+            ECONNRESET 104,
+            ENOBUFS 105,
+            EISCONN 106,
+            ENOTCONN 107,
+            ESHUTDOWN 108,
+            ETOOMANYREFS 109,
+            ETIMEDOUT 110,
+            ECONNREFUSED 111,
+            EHOSTDOWN 112,
+            EHOSTUNREACH 113,
+            EALREADY 114,
+            EINPROGRESS 115,
+            ESTALE 116,
+            EDQUOT 122,
+            ECANCELED 125,
+            EOWNERDEAD 130,
+            ENOTRECOVERABLE 131,
+        ],
+    );
 }
 
 #[test]
