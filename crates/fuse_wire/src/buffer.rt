@@ -7,7 +7,7 @@ use std::alloc::Global;
 
 /// A receive buffer of zero bytes, as many as a source asks for: `BUFFER_SIZE`.
 ///
-/// `NoMemory` comes where they find no memory, and else there is no error.
+/// `NoMemory` comes where there is no room for them, and there is no other error.
 pub fn receive_buffer(alloc: Global) -> Result<Vec<u8>, NoMemory>
     ensures { IfOk result (λ buffer. length buffer.items ≡ BUFFER_SIZE) }
 {

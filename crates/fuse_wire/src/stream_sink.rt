@@ -83,13 +83,12 @@ fn write_frame<O: ByteSink>(inner: &mut O, header: &[u8; 16], payload: &[u8]) ->
     write_all(inner, header) && write_all(inner, payload)
 }
 
-impl<O: ByteSink + fmt::Debug> fmt::Debug for StreamSink<O> {
+/// How it stands, without the stream.
+impl<O: ByteSink> fmt::Debug for StreamSink<O> {
     fn fmt<W: fmt::Write>(&self, f: &mut fmt::Formatter<W>) -> fmt::Result {
         f.debug_struct("StreamSink")
-            .field("inner", &self.inner)
             .field("broken", &self.broken)
-            .field("refused", &self.refused)
-            .finish()
+            .finish_non_exhaustive()
     }
 }
 
