@@ -5,6 +5,7 @@ pub mod Setting
 pub mod Forgets
 pub mod InitOperation
 pub mod Header
+pub mod Opcode
 pub mod Operation
 pub mod Call
 pub mod Behind

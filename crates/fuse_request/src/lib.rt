@@ -14,6 +14,7 @@ mod locks;
 mod names;
 mod nodes;
 mod offsets;
+pub mod opcode;
 mod operation;
 mod parts;
 mod places;
