@@ -1,10 +1,11 @@
--- What stands at the front of a body, and the bytes behind it: the structs of `fuse.h` field by field.
+-- What stands at the front of a body, and the bytes after it: the structs of `fuse.h` field by field.
 use Rattle.std.specs.Prelude.{◌≡◌, ◌==◌, ◌+◌, ℕ, List, Option, None, Some, option_map, position, length, take, drop, ◌*◌, nat_le, if◌then◌else◌}
 use Rattle.std.specs.Borrow.{Bor}
 use Rattle.fuse_wire.specs.Numbers.{number}
 use Rattle.fuse_args.specs.declared.fixed.InitArguments.{InitArguments}
 
--- A fetch gives what stands at the front and leaves the bytes behind it, or gives nothing where nothing whole stands there, and leaves all.
+-- A fetch gives what stands at the front and leaves the bytes after it, or gives nothing where nothing whole stands there,
+-- and leaves all.
 abbrev pub Fetches : {X : Type 0} → Option X → List ℕ → List ℕ → Option (X × List ℕ) → Type 0
 Fetches None before after front = (front ≡ None) × (after ≡ before)
 Fetches (Some found) before after front = front ≡ Some (found, after)
@@ -13,19 +14,20 @@ Fetches (Some found) before after front = front ≡ Some (found, after)
 abbrev pub FetchesSlice : Option (Bor (List ℕ)) → List ℕ → List ℕ → Option (List ℕ × List ℕ) → Type 0
 FetchesSlice found = Fetches (option_map (λ slice. slice.now) found)
 
--- a part of fixed size: its fields, and the bytes behind it; none where it is not all there
+-- a part of fixed size: its fields, and the bytes after it; none where it is not all there
 abbrev pub fixed : {X : Type 0} → ℕ → (List ℕ → X) → List ℕ → Option (X × List ℕ)
 fixed size fields bytes = if nat_le size (length bytes) then Some (fields bytes, drop size bytes) else None
 
--- a name: the bytes in front of the least zero byte, and the bytes behind that zero; none where no byte is zero
+-- a name: the bytes in front of the least zero byte, and the bytes after that zero; none where no byte is zero
 abbrev pub name_at : List ℕ → Option (List ℕ × List ℕ)
 name_at bytes = option_map (λ zero_at. (take zero_at bytes, drop (zero_at + 1) bytes)) (position (λ byte. byte == 0) bytes)
 
--- so many rows of 16 bytes (`struct fuse_forget_one`), and the bytes behind them; none where they are not all there
+-- so many rows of 16 bytes (`struct fuse_forget_one`), and the bytes after them; none where they are not all there
 abbrev pub rows_at : ℕ → List ℕ → Option (List ℕ × List ℕ)
 rows_at count = fixed (16 * count) (λ bytes. take (16 * count) bytes)
 
--- INIT: major4 minor4 max_readahead4 flags4, then flags2 4 _44; only the first 16 bytes must be there, and one that is missing behind them is zero
+-- INIT: major4 minor4 max_readahead4 flags4, then flags2 4 _44 (`struct fuse_init_in`); only the first 16 bytes must be
+-- there, and one that is missing after them is zero
 abbrev pub init_fields : List ℕ → InitArguments
 init_fields b = record {
   major = number b 0 4;

@@ -40,6 +40,13 @@ impl<'a> ArgumentIterator<'a> {
         self.rest.len()
     }
 
+    /// Whether no byte is left.
+    pub fn is_empty(&self) -> bool
+        ensures { result ≡ (length self.now == 0) }
+    {
+        self.rest.is_empty()
+    }
+
     /// The arguments of INIT, of which an old kernel sends 16 bytes and a newer one 64. What is missing is zero.
     pub fn fetch_init(&mut self) -> Option<InitArguments>
         ensures { Fetches result self.old self.new (init_at self.old) }
@@ -48,7 +55,7 @@ impl<'a> ArgumentIterator<'a> {
         if all.len() < 16 {
             return None;
         }
-        self.rest = behind(all, 64);
+        self.rest = after(all, 64);
         Some(InitArguments {
             major: u32_at(all, 0),
             minor: u32_at(all, 4),
@@ -59,6 +66,7 @@ impl<'a> ArgumentIterator<'a> {
     }
 
     /// A name: the bytes up to the first zero byte, which is passed too. None where no byte is zero.
+    #[inline(always)]
     pub fn fetch_str(&mut self) -> Option<&'a [u8]>
         ensures { FetchesSlice result self.old self.new (name_at self.old) }
     {
@@ -68,7 +76,7 @@ impl<'a> ArgumentIterator<'a> {
         Some(&all[..end])
     }
 
-    /// All bytes that are left. Nothing is left behind them.
+    /// All bytes that are left. Nothing is left after them.
     pub fn fetch_all(&mut self) -> &'a [u8]
         ensures result { result.now ≡ self.old }
         ensures left { self.new ≡ [] }
@@ -107,7 +115,7 @@ impl<'a> ArgumentIterator<'a> {
         Some(())
     }
 
-    /// All bytes that were left, where a part of this size is there, and moves behind that part.
+    /// All bytes that were left, where a part of this size is there, and moves past that part.
     fn fixed(&mut self, size: usize) -> Option<&'a [u8]>
         ensures { FetchesSlice result self.old self.new (fixed size (λ bytes. bytes) self.old) }
     {
@@ -121,6 +129,7 @@ impl<'a> ArgumentIterator<'a> {
 }
 
 /// The place of the first zero byte.
+#[inline(always)]
 #[tactic(auto, using(crate::proofs::Names::position_is_first))]
 fn first_zero(bytes: &[u8]) -> Option<usize>
     ensures { result ≡ position (λ byte. byte == 0) bytes.now }
@@ -128,8 +137,8 @@ fn first_zero(bytes: &[u8]) -> Option<usize>
     memchr(0, bytes)
 }
 
-/// What lies behind so many bytes, or nothing.
-fn behind(bytes: &[u8], count: usize) -> &[u8]
+/// What comes after so many bytes, or nothing.
+fn after(bytes: &[u8], count: usize) -> &[u8]
     ensures { result.now ≡ drop count bytes.now }
 {
     if count < bytes.len() {

@@ -15,7 +15,7 @@ pub use nodes::{
 };
 
 /// The arguments of INIT: `struct fuse_init_in`. What a message is too short for is zero.
-#[derive(Clone, Copy, Debug, PartialEq, Eq)]
+#[derive(Clone, Copy)]
 pub struct InitArguments {
     /// The kernel's major version.
     pub major: u32,

@@ -1,4 +1,4 @@
-//! A reader of the arguments behind a request's header. It borrows from the message, takes no memory, and every fetch
+//! A reader of the arguments after a request's header. It borrows from the message, takes no memory, and every fetch
 //! gives exactly what stands at the front of the bytes left, or None where too little is left, and then nothing moves.
 #![tactic(auto)]
 

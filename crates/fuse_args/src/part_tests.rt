@@ -1,41 +1,12 @@
 // Each part of fixed size, fetched from bytes of which each 4 are their number, from 1.
-use crate::ArgumentIterator;
-use std::alloc::{AllocError, Global};
-
-/// The part of a request of this opcode, as text.
-fn fetched(
-    alloc: Global,
-    opcode: u16,
-    arguments: &mut ArgumentIterator<'_>,
-) -> Result<String, AllocError> {
-    match opcode {
-        2 => format!(in alloc; "{:?}", arguments.fetch_u64()),
-        3 => format!(in alloc; "{:?}", arguments.fetch_getattr()),
-        4 => format!(in alloc; "{:?}", arguments.fetch_setattr()),
-        8 => format!(in alloc; "{:?}", arguments.fetch_mknod()),
-        9 => format!(in alloc; "{:?}", arguments.fetch_mkdir()),
-        14 => format!(in alloc; "{:?}", arguments.fetch_open()),
-        15 => format!(in alloc; "{:?}", arguments.fetch_read()),
-        16 => format!(in alloc; "{:?}", arguments.fetch_write()),
-        18 => format!(in alloc; "{:?}", arguments.fetch_release()),
-        20 => format!(in alloc; "{:?}", arguments.fetch_fsync()),
-        21 => format!(in alloc; "{:?}", arguments.fetch_setxattr()),
-        22 => format!(in alloc; "{:?}", arguments.fetch_getxattr()),
-        25 => format!(in alloc; "{:?}", arguments.fetch_flush()),
-        31 => format!(in alloc; "{:?}", arguments.fetch_getlk()),
-        34 => format!(in alloc; "{:?}", arguments.fetch_access()),
-        35 => format!(in alloc; "{:?}", arguments.fetch_create()),
-        37 => format!(in alloc; "{:?}", arguments.fetch_bmap()),
-        39 => format!(in alloc; "{:?}", arguments.fetch_ioctl()),
-        40 => format!(in alloc; "{:?}", arguments.fetch_poll()),
-        42 => format!(in alloc; "{:?}", arguments.fetch_batch_forget()),
-        43 => format!(in alloc; "{:?}", arguments.fetch_fallocate()),
-        45 => format!(in alloc; "{:?}", arguments.fetch_rename2()),
-        46 => format!(in alloc; "{:?}", arguments.fetch_lseek()),
-        47 => format!(in alloc; "{:?}", arguments.fetch_copy_file_range()),
-        _ => format!(in alloc; "{:?}", arguments.fetch_cuse_init()),
-    }
-}
+use crate::{
+    AccessArguments, ArgumentIterator, BMapArguments, BatchForgetArguments, CopyFileRangeArguments,
+    CreateArguments, FAllocateArguments, FSyncArguments, FlushArguments, GetAttrArguments,
+    GetLkArguments, GetXAttrArguments, IoCtlArguments, LseekArguments, MkDirArguments,
+    MkNodArguments, OpenArguments, PollArguments, ReadArguments, ReleaseArguments,
+    Rename2Arguments, SetAttrArguments, SetXAttrArguments, WriteArguments,
+};
+use std::test::Fail;
 
 /// Bytes of which each 4 are their number, from 1.
 fn numbered() -> [u8; 91] {
@@ -49,116 +20,267 @@ fn numbered() -> [u8; 91] {
     bytes
 }
 
-/// Opcode, how many bytes its part has, and what it is at the front of these bytes.
-const PARTS: [(u16, usize, &str); 25] = [
-    (2, 8, "Some(8589934593)"),
-    (
-        3,
-        16,
-        "Some(GetAttrArguments { getattr_flags: 1, fh: 17179869187 })",
-    ),
-    (
-        4,
-        88,
-        "Some(SetAttrArguments { valid: 1, fh: 17179869187, size: 25769803781, lock_owner: 34359738375, atime: 42949672969, mtime: 51539607563, ctime: 60129542157, atimensec: 15, mtimensec: 16, ctimensec: 17, mode: 18, uid: 20, gid: 21 })",
-    ),
-    (8, 16, "Some(MkNodArguments { mode: 1, rdev: 2, umask: 3 })"),
-    (9, 8, "Some(MkDirArguments { mode: 1, umask: 2 })"),
-    (14, 8, "Some(OpenArguments { flags: 1 })"),
-    (
-        15,
-        40,
-        "Some(ReadArguments { fh: 8589934593, offset: 17179869187, size: 5, read_flags: 6, lock_owner: 34359738375, flags: 9 })",
-    ),
-    (
-        16,
-        40,
-        "Some(WriteArguments { fh: 8589934593, offset: 17179869187, size: 5, write_flags: 6, lock_owner: 34359738375, flags: 9 })",
-    ),
-    (
-        18,
-        24,
-        "Some(ReleaseArguments { fh: 8589934593, flags: 3, release_flags: 4, lock_owner: 25769803781 })",
-    ),
-    (
-        20,
-        16,
-        "Some(FSyncArguments { fh: 8589934593, fsync_flags: 3 })",
-    ),
-    (21, 8, "Some(SetXAttrArguments { size: 1, flags: 2 })"),
-    (22, 8, "Some(GetXAttrArguments { size: 1 })"),
-    (
-        25,
-        24,
-        "Some(FlushArguments { fh: 8589934593, lock_owner: 25769803781 })",
-    ),
-    (
-        31,
-        48,
-        "Some(GetLkArguments { fh: 8589934593, owner: 17179869187, start: 25769803781, end: 34359738375, typ: 9, pid: 10, lk_flags: 11 })",
-    ),
-    (34, 8, "Some(AccessArguments { mask: 1 })"),
-    (
-        35,
-        16,
-        "Some(CreateArguments { flags: 1, mode: 2, umask: 3 })",
-    ),
-    (
-        37,
-        16,
-        "Some(BMapArguments { block: 8589934593, blocksize: 3 })",
-    ),
-    (
-        39,
-        32,
-        "Some(IoCtlArguments { fh: 8589934593, flags: 3, cmd: 4, arg: 25769803781, in_size: 7, out_size: 8 })",
-    ),
-    (
-        40,
-        24,
-        "Some(PollArguments { fh: 8589934593, kh: 17179869187, flags: 5, events: 6 })",
-    ),
-    (42, 8, "Some(BatchForgetArguments { count: 1 })"),
-    (
-        43,
-        32,
-        "Some(FAllocateArguments { fh: 8589934593, offset: 17179869187, length: 25769803781, mode: 7 })",
-    ),
-    (
-        45,
-        16,
-        "Some(Rename2Arguments { newdir: 8589934593, flags: 3 })",
-    ),
-    (
-        46,
-        24,
-        "Some(LseekArguments { fh: 8589934593, offset: 17179869187, whence: 5 })",
-    ),
-    (
-        47,
-        56,
-        "Some(CopyFileRangeArguments { fh_in: 8589934593, off_in: 17179869187, nodeid_out: 25769803781, fh_out: 34359738375, off_out: 42949672969, len: 51539607563, flags: 60129542157 })",
-    ),
-    (4096, 64, "Some(())"),
+/// Whether the part of a request of this opcode has its fields at their places. None where it is not fetched.
+fn is_in_place(opcode: u16, arguments: &mut ArgumentIterator<'_>) -> Option<bool> {
+    match opcode {
+        2 => Some(arguments.fetch_u64()? == 0x2_0000_0001),
+        3 => Some(matches!(
+            arguments.fetch_getattr()?,
+            GetAttrArguments {
+                getattr_flags: 1,
+                fh: 0x4_0000_0003
+            }
+        )),
+        4 => Some(is_setattr_in_place(arguments.fetch_setattr()?)),
+        8 => Some(matches!(
+            arguments.fetch_mknod()?,
+            MkNodArguments {
+                mode: 1,
+                rdev: 2,
+                umask: 3
+            }
+        )),
+        9 => Some(matches!(
+            arguments.fetch_mkdir()?,
+            MkDirArguments { mode: 1, umask: 2 }
+        )),
+        21 => Some(matches!(
+            arguments.fetch_setxattr()?,
+            SetXAttrArguments { size: 1, flags: 2 }
+        )),
+        22 => Some(arguments.fetch_getxattr()?.size == 1),
+        34 => Some(arguments.fetch_access()?.mask == 1),
+        42 => Some(arguments.fetch_batch_forget()?.count == 1),
+        45 => Some(matches!(
+            arguments.fetch_rename2()?,
+            Rename2Arguments {
+                newdir: 0x2_0000_0001,
+                flags: 3
+            }
+        )),
+        opcode => is_file_part_in_place(opcode, arguments),
+    }
+}
+
+/// The same of SETATTR.
+fn is_setattr_in_place(setattr: SetAttrArguments) -> bool {
+    matches!(
+        setattr,
+        SetAttrArguments {
+            valid: 1,
+            fh: 0x4_0000_0003,
+            size: 0x6_0000_0005,
+            lock_owner: 0x8_0000_0007,
+            atime: 0xa_0000_0009,
+            mtime: 0xc_0000_000b,
+            ctime: 0xe_0000_000d,
+            atimensec: 15,
+            mtimensec: 16,
+            ctimensec: 17,
+            mode: 18,
+            uid: 20,
+            gid: 21,
+        }
+    )
+}
+
+/// The same of requests of open files.
+fn is_file_part_in_place(opcode: u16, arguments: &mut ArgumentIterator<'_>) -> Option<bool> {
+    match opcode {
+        14 => Some(matches!(arguments.fetch_open()?, OpenArguments { flags: 1 })),
+        15 => Some(matches!(
+            arguments.fetch_read()?,
+            ReadArguments {
+                fh: 0x2_0000_0001,
+                offset: 0x4_0000_0003,
+                size: 5,
+                read_flags: 6,
+                lock_owner: 0x8_0000_0007,
+                flags: 9,
+            }
+        )),
+        16 => Some(matches!(
+            arguments.fetch_write()?,
+            WriteArguments {
+                fh: 0x2_0000_0001,
+                offset: 0x4_0000_0003,
+                size: 5,
+                write_flags: 6,
+                lock_owner: 0x8_0000_0007,
+                flags: 9,
+            }
+        )),
+        18 => Some(matches!(
+            arguments.fetch_release()?,
+            ReleaseArguments {
+                fh: 0x2_0000_0001,
+                flags: 3,
+                release_flags: 4,
+                lock_owner: 0x6_0000_0005,
+            }
+        )),
+        20 => Some(matches!(
+            arguments.fetch_fsync()?,
+            FSyncArguments {
+                fh: 0x2_0000_0001,
+                fsync_flags: 3
+            }
+        )),
+        25 => Some(matches!(
+            arguments.fetch_flush()?,
+            FlushArguments {
+                fh: 0x2_0000_0001,
+                lock_owner: 0x6_0000_0005
+            }
+        )),
+        35 => Some(matches!(
+            arguments.fetch_create()?,
+            CreateArguments {
+                flags: 1,
+                mode: 2,
+                umask: 3
+            }
+        )),
+        opcode => is_range_part_in_place(opcode, arguments),
+    }
+}
+
+/// The same of requests of ranges of open files.
+fn is_range_part_in_place(opcode: u16, arguments: &mut ArgumentIterator<'_>) -> Option<bool> {
+    match opcode {
+        37 => Some(matches!(
+            arguments.fetch_bmap()?,
+            BMapArguments {
+                block: 0x2_0000_0001,
+                blocksize: 3
+            }
+        )),
+        43 => Some(matches!(
+            arguments.fetch_fallocate()?,
+            FAllocateArguments {
+                fh: 0x2_0000_0001,
+                offset: 0x4_0000_0003,
+                length: 0x6_0000_0005,
+                mode: 7,
+            }
+        )),
+        46 => Some(matches!(
+            arguments.fetch_lseek()?,
+            LseekArguments {
+                fh: 0x2_0000_0001,
+                offset: 0x4_0000_0003,
+                whence: 5
+            }
+        )),
+        47 => Some(matches!(
+            arguments.fetch_copy_file_range()?,
+            CopyFileRangeArguments {
+                fh_in: 0x2_0000_0001,
+                off_in: 0x4_0000_0003,
+                nodeid_out: 0x6_0000_0005,
+                fh_out: 0x8_0000_0007,
+                off_out: 0xa_0000_0009,
+                len: 0xc_0000_000b,
+                flags: 0xe_0000_000d,
+            }
+        )),
+        opcode => is_device_part_in_place(opcode, arguments),
+    }
+}
+
+/// The same of requests of locks and devices.
+fn is_device_part_in_place(opcode: u16, arguments: &mut ArgumentIterator<'_>) -> Option<bool> {
+    match opcode {
+        31 => Some(matches!(
+            arguments.fetch_getlk()?,
+            GetLkArguments {
+                fh: 0x2_0000_0001,
+                owner: 0x4_0000_0003,
+                start: 0x6_0000_0005,
+                end: 0x8_0000_0007,
+                typ: 9,
+                pid: 10,
+                lk_flags: 11,
+            }
+        )),
+        39 => Some(matches!(
+            arguments.fetch_ioctl()?,
+            IoCtlArguments {
+                fh: 0x2_0000_0001,
+                flags: 3,
+                cmd: 4,
+                arg: 0x6_0000_0005,
+                in_size: 7,
+                out_size: 8,
+            }
+        )),
+        40 => Some(matches!(
+            arguments.fetch_poll()?,
+            PollArguments {
+                fh: 0x2_0000_0001,
+                kh: 0x4_0000_0003,
+                flags: 5,
+                events: 6,
+            }
+        )),
+        _ => {
+            arguments.fetch_cuse_init()?;
+            Some(true)
+        }
+    }
+}
+
+/// Opcode, and how many bytes its part has.
+const PARTS: [(u16, usize); 25] = [
+    (2, 8),
+    (3, 16),
+    (4, 88),
+    (8, 16),
+    (9, 8),
+    (14, 8),
+    (15, 40),
+    (16, 40),
+    (18, 24),
+    (20, 16),
+    (21, 8),
+    (22, 8),
+    (25, 24),
+    (31, 48),
+    (34, 8),
+    (35, 16),
+    (37, 16),
+    (39, 32),
+    (40, 24),
+    (42, 8),
+    (43, 32),
+    (45, 16),
+    (46, 24),
+    (47, 56),
+    (4096, 64),
 ];
 
 #[test]
-fn fetches_each_part(rt: HostRuntime) -> Result<(), AllocError> {
-    let alloc = rt.alloc();
+fn fetches_each_part(rt: HostRuntime) -> Result<(), Fail> {
     let bytes = numbered();
-    for (opcode, size, expected) in PARTS {
+    for (opcode, size) in PARTS {
         for length in 0..size {
             let mut arguments = ArgumentIterator::new(bytes.get(..length).unwrap_or(&[]));
-            let found = fetched(alloc, opcode, &mut arguments)?;
-            assert_eq!(rt; found.as_str(), "None", "{opcode} of {length}");
-            assert_eq!(rt; arguments.len(), length, "{opcode} of {length}");
+            let found = is_in_place(opcode, &mut arguments);
+            assert_eq!(rt;
+                (found, arguments.len()),
+                (None, length),
+                "{opcode} of {length}"
+            );
         }
         for more in [0, 3] {
             let front = bytes.get(..size.saturating_add(more)).unwrap_or(&[]);
             let mut arguments = ArgumentIterator::new(front);
-            let found = fetched(alloc, opcode, &mut arguments)?;
-            assert_eq!(rt; found.as_str(), expected);
-            assert_eq!(rt; arguments.len(), more, "behind that of {opcode}");
+            let found = is_in_place(opcode, &mut arguments);
+            assert_eq!(rt;
+                (found, arguments.len()),
+                (Some(true), more),
+                "{opcode} before {more}"
+            );
         }
     }
     Ok(())

@@ -1,5 +1,5 @@
 // What is fetched from bodies of several lengths: INIT as kernels of several ages send it, names, and rows.
-use crate::{ArgumentIterator, InitArguments};
+use crate::ArgumentIterator;
 use std::test::Fail;
 
 /// What a new kernel sends: an older one sends fewer of these bytes.
@@ -9,22 +9,28 @@ const BYTES: [u8; 64] = [
     0, 0,
 ];
 
+/// The fields of INIT: the version, the readahead, and the two words of capabilities.
+fn fetched_init(arguments: &mut ArgumentIterator<'_>) -> Option<[u32; 5]> {
+    let init = arguments.fetch_init()?;
+    Some([
+        init.major,
+        init.minor,
+        init.max_readahead,
+        init.flags,
+        init.flags2,
+    ])
+}
+
 #[test]
 fn fetches_init_of_each_length(rt: HostRuntime) -> Result<(), Fail> {
     for (length, flags2) in [(16, 0), (18, 0x102), (64, 0x0403_0102)] {
         let mut arguments = ArgumentIterator::new(BYTES.get(..length).unwrap_or(&[]));
-        let expected = InitArguments {
-            major: 7,
-            minor: 40,
-            max_readahead: 4096,
-            flags: 0x4000_0001,
-            flags2,
-        };
-        assert_eq!(rt; arguments.fetch_init(), Some(expected), "of {length}");
+        let expected = Some([7, 40, 4096, 0x4000_0001, flags2]);
+        assert_eq!(rt; fetched_init(&mut arguments), expected, "of {length}");
         assert_eq!(rt; arguments.len(), 0, "of {length}");
     }
     let mut arguments = ArgumentIterator::new(BYTES.get(..15).unwrap_or(&[]));
-    assert_eq!(rt; arguments.fetch_init(), None);
+    assert_eq!(rt; fetched_init(&mut arguments), None);
     assert_eq!(rt; arguments.len(), 15);
     Ok(())
 }
@@ -109,7 +115,7 @@ fn fetches_one_after_another(rt: HostRuntime) -> Result<(), Fail> {
     let mut arguments = ArgumentIterator::new(bytes);
     assert!(rt; arguments.fetch_u64().is_some());
     assert_eq!(rt; arguments.fetch_u64(), None);
-    assert_eq!(rt; arguments.fetch_access(), None);
+    assert!(rt; arguments.fetch_access().is_none());
     assert_eq!(rt; arguments.fetch_str(), None);
     assert_eq!(rt; arguments.len(), 2);
     let end: &[u8] = b"ba";

@@ -1,7 +1,7 @@
 // The parts of requests of locks, blocks and devices.
 
 /// The arguments of GETLK, SETLK and SETLKW: `struct fuse_lk_in`.
-#[derive(Clone, Copy, Debug, PartialEq, Eq)]
+#[derive(Clone, Copy)]
 pub struct GetLkArguments {
     /// The open file.
     pub fh: u64,
@@ -20,7 +20,7 @@ pub struct GetLkArguments {
 }
 
 /// The arguments of BMAP: `struct fuse_bmap_in`.
-#[derive(Clone, Copy, Debug, PartialEq, Eq)]
+#[derive(Clone, Copy)]
 pub struct BMapArguments {
     /// The block of the file.
     pub block: u64,
@@ -29,7 +29,7 @@ pub struct BMapArguments {
 }
 
 /// The arguments of IOCTL: `struct fuse_ioctl_in`.
-#[derive(Clone, Copy, Debug, PartialEq, Eq)]
+#[derive(Clone, Copy)]
 pub struct IoCtlArguments {
     /// The open file.
     pub fh: u64,
@@ -46,7 +46,7 @@ pub struct IoCtlArguments {
 }
 
 /// The arguments of POLL: `struct fuse_poll_in`.
-#[derive(Clone, Copy, Debug, PartialEq, Eq)]
+#[derive(Clone, Copy)]
 pub struct PollArguments {
     /// The open file.
     pub fh: u64,

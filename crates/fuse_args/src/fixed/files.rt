@@ -1,14 +1,14 @@
 // The parts of requests of open files.
 
 /// The arguments of OPEN and OPENDIR: `struct fuse_open_in`.
-#[derive(Clone, Copy, Debug, PartialEq, Eq)]
+#[derive(Clone, Copy)]
 pub struct OpenArguments {
     /// The flags of `open(2)`.
     pub flags: i32,
 }
 
 /// The arguments of CREATE: `struct fuse_create_in`.
-#[derive(Clone, Copy, Debug, PartialEq, Eq)]
+#[derive(Clone, Copy)]
 pub struct CreateArguments {
     /// The flags of `open(2)`.
     pub flags: i32,
@@ -19,7 +19,7 @@ pub struct CreateArguments {
 }
 
 /// The arguments of READ, READDIR and READDIRPLUS: `struct fuse_read_in`.
-#[derive(Clone, Copy, Debug, PartialEq, Eq)]
+#[derive(Clone, Copy)]
 pub struct ReadArguments {
     /// The open file.
     pub fh: u64,
@@ -36,7 +36,7 @@ pub struct ReadArguments {
 }
 
 /// The arguments of WRITE: `struct fuse_write_in`.
-#[derive(Clone, Copy, Debug, PartialEq, Eq)]
+#[derive(Clone, Copy)]
 pub struct WriteArguments {
     /// The open file.
     pub fh: u64,
@@ -53,7 +53,7 @@ pub struct WriteArguments {
 }
 
 /// The arguments of FLUSH: `struct fuse_flush_in`.
-#[derive(Clone, Copy, Debug, PartialEq, Eq)]
+#[derive(Clone, Copy)]
 pub struct FlushArguments {
     /// The open file.
     pub fh: u64,
@@ -62,7 +62,7 @@ pub struct FlushArguments {
 }
 
 /// The arguments of FSYNC and FSYNCDIR: `struct fuse_fsync_in`.
-#[derive(Clone, Copy, Debug, PartialEq, Eq)]
+#[derive(Clone, Copy)]
 pub struct FSyncArguments {
     /// The open file.
     pub fh: u64,
@@ -71,7 +71,7 @@ pub struct FSyncArguments {
 }
 
 /// The arguments of RELEASE and RELEASEDIR: `struct fuse_release_in`.
-#[derive(Clone, Copy, Debug, PartialEq, Eq)]
+#[derive(Clone, Copy)]
 pub struct ReleaseArguments {
     /// The open file.
     pub fh: u64,
@@ -84,7 +84,7 @@ pub struct ReleaseArguments {
 }
 
 /// The arguments of FALLOCATE: `struct fuse_fallocate_in`.
-#[derive(Clone, Copy, Debug, PartialEq, Eq)]
+#[derive(Clone, Copy)]
 pub struct FAllocateArguments {
     /// The open file.
     pub fh: u64,
@@ -97,7 +97,7 @@ pub struct FAllocateArguments {
 }
 
 /// The arguments of LSEEK: `struct fuse_lseek_in`.
-#[derive(Clone, Copy, Debug, PartialEq, Eq)]
+#[derive(Clone, Copy)]
 pub struct LseekArguments {
     /// The open file.
     pub fh: u64,
@@ -108,7 +108,7 @@ pub struct LseekArguments {
 }
 
 /// The arguments of COPY_FILE_RANGE: `struct fuse_copy_file_range_in`.
-#[derive(Clone, Copy, Debug, PartialEq, Eq)]
+#[derive(Clone, Copy)]
 pub struct CopyFileRangeArguments {
     /// The open file that is read.
     pub fh_in: u64,

@@ -1,7 +1,7 @@
 // The parts of requests of nodes and their names.
 
 /// The arguments of GETATTR: `struct fuse_getattr_in`.
-#[derive(Clone, Copy, Debug, PartialEq, Eq)]
+#[derive(Clone, Copy)]
 pub struct GetAttrArguments {
     /// Bit 0 says that `fh` counts.
     pub getattr_flags: u32,
@@ -10,7 +10,7 @@ pub struct GetAttrArguments {
 }
 
 /// The arguments of SETATTR: `struct fuse_setattr_in`.
-#[derive(Clone, Copy, Debug, PartialEq, Eq)]
+#[derive(Clone, Copy)]
 pub struct SetAttrArguments {
     /// A bit for each field that is to be set.
     pub valid: u32,
@@ -41,7 +41,7 @@ pub struct SetAttrArguments {
 }
 
 /// The arguments of MKNOD: `struct fuse_mknod_in`.
-#[derive(Clone, Copy, Debug, PartialEq, Eq)]
+#[derive(Clone, Copy)]
 pub struct MkNodArguments {
     /// The kind and the permissions.
     pub mode: u32,
@@ -52,7 +52,7 @@ pub struct MkNodArguments {
 }
 
 /// The arguments of MKDIR: `struct fuse_mkdir_in`.
-#[derive(Clone, Copy, Debug, PartialEq, Eq)]
+#[derive(Clone, Copy)]
 pub struct MkDirArguments {
     /// The permissions.
     pub mode: u32,
@@ -61,7 +61,7 @@ pub struct MkDirArguments {
 }
 
 /// The arguments of RENAME2: `struct fuse_rename2_in`.
-#[derive(Clone, Copy, Debug, PartialEq, Eq)]
+#[derive(Clone, Copy)]
 pub struct Rename2Arguments {
     /// The directory that the name moves to.
     pub newdir: u64,
@@ -70,14 +70,14 @@ pub struct Rename2Arguments {
 }
 
 /// The arguments of ACCESS: `struct fuse_access_in`.
-#[derive(Clone, Copy, Debug, PartialEq, Eq)]
+#[derive(Clone, Copy)]
 pub struct AccessArguments {
     /// What is asked for: the mode of `access(2)`.
     pub mask: i32,
 }
 
 /// The arguments of SETXATTR: `struct fuse_setxattr_in`.
-#[derive(Clone, Copy, Debug, PartialEq, Eq)]
+#[derive(Clone, Copy)]
 pub struct SetXAttrArguments {
     /// How many bytes the value has.
     pub size: u32,
@@ -86,14 +86,14 @@ pub struct SetXAttrArguments {
 }
 
 /// The arguments of GETXATTR and LISTXATTR: `struct fuse_getxattr_in`.
-#[derive(Clone, Copy, Debug, PartialEq, Eq)]
+#[derive(Clone, Copy)]
 pub struct GetXAttrArguments {
     /// The most bytes that are wanted, or 0 where only the size is asked.
     pub size: u32,
 }
 
 /// The arguments of BATCH_FORGET: `struct fuse_batch_forget_in`.
-#[derive(Clone, Copy, Debug, PartialEq, Eq)]
+#[derive(Clone, Copy)]
 pub struct BatchForgetArguments {
     /// How many rows follow.
     pub count: u32,
