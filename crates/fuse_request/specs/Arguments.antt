@@ -103,29 +103,29 @@ create_name operation = operation.name.now
 
 -- what RENAME carries
 abbrev pub rename_node : Rename → INodeNo
-rename_node operation = operation.names.node
+rename_node operation = operation.node
 
 abbrev pub rename_newdir : Rename → ℕ
 rename_newdir operation = operation.newdir
 
 abbrev pub rename_old_name : Rename → List ℕ
-rename_old_name operation = operation.names.old_name.now
+rename_old_name operation = operation.old_name.now
 
 abbrev pub rename_new_name : Rename → List ℕ
-rename_new_name operation = operation.names.new_name.now
+rename_new_name operation = operation.new_name.now
 
 -- what RENAME2 carries
 abbrev pub rename2_of : Rename2 → Rename2Arguments
 rename2_of operation = operation.arguments
 
 abbrev pub rename2_node : Rename2 → INodeNo
-rename2_node operation = operation.names.node
+rename2_node operation = operation.node
 
 abbrev pub rename2_old_name : Rename2 → List ℕ
-rename2_old_name operation = operation.names.old_name.now
+rename2_old_name operation = operation.old_name.now
 
 abbrev pub rename2_new_name : Rename2 → List ℕ
-rename2_new_name operation = operation.names.new_name.now
+rename2_new_name operation = operation.new_name.now
 
 -- what LINK carries
 abbrev pub link_node : Link → INodeNo

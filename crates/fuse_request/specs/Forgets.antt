@@ -22,9 +22,9 @@ row_bytes list = list.rows.now
 abbrev pub rows_of : ForgetList → List (ℕ × ℕ)
 rows_of list = rows_in (row_bytes list)
 
--- the list of BATCH_FORGET
-abbrev pub forgets_of : BatchForget → ForgetList
-forgets_of batch = batch.nodes
+-- the bytes of the rows of BATCH_FORGET
+abbrev pub forgets_of : BatchForget → List ℕ
+forgets_of batch = batch.rows.now
 
 -- one row
 abbrev pub row_of : ForgetOne → ℕ × ℕ

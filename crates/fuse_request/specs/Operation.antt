@@ -1,5 +1,5 @@
 -- What a message asks, by its opcode and body (`enum fuse_opcode` of `fuse.h`, and the struct of each).
-use Rattle.std.specs.Prelude.{◌≡◌, ◌==◌, ⊤, ℕ, Bool, true, false, List, [], Option, None, Some, Result, Ok, Err, IfSome, length, take, nat_le, if◌then◌else◌}
+use Rattle.std.specs.Prelude.{◌≡◌, ◌==◌, ⊤, ℕ, Bool, true, false, List, [], Option, None, Some, Result, Ok, Err, IfSome, length, take, nat_le, nat_lt, if◌then◌else◌}
 use Rattle.fuse_wire.specs.declared.newtypes.INodeNo.{INodeNo}
 use Rattle.fuse_args.specs.Arguments.{cuse_init_at, init_at, name_at, rows_at, u64_first}
 use Rattle.fuse_args.specs.DeviceParts.{bmap_at, getlk_at, ioctl_at, poll_at}
@@ -29,7 +29,8 @@ use Rattle.fuse_args.specs.declared.fixed.nodes.Rename2Arguments.{Rename2Argumen
 use Rattle.fuse_args.specs.declared.fixed.nodes.SetAttrArguments.{SetAttrArguments}
 use Rattle.fuse_args.specs.declared.fixed.nodes.SetXAttrArguments.{SetXAttrArguments}
 use Rattle.fuse_request.specs.Arguments.{access_of, bmap_of, copy_file_range_node, copy_file_range_of, create_name, create_of, fallocate_of, flush_of, forget_nlookup, fsync_of, fsyncdir_of, getattr_of, getlk_of, getxattr_name, getxattr_of, ioctl_in_bytes, ioctl_of, link_new_name, link_node, link_oldnodeid, listxattr_of, lookup_name, lseek_of, mkdir_name, mkdir_of, mknod_name, mknod_of, open_of, opendir_of, poll_of, read_of, readdir_of, readdirplus_of, release_of, releasedir_of, removexattr_name, rename2_new_name, rename2_node, rename2_of, rename2_old_name, rename_new_name, rename_newdir, rename_node, rename_old_name, rmdir_name, setattr_of, setlk_of, setlk_sleep, setxattr_name, setxattr_of, setxattr_value, symlink_link_name, symlink_target, unlink_name, write_of, write_written}
-use Rattle.fuse_request.specs.Forgets.{forgets_of, row_bytes}
+use Rattle.fuse_request.specs.Forgets.{forgets_of}
+use Rattle.fuse_request.specs.Opcode.{CUSE_INIT, FUSE_ACCESS, FUSE_BATCH_FORGET, FUSE_BMAP, FUSE_COPY_FILE_RANGE, FUSE_CREATE, FUSE_DESTROY, FUSE_FALLOCATE, FUSE_FLUSH, FUSE_FORGET, FUSE_FSYNC, FUSE_FSYNCDIR, FUSE_GETATTR, FUSE_GETLK, FUSE_GETXATTR, FUSE_INIT, FUSE_INTERRUPT, FUSE_IOCTL, FUSE_LINK, FUSE_LISTXATTR, FUSE_LOOKUP, FUSE_LSEEK, FUSE_MKDIR, FUSE_MKNOD, FUSE_NOTIFY_REPLY, FUSE_OPEN, FUSE_OPENDIR, FUSE_POLL, FUSE_READ, FUSE_READDIR, FUSE_READDIRPLUS, FUSE_READLINK, FUSE_RELEASE, FUSE_RELEASEDIR, FUSE_REMOVEXATTR, FUSE_RENAME, FUSE_RENAME2, FUSE_RMDIR, FUSE_SETATTR, FUSE_SETLK, FUSE_SETLKW, FUSE_SETXATTR, FUSE_STATFS, FUSE_SYMLINK, FUSE_UNLINK, FUSE_WRITE}
 use Rattle.fuse_request.specs.InitOperation.{arguments_of, unique_asked}
 use Rattle.fuse_request.specs.declared.error.RequestError.{RequestError}
 use Rattle.fuse_request.specs.declared.error.RequestError.TheVariants.{UnknownOperation, InsufficientData}
@@ -84,15 +85,23 @@ pub data Op : Type 0 where
   CopyFileRange : (arguments : CopyFileRangeArguments) → Op
   CuseInit : Op
 
--- an operation of what stands in front of the body, where it is all there
+-- an operation of the part at the front of a body; a part that is cut short is no operation
 abbrev pub taking : {X : Type 0} → Option (X × List ℕ) → (X → Op) → Result Op RequestError
 taking None make = Err InsufficientData
 taking (Some front) make = Ok (make front.0)
 
--- what is decoded of a part and of the bytes behind it, where the part is all there
+-- what is decoded of that part and of the bytes after it
 abbrev pub after : {X : Type 0} → Option (X × List ℕ) → (X → List ℕ → Result Op RequestError) → Result Op RequestError
 after None go = Err InsufficientData
 after (Some front) go = go front.0 front.1
+
+-- an operation of that part and of the name after it
+abbrev pub named : {X : Type 0} → Option (X × List ℕ) → (X → List ℕ → Op) → Result Op RequestError
+named part make = after part (λ front rest. taking (name_at rest) (λ name. make front name))
+
+-- an operation of that part and of the two names after it
+abbrev pub twice_named : {X : Type 0} → Option (X × List ℕ) → (X → List ℕ → List ℕ → Op) → Result Op RequestError
+twice_named part make = after part (λ front rest. named (name_at rest) (λ name other. make front name other))
 
 -- all bytes, where there are exactly so many
 abbrev pub exactly : ℕ → List ℕ → Option (List ℕ × List ℕ)
@@ -102,91 +111,84 @@ exactly size bytes = if length bytes == size then Some (bytes, []) else None
 abbrev pub at_least : ℕ → List ℕ → Option (List ℕ × List ℕ)
 at_least size bytes = if nat_le size (length bytes) then Some (take size bytes, []) else None
 
--- what is of the session itself
-abbrev pub session_operation : ℕ → List ℕ → Result Op RequestError
-session_operation opcode body =
-    if opcode == 26 then taking (init_at body) (λ init. Init init)
-    else if opcode == 36 then taking (u64_first body) (λ unique. Interrupt unique)
-    else if opcode == 38 then Ok Destroy
-    else if opcode == 41 then Ok NotifyReply
-    else if opcode == 4096 then taking (cuse_init_at body) (λ nothing. CuseInit)
+-- an operation of that part, and of a name and a value after it, which is as long as the part says
+abbrev pub valued : Option (SetXAttrArguments × List ℕ) → (SetXAttrArguments → List ℕ → List ℕ → Op) → Result Op RequestError
+valued part make = after part (λ front rest.
+    after (name_at rest) (λ name bytes. taking (exactly front.size bytes) (λ value. make front name value)))
+
+-- what the opcodes from LOOKUP to LINK ask
+unfoldable pub lookup_to_link : ℕ → List ℕ → Result Op RequestError
+lookup_to_link opcode body =
+    if opcode == FUSE_LOOKUP then taking (name_at body) (λ name. Lookup name)
+    else if opcode == FUSE_FORGET then taking (u64_first body) (λ nlookup. Forget nlookup)
+    else if opcode == FUSE_GETATTR then taking (getattr_at body) (λ getattr. GetAttr getattr)
+    else if opcode == FUSE_SETATTR then taking (setattr_at body) (λ setattr. SetAttr setattr)
+    else if opcode == FUSE_READLINK then Ok ReadLink
+    else if opcode == FUSE_SYMLINK then named (name_at body) (λ link_name target. SymLink link_name target)
+    else if opcode == FUSE_MKNOD then named (mknod_at body) (λ mknod name. MkNod mknod name)
+    else if opcode == FUSE_MKDIR then named (mkdir_at body) (λ mkdir name. MkDir mkdir name)
+    else if opcode == FUSE_UNLINK then taking (name_at body) (λ name. Unlink name)
+    else if opcode == FUSE_RMDIR then taking (name_at body) (λ name. RmDir name)
+    else if opcode == FUSE_RENAME then twice_named (u64_first body) (λ newdir old_name new_name. Rename newdir old_name new_name)
+    else if opcode == FUSE_LINK then named (u64_first body) (λ oldnodeid name. Link oldnodeid name)
     else Err (UnknownOperation opcode)
 
--- what is asked about locks, blocks and devices
-abbrev pub device_operation : ℕ → List ℕ → Result Op RequestError
-device_operation opcode body =
-    if opcode == 31 then taking (getlk_at body) (λ getlk. GetLk getlk)
-    else if opcode == 32 then taking (getlk_at body) (λ setlk. SetLk setlk false)
-    else if opcode == 33 then taking (getlk_at body) (λ setlk. SetLk setlk true)
-    else if opcode == 37 then taking (bmap_at body) (λ bmap. BMap bmap)
-    else if opcode == 39 then after (ioctl_at body) (λ ioctl rest. taking (at_least ioctl.in_size rest) (λ in_bytes. IoCtl ioctl in_bytes))
-    else if opcode == 40 then taking (poll_at body) (λ poll. Poll poll)
-    else session_operation opcode body
+-- what the opcodes from OPEN to FLUSH ask
+unfoldable pub open_to_flush : ℕ → List ℕ → Result Op RequestError
+open_to_flush opcode body =
+    if opcode == FUSE_OPEN then taking (open_at body) (λ opening. Open opening)
+    else if opcode == FUSE_READ then taking (read_at body) (λ read. Read read)
+    else if opcode == FUSE_WRITE then after (write_at body) (λ write rest. taking (exactly write.size rest) (λ written. Write write written))
+    else if opcode == FUSE_STATFS then Ok StatFs
+    else if opcode == FUSE_RELEASE then taking (release_at body) (λ release. Release release)
+    else if opcode == FUSE_FSYNC then taking (fsync_at body) (λ fsync. FSync fsync)
+    else if opcode == FUSE_SETXATTR then valued (setxattr_at body) (λ setxattr name value. SetXAttr setxattr name value)
+    else if opcode == FUSE_GETXATTR then named (getxattr_at body) (λ getxattr name. GetXAttr getxattr name)
+    else if opcode == FUSE_LISTXATTR then taking (getxattr_at body) (λ listxattr. ListXAttr listxattr)
+    else if opcode == FUSE_REMOVEXATTR then taking (name_at body) (λ name. RemoveXAttr name)
+    else if opcode == FUSE_FLUSH then taking (flush_at body) (λ flush. Flush flush)
+    else Err (UnknownOperation opcode)
 
--- what is asked about extended attributes
-abbrev pub xattr_operation : ℕ → List ℕ → Result Op RequestError
-xattr_operation opcode body =
-    if opcode == 21 then after (setxattr_at body) (λ setxattr names. after (name_at names) (λ name rest. taking (exactly setxattr.size rest) (λ value. SetXAttr setxattr name value)))
-    else if opcode == 22 then after (getxattr_at body) (λ getxattr rest. taking (name_at rest) (λ name. GetXAttr getxattr name))
-    else if opcode == 23 then taking (getxattr_at body) (λ listxattr. ListXAttr listxattr)
-    else if opcode == 24 then taking (name_at body) (λ name. RemoveXAttr name)
-    else device_operation opcode body
+-- what the opcodes from INIT to BMAP ask
+unfoldable pub init_to_bmap : ℕ → List ℕ → Result Op RequestError
+init_to_bmap opcode body =
+    if opcode == FUSE_INIT then taking (init_at body) (λ init. Init init)
+    else if opcode == FUSE_OPENDIR then taking (open_at body) (λ opendir. OpenDir opendir)
+    else if opcode == FUSE_READDIR then taking (read_at body) (λ readdir. ReadDir readdir)
+    else if opcode == FUSE_RELEASEDIR then taking (release_at body) (λ releasedir. ReleaseDir releasedir)
+    else if opcode == FUSE_FSYNCDIR then taking (fsync_at body) (λ fsyncdir. FSyncDir fsyncdir)
+    else if opcode == FUSE_GETLK then taking (getlk_at body) (λ getlk. GetLk getlk)
+    else if opcode == FUSE_SETLK then taking (getlk_at body) (λ setlk. SetLk setlk false)
+    else if opcode == FUSE_SETLKW then taking (getlk_at body) (λ setlk. SetLk setlk true)
+    else if opcode == FUSE_ACCESS then taking (access_at body) (λ access. Access access)
+    else if opcode == FUSE_CREATE then named (create_at body) (λ create name. Create create name)
+    else if opcode == FUSE_INTERRUPT then taking (u64_first body) (λ unique. Interrupt unique)
+    else if opcode == FUSE_BMAP then taking (bmap_at body) (λ bmap. BMap bmap)
+    else Err (UnknownOperation opcode)
 
--- what is asked about ranges of an open file, and about an open directory
-abbrev pub opened_operation : ℕ → List ℕ → Result Op RequestError
-opened_operation opcode body =
-    if opcode == 43 then taking (fallocate_at body) (λ fallocate. FAllocate fallocate)
-    else if opcode == 46 then taking (lseek_at body) (λ lseek. Lseek lseek)
-    else if opcode == 47 then taking (copy_file_range_at body) (λ copy_file_range. CopyFileRange copy_file_range)
-    else if opcode == 27 then taking (open_at body) (λ opendir. OpenDir opendir)
-    else if opcode == 28 then taking (read_at body) (λ readdir. ReadDir readdir)
-    else if opcode == 29 then taking (release_at body) (λ releasedir. ReleaseDir releasedir)
-    else if opcode == 30 then taking (fsync_at body) (λ fsyncdir. FSyncDir fsyncdir)
-    else if opcode == 44 then taking (read_at body) (λ readdirplus. ReadDirPlus readdirplus)
-    else xattr_operation opcode body
+-- what the opcodes from DESTROY on ask
+unfoldable pub destroy_to_cuse_init : ℕ → List ℕ → Result Op RequestError
+destroy_to_cuse_init opcode body =
+    if opcode == FUSE_DESTROY then Ok Destroy
+    else if opcode == FUSE_IOCTL then after (ioctl_at body) (λ ioctl rest. taking (at_least ioctl.in_size rest) (λ in_bytes. IoCtl ioctl in_bytes))
+    else if opcode == FUSE_POLL then taking (poll_at body) (λ poll. Poll poll)
+    else if opcode == FUSE_NOTIFY_REPLY then Ok NotifyReply
+    else if opcode == FUSE_BATCH_FORGET then after (batch_forget_at body) (λ forgets rest. taking (rows_at forgets.count rest) (λ rows. BatchForget rows))
+    else if opcode == FUSE_FALLOCATE then taking (fallocate_at body) (λ fallocate. FAllocate fallocate)
+    else if opcode == FUSE_READDIRPLUS then taking (read_at body) (λ readdirplus. ReadDirPlus readdirplus)
+    else if opcode == FUSE_RENAME2 then twice_named (rename2_at body) (λ rename old_name new_name. Rename2 rename old_name new_name)
+    else if opcode == FUSE_LSEEK then taking (lseek_at body) (λ lseek. Lseek lseek)
+    else if opcode == FUSE_COPY_FILE_RANGE then taking (copy_file_range_at body) (λ copy. CopyFileRange copy)
+    else if opcode == CUSE_INIT then taking (cuse_init_at body) (λ nothing. CuseInit)
+    else Err (UnknownOperation opcode)
 
--- what is asked about an open file
-abbrev pub file_operation : ℕ → List ℕ → Result Op RequestError
-file_operation opcode body =
-    if opcode == 14 then taking (open_at body) (λ opening. Open opening)
-    else if opcode == 15 then taking (read_at body) (λ read. Read read)
-    else if opcode == 16 then after (write_at body) (λ write rest. taking (exactly write.size rest) (λ written. Write write written))
-    else if opcode == 18 then taking (release_at body) (λ release. Release release)
-    else if opcode == 20 then taking (fsync_at body) (λ fsync. FSync fsync)
-    else if opcode == 25 then taking (flush_at body) (λ flush. Flush flush)
-    else opened_operation opcode body
-
--- what is asked about an inode
-abbrev pub node_operation : ℕ → List ℕ → Result Op RequestError
-node_operation opcode body =
-    if opcode == 2 then taking (u64_first body) (λ nlookup. Forget nlookup)
-    else if opcode == 3 then taking (getattr_at body) (λ getattr. GetAttr getattr)
-    else if opcode == 4 then taking (setattr_at body) (λ setattr. SetAttr setattr)
-    else if opcode == 5 then Ok ReadLink
-    else if opcode == 17 then Ok StatFs
-    else if opcode == 34 then taking (access_at body) (λ access. Access access)
-    else if opcode == 42 then after (batch_forget_at body) (λ forgets rest. taking (rows_at forgets.count rest) (λ rows. BatchForget rows))
-    else file_operation opcode body
-
--- what is asked about two places in directories
-abbrev pub place_operation : ℕ → List ℕ → Result Op RequestError
-place_operation opcode body =
-    if opcode == 12 then after (u64_first body) (λ newdir names. after (name_at names) (λ old_name rest. taking (name_at rest) (λ new_name. Rename newdir old_name new_name)))
-    else if opcode == 13 then after (u64_first body) (λ oldnodeid rest. taking (name_at rest) (λ new_name. Link oldnodeid new_name))
-    else if opcode == 45 then after (rename2_at body) (λ rename names. after (name_at names) (λ old_name rest. taking (name_at rest) (λ new_name. Rename2 rename old_name new_name)))
-    else node_operation opcode body
-
--- what is asked about a name in a directory, and all else; one line for each opcode
+-- what an opcode asks of its body
 abbrev pub operation : ℕ → List ℕ → Result Op RequestError
 operation opcode body =
-    if opcode == 1 then taking (name_at body) (λ name. Lookup name)
-    else if opcode == 10 then taking (name_at body) (λ name. Unlink name)
-    else if opcode == 11 then taking (name_at body) (λ name. RmDir name)
-    else if opcode == 6 then after (name_at body) (λ link_name rest. taking (name_at rest) (λ target. SymLink link_name target))
-    else if opcode == 8 then after (mknod_at body) (λ mknod rest. taking (name_at rest) (λ name. MkNod mknod name))
-    else if opcode == 9 then after (mkdir_at body) (λ mkdir rest. taking (name_at rest) (λ name. MkDir mkdir name))
-    else if opcode == 35 then after (create_at body) (λ create rest. taking (name_at rest) (λ name. Create create name))
-    else place_operation opcode body
+    if nat_lt opcode FUSE_OPEN then lookup_to_link opcode body
+    else if nat_lt opcode FUSE_INIT then open_to_flush opcode body
+    else if nat_lt opcode FUSE_DESTROY then init_to_bmap opcode body
+    else destroy_to_cuse_init opcode body
 
 -- an operation of the code, as plain data
 abbrev pub plain : Operation → Op
@@ -228,7 +230,7 @@ plain (code.Destroy operation) = Destroy
 plain (code.IoCtl operation) = IoCtl (ioctl_of operation) (ioctl_in_bytes operation)
 plain (code.Poll operation) = Poll (poll_of operation)
 plain (code.NotifyReply operation) = NotifyReply
-plain (code.BatchForget operation) = BatchForget (row_bytes (forgets_of operation))
+plain (code.BatchForget operation) = BatchForget (forgets_of operation)
 plain (code.FAllocate operation) = FAllocate (fallocate_of operation)
 plain (code.ReadDirPlus operation) = ReadDirPlus (readdirplus_of operation)
 plain (code.Rename2 operation) = Rename2 (rename2_of operation) (rename2_old_name operation) (rename2_new_name operation)

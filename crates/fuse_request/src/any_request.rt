@@ -3,7 +3,7 @@ ghost use Rattle.std.specs.Prelude.{◌≡◌, ◌≤◌, length};
 ghost use Rattle.fuse_request.specs.Header.{Decodes, header_fields, body_of, header_of, request_of};
 ghost use Rattle.fuse_request.specs.Operation.{Is, Keeps, operation};
 
-use crate::decoding::name_operation;
+use crate::decoding::decode;
 use crate::{Operation, Request, RequestError};
 use fuse_wire::consts::REQUEST_HEADER_SIZE;
 use fuse_wire::{INodeNo, RequestId, u32_at, u64_at};
@@ -26,7 +26,7 @@ pub struct Header {
 }
 
 /// A message with a good header, whose body is borrowed from it.
-#[derive(Clone, Copy, Debug)]
+#[derive(Clone, Copy)]
 pub struct AnyRequest<'a> {
     header: Header,
     body: &'a [u8],
@@ -127,6 +127,6 @@ impl<'a> AnyRequest<'a> {
         ensures operation { Is result (operation (header_of self.now).opcode (body_of self.now)) }
         ensures node { Keeps result (header_of self.now).nodeid }
     {
-        name_operation(self.header.opcode, self.header.nodeid, self.body)
+        decode(self.header.opcode, self.header.nodeid, self.body)
     }
 }

@@ -1,10 +1,18 @@
 // What a body asks, by its opcode.
-ghost use Rattle.fuse_request.specs.Operation.{Is, Keeps, operation, place_operation, node_operation, file_operation, opened_operation, xattr_operation, device_operation, session_operation};
+ghost use Rattle.std.specs.Prelude.{◌≡◌};
+ghost use Rattle.fuse_request.specs.Operation.{Is, Keeps, operation, lookup_to_link, open_to_flush, init_to_bmap, destroy_to_cuse_init};
 ghost use Rattle.fuse_wire.specs.declared.newtypes.INodeNo.{INodeNo};
 
-use crate::forgets::ForgetList;
+use crate::opcode::{
+    CUSE_INIT, FUSE_ACCESS, FUSE_BATCH_FORGET, FUSE_BMAP, FUSE_COPY_FILE_RANGE, FUSE_CREATE,
+    FUSE_DESTROY, FUSE_FALLOCATE, FUSE_FLUSH, FUSE_FORGET, FUSE_FSYNC, FUSE_FSYNCDIR, FUSE_GETATTR,
+    FUSE_GETLK, FUSE_GETXATTR, FUSE_INIT, FUSE_INTERRUPT, FUSE_IOCTL, FUSE_LINK, FUSE_LISTXATTR,
+    FUSE_LOOKUP, FUSE_LSEEK, FUSE_MKDIR, FUSE_MKNOD, FUSE_NOTIFY_REPLY, FUSE_OPEN, FUSE_OPENDIR,
+    FUSE_POLL, FUSE_READ, FUSE_READDIR, FUSE_READDIRPLUS, FUSE_READLINK, FUSE_RELEASE,
+    FUSE_RELEASEDIR, FUSE_REMOVEXATTR, FUSE_RENAME, FUSE_RENAME2, FUSE_RMDIR, FUSE_SETATTR,
+    FUSE_SETLK, FUSE_SETLKW, FUSE_SETXATTR, FUSE_STATFS, FUSE_SYMLINK, FUSE_UNLINK, FUSE_WRITE,
+};
 use crate::parts::{at_least, exactly};
-use crate::places::Move;
 use crate::{
     Access, BMap, BatchForget, CopyFileRange, Create, CuseInit, Destroy, FAllocate, FSync,
     FSyncDir, Flush, Forget, GetAttr, GetLk, GetXAttr, Init, Interrupt, IoCtl, Link, ListXAttr,
@@ -25,8 +33,12 @@ macro_rules! whole {
     };
 }
 
-/// What is asked about a name in a directory, and what comes behind it.
-pub(crate) fn name_operation<'a>(
+/// What an opcode asks of its body. An operation with a place in the node of its request keeps that node.
+///
+/// `UnknownOperation` where no operation has this opcode, and `InsufficientData` where a part of the body is cut short or a
+/// value is not as long as its fixed part says.
+#[inline(always)]
+pub(crate) fn decode<'a>(
     opcode: u32,
     node: INodeNo,
     body: &'a [u8],
@@ -34,129 +46,94 @@ pub(crate) fn name_operation<'a>(
     ensures operation { Is result (operation opcode body.now) }
     ensures node { Keeps result node }
 {
-    let mut arguments = ArgumentIterator::new(body);
-    let operation = match opcode {
-        1 => Operation::Lookup(Lookup {
-            name: whole!(arguments.fetch_str()),
-        }),
-        10 => Operation::Unlink(Unlink {
-            name: whole!(arguments.fetch_str()),
-        }),
-        11 => Operation::RmDir(RmDir {
-            name: whole!(arguments.fetch_str()),
-        }),
-        6 => Operation::SymLink(SymLink {
-            link_name: whole!(arguments.fetch_str()),
-            target: whole!(arguments.fetch_str()),
-        }),
-        8 => Operation::MkNod(MkNod {
-            arguments: whole!(arguments.fetch_mknod()),
-            name: whole!(arguments.fetch_str()),
-        }),
-        9 => Operation::MkDir(MkDir {
-            arguments: whole!(arguments.fetch_mkdir()),
-            name: whole!(arguments.fetch_str()),
-        }),
-        35 => Operation::Create(Create {
-            arguments: whole!(arguments.fetch_create()),
-            name: whole!(arguments.fetch_str()),
-        }),
-        opcode => return place_operation(opcode, node, body),
-    };
-    Ok(operation)
+    if opcode < FUSE_OPEN {
+        return lookup_to_link(opcode, node, body);
+    }
+    if opcode < FUSE_INIT {
+        return open_to_flush(opcode, body);
+    }
+    if opcode < FUSE_DESTROY {
+        return init_to_bmap(opcode, body);
+    }
+    destroy_to_cuse_init(opcode, node, body)
 }
 
-/// What is asked about two places in directories, and what comes behind it.
-fn place_operation<'a>(
+/// What the opcodes from LOOKUP to LINK ask.
+#[inline(always)]
+#[tactic(auto, unfolding(crate::specs::Operation::lookup_to_link))]
+fn lookup_to_link<'a>(
     opcode: u32,
     node: INodeNo,
     body: &'a [u8],
 ) -> Result<Operation<'a>, RequestError>
-    ensures operation { Is result (place_operation opcode body.now) }
+    ensures operation { Is result (lookup_to_link opcode body.now) }
     ensures node { Keeps result node }
 {
     let mut arguments = ArgumentIterator::new(body);
     let operation = match opcode {
-        12 => Operation::Rename(Rename {
-            newdir: whole!(arguments.fetch_u64()),
-            names: Move {
-                node,
-                old_name: whole!(arguments.fetch_str()),
-                new_name: whole!(arguments.fetch_str()),
-            },
+        FUSE_LOOKUP => Operation::Lookup(Lookup {
+            name: whole!(arguments.fetch_str()),
         }),
-        13 => Operation::Link(Link {
+        FUSE_FORGET => Operation::Forget(Forget {
+            nlookup: whole!(arguments.fetch_u64()),
+        }),
+        FUSE_GETATTR => Operation::GetAttr(GetAttr {
+            arguments: whole!(arguments.fetch_getattr()),
+        }),
+        FUSE_SETATTR => Operation::SetAttr(SetAttr {
+            arguments: whole!(arguments.fetch_setattr()),
+        }),
+        FUSE_READLINK => Operation::ReadLink(ReadLink),
+        FUSE_SYMLINK => Operation::SymLink(SymLink {
+            link_name: whole!(arguments.fetch_str()),
+            target: whole!(arguments.fetch_str()),
+        }),
+        FUSE_MKNOD => Operation::MkNod(MkNod {
+            arguments: whole!(arguments.fetch_mknod()),
+            name: whole!(arguments.fetch_str()),
+        }),
+        FUSE_MKDIR => Operation::MkDir(MkDir {
+            arguments: whole!(arguments.fetch_mkdir()),
+            name: whole!(arguments.fetch_str()),
+        }),
+        FUSE_UNLINK => Operation::Unlink(Unlink {
+            name: whole!(arguments.fetch_str()),
+        }),
+        FUSE_RMDIR => Operation::RmDir(RmDir {
+            name: whole!(arguments.fetch_str()),
+        }),
+        FUSE_RENAME => Operation::Rename(Rename {
+            node,
+            newdir: whole!(arguments.fetch_u64()),
+            old_name: whole!(arguments.fetch_str()),
+            new_name: whole!(arguments.fetch_str()),
+        }),
+        FUSE_LINK => Operation::Link(Link {
             node,
             oldnodeid: whole!(arguments.fetch_u64()),
             new_name: whole!(arguments.fetch_str()),
         }),
-        45 => Operation::Rename2(Rename2 {
-            arguments: whole!(arguments.fetch_rename2()),
-            names: Move {
-                node,
-                old_name: whole!(arguments.fetch_str()),
-                new_name: whole!(arguments.fetch_str()),
-            },
-        }),
-        opcode => return node_operation(opcode, node, body),
+        unknown => return Err(RequestError::UnknownOperation(unknown)),
     };
     Ok(operation)
 }
 
-/// What is asked about an inode, and what comes behind it.
-fn node_operation<'a>(
-    opcode: u32,
-    node: INodeNo,
-    body: &'a [u8],
-) -> Result<Operation<'a>, RequestError>
-    ensures operation { Is result (node_operation opcode body.now) }
-    ensures node { Keeps result node }
+/// What the opcodes from OPEN to FLUSH ask.
+#[inline(always)]
+#[tactic(auto, unfolding(crate::specs::Operation::open_to_flush))]
+fn open_to_flush(opcode: u32, body: &[u8]) -> Result<Operation<'_>, RequestError>
+    ensures operation { Is result (open_to_flush opcode body.now) }
+    ensures node { (node : INodeNo) → Keeps result node }
 {
     let mut arguments = ArgumentIterator::new(body);
     let operation = match opcode {
-        2 => Operation::Forget(Forget {
-            nlookup: whole!(arguments.fetch_u64()),
-        }),
-        3 => Operation::GetAttr(GetAttr {
-            arguments: whole!(arguments.fetch_getattr()),
-        }),
-        4 => Operation::SetAttr(SetAttr {
-            arguments: whole!(arguments.fetch_setattr()),
-        }),
-        5 => Operation::ReadLink(ReadLink),
-        17 => Operation::StatFs(StatFs),
-        34 => Operation::Access(Access {
-            arguments: whole!(arguments.fetch_access()),
-        }),
-        42 => {
-            let part = whole!(arguments.fetch_batch_forget());
-            let rows = whole!(arguments.fetch_slice(part.count as usize));
-            let nodes = ForgetList { rows };
-            Operation::BatchForget(BatchForget { nodes })
-        }
-        opcode => return file_operation(opcode, node, body),
-    };
-    Ok(operation)
-}
-
-/// What is asked about an open file, and what comes behind it.
-fn file_operation<'a>(
-    opcode: u32,
-    node: INodeNo,
-    body: &'a [u8],
-) -> Result<Operation<'a>, RequestError>
-    ensures operation { Is result (file_operation opcode body.now) }
-    ensures node { Keeps result node }
-{
-    let mut arguments = ArgumentIterator::new(body);
-    let operation = match opcode {
-        14 => Operation::Open(Open {
+        FUSE_OPEN => Operation::Open(Open {
             arguments: whole!(arguments.fetch_open()),
         }),
-        15 => Operation::Read(Read {
+        FUSE_READ => Operation::Read(Read {
             arguments: whole!(arguments.fetch_read()),
         }),
-        16 => {
+        FUSE_WRITE => {
             let part = whole!(arguments.fetch_write());
             let written = whole!(exactly(&mut arguments, part.size));
             Operation::Write(Write {
@@ -164,69 +141,14 @@ fn file_operation<'a>(
                 written,
             })
         }
-        18 => Operation::Release(Release {
+        FUSE_STATFS => Operation::StatFs(StatFs),
+        FUSE_RELEASE => Operation::Release(Release {
             arguments: whole!(arguments.fetch_release()),
         }),
-        20 => Operation::FSync(FSync {
+        FUSE_FSYNC => Operation::FSync(FSync {
             arguments: whole!(arguments.fetch_fsync()),
         }),
-        25 => Operation::Flush(Flush {
-            arguments: whole!(arguments.fetch_flush()),
-        }),
-        opcode => return opened_operation(opcode, node, body),
-    };
-    Ok(operation)
-}
-
-/// What is asked about ranges of an open file and about an open directory, and what comes behind it.
-fn opened_operation<'a>(
-    opcode: u32,
-    node: INodeNo,
-    body: &'a [u8],
-) -> Result<Operation<'a>, RequestError>
-    ensures operation { Is result (opened_operation opcode body.now) }
-    ensures node { Keeps result node }
-{
-    let mut arguments = ArgumentIterator::new(body);
-    let operation = match opcode {
-        43 => Operation::FAllocate(FAllocate {
-            arguments: whole!(arguments.fetch_fallocate()),
-        }),
-        46 => Operation::Lseek(Lseek {
-            arguments: whole!(arguments.fetch_lseek()),
-        }),
-        47 => Operation::CopyFileRange(CopyFileRange {
-            arguments: whole!(arguments.fetch_copy_file_range()),
-            node,
-        }),
-        27 => Operation::OpenDir(OpenDir {
-            arguments: whole!(arguments.fetch_open()),
-        }),
-        28 => Operation::ReadDir(ReadDir {
-            arguments: whole!(arguments.fetch_read()),
-        }),
-        29 => Operation::ReleaseDir(ReleaseDir {
-            arguments: whole!(arguments.fetch_release()),
-        }),
-        30 => Operation::FSyncDir(FSyncDir {
-            arguments: whole!(arguments.fetch_fsync()),
-        }),
-        44 => Operation::ReadDirPlus(ReadDirPlus {
-            arguments: whole!(arguments.fetch_read()),
-        }),
-        opcode => return xattr_operation(opcode, body),
-    };
-    Ok(operation)
-}
-
-/// What is asked about extended attributes, and what comes behind it. From here on no operation keeps the node of its request.
-fn xattr_operation(opcode: u32, body: &[u8]) -> Result<Operation<'_>, RequestError>
-    ensures operation { Is result (xattr_operation opcode body.now) }
-    ensures node { (node : INodeNo) → Keeps result node }
-{
-    let mut arguments = ArgumentIterator::new(body);
-    let operation = match opcode {
-        21 => {
+        FUSE_SETXATTR => {
             let part = whole!(arguments.fetch_setxattr());
             let name = whole!(arguments.fetch_str());
             let value = whole!(exactly(&mut arguments, part.size));
@@ -236,43 +158,92 @@ fn xattr_operation(opcode: u32, body: &[u8]) -> Result<Operation<'_>, RequestErr
                 value,
             })
         }
-        22 => Operation::GetXAttr(GetXAttr {
+        FUSE_GETXATTR => Operation::GetXAttr(GetXAttr {
             arguments: whole!(arguments.fetch_getxattr()),
             name: whole!(arguments.fetch_str()),
         }),
-        23 => Operation::ListXAttr(ListXAttr {
+        FUSE_LISTXATTR => Operation::ListXAttr(ListXAttr {
             arguments: whole!(arguments.fetch_getxattr()),
         }),
-        24 => Operation::RemoveXAttr(RemoveXAttr {
+        FUSE_REMOVEXATTR => Operation::RemoveXAttr(RemoveXAttr {
             name: whole!(arguments.fetch_str()),
         }),
-        opcode => return device_operation(opcode, body),
+        FUSE_FLUSH => Operation::Flush(Flush {
+            arguments: whole!(arguments.fetch_flush()),
+        }),
+        unknown => return Err(RequestError::UnknownOperation(unknown)),
     };
     Ok(operation)
 }
 
-/// What is asked about locks, blocks and devices, and what comes behind it.
-fn device_operation(opcode: u32, body: &[u8]) -> Result<Operation<'_>, RequestError>
-    ensures operation { Is result (device_operation opcode body.now) }
+/// What the opcodes from INIT to BMAP ask.
+#[inline(always)]
+#[tactic(auto, unfolding(crate::specs::Operation::init_to_bmap))]
+fn init_to_bmap(opcode: u32, body: &[u8]) -> Result<Operation<'_>, RequestError>
+    ensures operation { Is result (init_to_bmap opcode body.now) }
     ensures node { (node : INodeNo) → Keeps result node }
 {
     let mut arguments = ArgumentIterator::new(body);
     let operation = match opcode {
-        31 => Operation::GetLk(GetLk {
+        FUSE_INIT => Operation::Init(Init {
+            arguments: whole!(arguments.fetch_init()),
+        }),
+        FUSE_OPENDIR => Operation::OpenDir(OpenDir {
+            arguments: whole!(arguments.fetch_open()),
+        }),
+        FUSE_READDIR => Operation::ReadDir(ReadDir {
+            arguments: whole!(arguments.fetch_read()),
+        }),
+        FUSE_RELEASEDIR => Operation::ReleaseDir(ReleaseDir {
+            arguments: whole!(arguments.fetch_release()),
+        }),
+        FUSE_FSYNCDIR => Operation::FSyncDir(FSyncDir {
+            arguments: whole!(arguments.fetch_fsync()),
+        }),
+        FUSE_GETLK => Operation::GetLk(GetLk {
             arguments: whole!(arguments.fetch_getlk()),
         }),
-        32 => Operation::SetLk(SetLk {
+        FUSE_SETLK => Operation::SetLk(SetLk {
             arguments: whole!(arguments.fetch_getlk()),
             sleep: false,
         }),
-        33 => Operation::SetLk(SetLk {
+        FUSE_SETLKW => Operation::SetLk(SetLk {
             arguments: whole!(arguments.fetch_getlk()),
             sleep: true,
         }),
-        37 => Operation::BMap(BMap {
+        FUSE_ACCESS => Operation::Access(Access {
+            arguments: whole!(arguments.fetch_access()),
+        }),
+        FUSE_CREATE => Operation::Create(Create {
+            arguments: whole!(arguments.fetch_create()),
+            name: whole!(arguments.fetch_str()),
+        }),
+        FUSE_INTERRUPT => Operation::Interrupt(Interrupt {
+            unique: whole!(arguments.fetch_u64()),
+        }),
+        FUSE_BMAP => Operation::BMap(BMap {
             arguments: whole!(arguments.fetch_bmap()),
         }),
-        39 => {
+        unknown => return Err(RequestError::UnknownOperation(unknown)),
+    };
+    Ok(operation)
+}
+
+/// What the opcodes from DESTROY on ask.
+#[inline(always)]
+#[tactic(auto, unfolding(crate::specs::Operation::destroy_to_cuse_init))]
+fn destroy_to_cuse_init<'a>(
+    opcode: u32,
+    node: INodeNo,
+    body: &'a [u8],
+) -> Result<Operation<'a>, RequestError>
+    ensures operation { Is result (destroy_to_cuse_init opcode body.now) }
+    ensures node { Keeps result node }
+{
+    let mut arguments = ArgumentIterator::new(body);
+    let operation = match opcode {
+        FUSE_DESTROY => Operation::Destroy(Destroy),
+        FUSE_IOCTL => {
             let part = whole!(arguments.fetch_ioctl());
             let in_bytes = whole!(at_least(&mut arguments, part.in_size));
             Operation::IoCtl(IoCtl {
@@ -280,34 +251,39 @@ fn device_operation(opcode: u32, body: &[u8]) -> Result<Operation<'_>, RequestEr
                 in_bytes,
             })
         }
-        40 => Operation::Poll(Poll {
+        FUSE_POLL => Operation::Poll(Poll {
             arguments: whole!(arguments.fetch_poll()),
         }),
-        opcode => return session_operation(opcode, body),
-    };
-    Ok(operation)
-}
-
-/// What is of the session itself. No other opcode is known.
-fn session_operation(opcode: u32, body: &[u8]) -> Result<Operation<'_>, RequestError>
-    ensures operation { Is result (session_operation opcode body.now) }
-    ensures node { (node : INodeNo) → Keeps result node }
-{
-    let mut arguments = ArgumentIterator::new(body);
-    let operation = match opcode {
-        26 => Operation::Init(Init {
-            arguments: whole!(arguments.fetch_init()),
+        FUSE_NOTIFY_REPLY => Operation::NotifyReply(NotifyReply),
+        FUSE_BATCH_FORGET => {
+            let part = whole!(arguments.fetch_batch_forget());
+            let rows = whole!(arguments.fetch_slice(part.count as usize));
+            Operation::BatchForget(BatchForget { rows })
+        }
+        FUSE_FALLOCATE => Operation::FAllocate(FAllocate {
+            arguments: whole!(arguments.fetch_fallocate()),
         }),
-        36 => Operation::Interrupt(Interrupt {
-            unique: whole!(arguments.fetch_u64()),
+        FUSE_READDIRPLUS => Operation::ReadDirPlus(ReadDirPlus {
+            arguments: whole!(arguments.fetch_read()),
         }),
-        38 => Operation::Destroy(Destroy),
-        41 => Operation::NotifyReply(NotifyReply),
-        4096 => {
+        FUSE_RENAME2 => Operation::Rename2(Rename2 {
+            node,
+            arguments: whole!(arguments.fetch_rename2()),
+            old_name: whole!(arguments.fetch_str()),
+            new_name: whole!(arguments.fetch_str()),
+        }),
+        FUSE_LSEEK => Operation::Lseek(Lseek {
+            arguments: whole!(arguments.fetch_lseek()),
+        }),
+        FUSE_COPY_FILE_RANGE => Operation::CopyFileRange(CopyFileRange {
+            node,
+            arguments: whole!(arguments.fetch_copy_file_range()),
+        }),
+        CUSE_INIT => {
             whole!(arguments.fetch_cuse_init());
             Operation::CuseInit(CuseInit)
         }
-        opcode => return Err(RequestError::UnknownOperation(opcode)),
+        unknown => return Err(RequestError::UnknownOperation(unknown)),
     };
     Ok(operation)
 }

@@ -6,7 +6,7 @@ use fuse_args::{IoCtlArguments, PollArguments};
 use fuse_wire::{FileHandle, IoctlFlags, PollEvents, PollFlags, PollHandle};
 
 /// IOCTL: a command to a device.
-#[derive(Clone, Copy, Debug)]
+#[derive(Clone, Copy)]
 pub struct IoCtl<'a> {
     pub(crate) arguments: IoCtlArguments,
     pub(crate) in_bytes: &'a [u8],
@@ -60,7 +60,7 @@ impl<'a> IoCtl<'a> {
 }
 
 /// POLL: whether an open file is ready.
-#[derive(Clone, Copy, Debug)]
+#[derive(Clone, Copy)]
 pub struct Poll {
     pub(crate) arguments: PollArguments,
 }

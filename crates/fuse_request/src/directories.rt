@@ -6,7 +6,7 @@ use fuse_args::{FSyncArguments, OpenArguments, ReadArguments, ReleaseArguments};
 use fuse_wire::{FileHandle, LockOwner, OpenFlags, ReleaseFlags};
 
 /// OPENDIR: a directory is opened.
-#[derive(Clone, Copy, Debug)]
+#[derive(Clone, Copy)]
 pub struct OpenDir {
     pub(crate) arguments: OpenArguments,
 }
@@ -23,7 +23,7 @@ impl OpenDir {
 }
 
 /// READDIR: entries of an open directory.
-#[derive(Clone, Copy, Debug)]
+#[derive(Clone, Copy)]
 pub struct ReadDir {
     pub(crate) arguments: ReadArguments,
 }
@@ -54,7 +54,7 @@ impl ReadDir {
 }
 
 /// READDIRPLUS: entries of an open directory, with their attributes.
-#[derive(Clone, Copy, Debug)]
+#[derive(Clone, Copy)]
 pub struct ReadDirPlus {
     pub(crate) arguments: ReadArguments,
 }
@@ -85,7 +85,7 @@ impl ReadDirPlus {
 }
 
 /// RELEASEDIR: the last use of an open directory ends.
-#[derive(Clone, Copy, Debug)]
+#[derive(Clone, Copy)]
 pub struct ReleaseDir {
     pub(crate) arguments: ReleaseArguments,
 }
@@ -135,7 +135,7 @@ impl ReleaseDir {
 }
 
 /// FSYNCDIR: what an open directory holds back is written.
-#[derive(Clone, Copy, Debug)]
+#[derive(Clone, Copy)]
 pub struct FSyncDir {
     pub(crate) arguments: FSyncArguments,
 }

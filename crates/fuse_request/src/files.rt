@@ -9,7 +9,7 @@ use fuse_args::{
 use fuse_wire::{Errno, FileHandle, LockOwner, OpenFlags, ReadFlags, ReleaseFlags, WriteFlags};
 
 /// OPEN: a file is opened.
-#[derive(Clone, Copy, Debug)]
+#[derive(Clone, Copy)]
 pub struct Open {
     pub(crate) arguments: OpenArguments,
 }
@@ -26,7 +26,7 @@ impl Open {
 }
 
 /// READ: bytes of an open file.
-#[derive(Clone, Copy, Debug)]
+#[derive(Clone, Copy)]
 pub struct Read {
     pub(crate) arguments: ReadArguments,
 }
@@ -83,7 +83,7 @@ impl Read {
 }
 
 /// WRITE: bytes go into an open file.
-#[derive(Clone, Copy, Debug)]
+#[derive(Clone, Copy)]
 pub struct Write<'a> {
     pub(crate) arguments: WriteArguments,
     pub(crate) written: &'a [u8],
@@ -141,7 +141,7 @@ impl<'a> Write<'a> {
 }
 
 /// RELEASE: the last use of an open file ends.
-#[derive(Clone, Copy, Debug)]
+#[derive(Clone, Copy)]
 pub struct Release {
     pub(crate) arguments: ReleaseArguments,
 }
@@ -191,7 +191,7 @@ impl Release {
 }
 
 /// FSYNC: what an open file holds back is written.
-#[derive(Clone, Copy, Debug)]
+#[derive(Clone, Copy)]
 pub struct FSync {
     pub(crate) arguments: FSyncArguments,
 }
@@ -216,7 +216,7 @@ impl FSync {
 }
 
 /// FLUSH: one of the descriptors of an open file is closed.
-#[derive(Clone, Copy, Debug)]
+#[derive(Clone, Copy)]
 pub struct Flush {
     pub(crate) arguments: FlushArguments,
 }

@@ -62,16 +62,16 @@ impl<'a> ForgetList<'a> {
 }
 
 /// BATCH_FORGET: the kernel gives back some of its lookups of several inodes. It waits for no reply.
-#[derive(Clone, Copy, Debug)]
+#[derive(Clone, Copy)]
 pub struct BatchForget<'a> {
-    pub(crate) nodes: ForgetList<'a>,
+    pub(crate) rows: &'a [u8],
 }
 
 impl<'a> BatchForget<'a> {
     /// The inodes.
     pub fn nodes(&self) -> ForgetList<'a>
-        ensures { row_bytes result ≡ row_bytes (forgets_of self.now) }
+        ensures { row_bytes result ≡ forgets_of self.now }
     {
-        self.nodes
+        ForgetList { rows: self.rows }
     }
 }

@@ -16,7 +16,7 @@ pub struct Lock {
 }
 
 /// GETLK: whether a lock could be taken.
-#[derive(Clone, Copy, Debug)]
+#[derive(Clone, Copy)]
 pub struct GetLk {
     pub(crate) arguments: GetLkArguments,
 }
@@ -52,7 +52,7 @@ impl GetLk {
 }
 
 /// SETLK and SETLKW: a lock is taken or given back.
-#[derive(Clone, Copy, Debug)]
+#[derive(Clone, Copy)]
 pub struct SetLk {
     pub(crate) arguments: GetLkArguments,
     pub(crate) sleep: bool,

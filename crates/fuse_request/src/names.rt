@@ -4,7 +4,7 @@ ghost use Rattle.std.specs.Prelude.{◌≡◌};
 use fuse_args::{CreateArguments, MkDirArguments, MkNodArguments};
 
 /// LOOKUP: which inode a name in a directory means.
-#[derive(Clone, Copy, Debug)]
+#[derive(Clone, Copy)]
 pub struct Lookup<'a> {
     pub(crate) name: &'a [u8],
 }
@@ -21,7 +21,7 @@ impl<'a> Lookup<'a> {
 }
 
 /// SYMLINK: a symbolic link is made.
-#[derive(Clone, Copy, Debug)]
+#[derive(Clone, Copy)]
 pub struct SymLink<'a> {
     pub(crate) link_name: &'a [u8],
     pub(crate) target: &'a [u8],
@@ -46,7 +46,7 @@ impl<'a> SymLink<'a> {
 }
 
 /// MKNOD: a file or a device is made.
-#[derive(Clone, Copy, Debug)]
+#[derive(Clone, Copy)]
 pub struct MkNod<'a> {
     pub(crate) arguments: MkNodArguments,
     pub(crate) name: &'a [u8],
@@ -85,7 +85,7 @@ impl<'a> MkNod<'a> {
 }
 
 /// MKDIR: a directory is made.
-#[derive(Clone, Copy, Debug)]
+#[derive(Clone, Copy)]
 pub struct MkDir<'a> {
     pub(crate) arguments: MkDirArguments,
     pub(crate) name: &'a [u8],
@@ -117,7 +117,7 @@ impl<'a> MkDir<'a> {
 }
 
 /// UNLINK: a name of a file goes away.
-#[derive(Clone, Copy, Debug)]
+#[derive(Clone, Copy)]
 pub struct Unlink<'a> {
     pub(crate) name: &'a [u8],
 }
@@ -134,7 +134,7 @@ impl<'a> Unlink<'a> {
 }
 
 /// RMDIR: a directory goes away.
-#[derive(Clone, Copy, Debug)]
+#[derive(Clone, Copy)]
 pub struct RmDir<'a> {
     pub(crate) name: &'a [u8],
 }
@@ -151,7 +151,7 @@ impl<'a> RmDir<'a> {
 }
 
 /// CREATE: a file is made and opened.
-#[derive(Clone, Copy, Debug)]
+#[derive(Clone, Copy)]
 pub struct Create<'a> {
     pub(crate) arguments: CreateArguments,
     pub(crate) name: &'a [u8],

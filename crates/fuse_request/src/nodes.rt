@@ -6,7 +6,7 @@ use fuse_args::{AccessArguments, GetAttrArguments};
 use fuse_wire::{AccessFlags, FileHandle, GetattrFlags};
 
 /// FORGET: the kernel gives back some of its lookups of an inode. It waits for no reply.
-#[derive(Clone, Copy, Debug)]
+#[derive(Clone, Copy)]
 pub struct Forget {
     pub(crate) nlookup: u64,
 }
@@ -23,7 +23,7 @@ impl Forget {
 }
 
 /// GETATTR: what the attributes of an inode are.
-#[derive(Clone, Copy, Debug)]
+#[derive(Clone, Copy)]
 pub struct GetAttr {
     pub(crate) arguments: GetAttrArguments,
 }
@@ -52,15 +52,15 @@ impl GetAttr {
 }
 
 /// READLINK: where a symbolic link leads.
-#[derive(Clone, Copy, Debug)]
+#[derive(Clone, Copy)]
 pub struct ReadLink;
 
 /// STATFS: how much room the filesystem has.
-#[derive(Clone, Copy, Debug)]
+#[derive(Clone, Copy)]
 pub struct StatFs;
 
 /// ACCESS: whether the caller may use an inode so.
-#[derive(Clone, Copy, Debug)]
+#[derive(Clone, Copy)]
 pub struct Access {
     pub(crate) arguments: AccessArguments,
 }

@@ -12,7 +12,7 @@ use fuse_args::InitArguments;
 use fuse_wire::{InitFlags, RequestId, Version};
 
 /// INIT: a kernel offers to speak.
-#[derive(Clone, Copy, Debug)]
+#[derive(Clone, Copy)]
 pub struct Init {
     pub(crate) arguments: InitArguments,
 }
@@ -47,11 +47,11 @@ impl Init {
 }
 
 /// DESTROY: the kernel takes its leave.
-#[derive(Clone, Copy, Debug)]
+#[derive(Clone, Copy)]
 pub struct Destroy;
 
 /// INTERRUPT: a request need not be answered any more.
-#[derive(Clone, Copy, Debug)]
+#[derive(Clone, Copy)]
 pub struct Interrupt {
     pub(crate) unique: u64,
 }
@@ -68,15 +68,15 @@ impl Interrupt {
 }
 
 /// NOTIFY_REPLY: the answer to a notice.
-#[derive(Clone, Copy, Debug)]
+#[derive(Clone, Copy)]
 pub struct NotifyReply;
 
 /// CUSE_INIT: a kernel offers to speak of a character device.
-#[derive(Clone, Copy, Debug)]
+#[derive(Clone, Copy)]
 pub struct CuseInit;
 
 /// What is asked, with its arguments.
-#[derive(Clone, Copy, Debug)]
+#[derive(Clone, Copy)]
 pub enum Operation<'a> {
     /// Which inode a name means.
     Lookup(Lookup<'a>),

@@ -14,43 +14,13 @@ pub struct FilenameInDir<'a> {
     pub name: &'a [u8],
 }
 
-/// A name in the node of a request that moves, and the name that it gets.
-#[derive(Clone, Copy, Debug)]
-pub(crate) struct Move<'a> {
+/// RENAME: a name moves to another place.
+#[derive(Clone, Copy)]
+pub struct Rename<'a> {
     pub(crate) node: INodeNo,
+    pub(crate) newdir: u64,
     pub(crate) old_name: &'a [u8],
     pub(crate) new_name: &'a [u8],
-}
-
-impl<'a> Move<'a> {
-    /// The place that it moves from.
-    fn from(&self) -> FilenameInDir<'a>
-        ensures dir { result.dir ≡ self.now.node }
-        ensures name { result.name.now ≡ self.now.old_name.now }
-    {
-        FilenameInDir {
-            dir: self.node,
-            name: self.old_name,
-        }
-    }
-
-    /// The place in this directory that it moves to.
-    fn to(&self, newdir: u64) -> FilenameInDir<'a>
-        ensures dir { result.dir.0 ≡ newdir }
-        ensures name { result.name.now ≡ self.now.new_name.now }
-    {
-        FilenameInDir {
-            dir: INodeNo(newdir),
-            name: self.new_name,
-        }
-    }
-}
-
-/// RENAME: a name moves to another place.
-#[derive(Clone, Copy, Debug)]
-pub struct Rename<'a> {
-    pub(crate) newdir: u64,
-    pub(crate) names: Move<'a>,
 }
 
 impl<'a> Rename<'a> {
@@ -61,7 +31,10 @@ impl<'a> Rename<'a> {
         ensures dir { result.dir ≡ rename_node self.now }
         ensures name { result.name.now ≡ rename_old_name self.now }
     {
-        self.names.from()
+        FilenameInDir {
+            dir: self.node,
+            name: self.old_name,
+        }
     }
 
     /// The place that it moves to.
@@ -69,15 +42,20 @@ impl<'a> Rename<'a> {
         ensures dir { result.dir.0 ≡ rename_newdir self.now }
         ensures name { result.name.now ≡ rename_new_name self.now }
     {
-        self.names.to(self.newdir)
+        FilenameInDir {
+            dir: INodeNo(self.newdir),
+            name: self.new_name,
+        }
     }
 }
 
 /// RENAME2: a name moves to another place, in a way that flags say.
-#[derive(Clone, Copy, Debug)]
+#[derive(Clone, Copy)]
 pub struct Rename2<'a> {
+    pub(crate) node: INodeNo,
     pub(crate) arguments: Rename2Arguments,
-    pub(crate) names: Move<'a>,
+    pub(crate) old_name: &'a [u8],
+    pub(crate) new_name: &'a [u8],
 }
 
 impl<'a> Rename2<'a> {
@@ -88,7 +66,10 @@ impl<'a> Rename2<'a> {
         ensures dir { result.dir ≡ rename2_node self.now }
         ensures name { result.name.now ≡ rename2_old_name self.now }
     {
-        self.names.from()
+        FilenameInDir {
+            dir: self.node,
+            name: self.old_name,
+        }
     }
 
     /// The place that it moves to.
@@ -96,7 +77,10 @@ impl<'a> Rename2<'a> {
         ensures dir { result.dir.0 ≡ (rename2_of self.now).newdir }
         ensures name { result.name.now ≡ rename2_new_name self.now }
     {
-        self.names.to(self.arguments.newdir)
+        FilenameInDir {
+            dir: INodeNo(self.arguments.newdir),
+            name: self.new_name,
+        }
     }
 
     /// How it moves.
@@ -108,7 +92,7 @@ impl<'a> Rename2<'a> {
 }
 
 /// LINK: an inode gets another name.
-#[derive(Clone, Copy, Debug)]
+#[derive(Clone, Copy)]
 pub struct Link<'a> {
     pub(crate) node: INodeNo,
     pub(crate) oldnodeid: u64,

@@ -18,7 +18,7 @@ pub struct CopyFileRangeFile {
 }
 
 /// FALLOCATE: room for a range of a file.
-#[derive(Clone, Copy, Debug)]
+#[derive(Clone, Copy)]
 pub struct FAllocate {
     pub(crate) arguments: FAllocateArguments,
 }
@@ -57,7 +57,7 @@ impl FAllocate {
 }
 
 /// LSEEK: where in an open file the next data or the next hole is.
-#[derive(Clone, Copy, Debug)]
+#[derive(Clone, Copy)]
 pub struct Lseek {
     pub(crate) arguments: LseekArguments,
 }
@@ -88,7 +88,7 @@ impl Lseek {
 }
 
 /// COPY_FILE_RANGE: a range of a file is copied into another.
-#[derive(Clone, Copy, Debug)]
+#[derive(Clone, Copy)]
 pub struct CopyFileRange {
     pub(crate) arguments: CopyFileRangeArguments,
     pub(crate) node: INodeNo,
@@ -136,7 +136,7 @@ impl CopyFileRange {
 }
 
 /// BMAP: which block of the device a block of a file is.
-#[derive(Clone, Copy, Debug)]
+#[derive(Clone, Copy)]
 pub struct BMap {
     pub(crate) arguments: BMapArguments,
 }

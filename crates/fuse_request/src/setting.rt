@@ -5,7 +5,7 @@ use fuse_args::SetAttrArguments;
 use fuse_wire::{BsdFileFlags, FileHandle, SystemTime, TimeOrNow, system_time_from_time};
 
 /// SETATTR: attributes of an inode are set, each where its bit of `valid` says so.
-#[derive(Clone, Copy, Debug)]
+#[derive(Clone, Copy)]
 pub struct SetAttr {
     pub(crate) arguments: SetAttrArguments,
 }

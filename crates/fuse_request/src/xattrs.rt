@@ -18,7 +18,7 @@ pub enum GetXAttrSizeEnum {
 }
 
 /// SETXATTR: an extended attribute is set.
-#[derive(Clone, Copy, Debug)]
+#[derive(Clone, Copy)]
 pub struct SetXAttr<'a> {
     pub(crate) arguments: SetXAttrArguments,
     pub(crate) name: &'a [u8],
@@ -58,7 +58,7 @@ impl<'a> SetXAttr<'a> {
 }
 
 /// GETXATTR: the value of an extended attribute.
-#[derive(Clone, Copy, Debug)]
+#[derive(Clone, Copy)]
 pub struct GetXAttr<'a> {
     pub(crate) arguments: GetXAttrArguments,
     pub(crate) name: &'a [u8],
@@ -94,7 +94,7 @@ impl<'a> GetXAttr<'a> {
 }
 
 /// LISTXATTR: the names of the extended attributes.
-#[derive(Clone, Copy, Debug)]
+#[derive(Clone, Copy)]
 pub struct ListXAttr {
     pub(crate) arguments: GetXAttrArguments,
 }
@@ -111,7 +111,7 @@ impl ListXAttr {
 }
 
 /// REMOVEXATTR: an extended attribute goes away.
-#[derive(Clone, Copy, Debug)]
+#[derive(Clone, Copy)]
 pub struct RemoveXAttr<'a> {
     pub(crate) name: &'a [u8],
 }
