@@ -33,6 +33,6 @@ rows_in_at bytes place below =
     rows_from-at (length bytes / 16) 0 place bytes below
     ∙ ap (λ (n : ℕ). Some (number bytes n 8, number bytes (n + 8) 8)) (omega arith)
 
--- no row is behind them
+-- no row is after them
 pub rows_in_beyond : (bytes : List ℕ) (place : ℕ) → length bytes / 16 ≤ place → slice_get (rows_in bytes) place ≡ None
 rows_in_beyond bytes place beyond = rows_from-beyond (length bytes / 16) 0 place bytes beyond

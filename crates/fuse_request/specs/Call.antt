@@ -5,11 +5,11 @@ use Rattle.fuse_wire.specs.declared.newtypes.FileHandle.{FileHandle}
 use Rattle.fuse_wire.specs.declared.newtypes.LockOwner.{LockOwner}
 use Rattle.fuse_wire.specs.declared.time.SystemTime.{SystemTime}
 use Rattle.fuse_wire.specs.declared.time.TimeOrNow.{TimeOrNow}
-use Rattle.fuse_request.specs.Fields.{fh_of, has_bit, lock_owner_of, releaser_of, writer_of}
+use Rattle.fuse_request.specs.Fields.{contents_alone, fh_of, flushes, lock_owner_of, releaser_of, writer_of}
 use Rattle.fuse_request.specs.Forgets.{rows_in}
 use Rattle.fuse_request.specs.Operation.{Op}
 use Rattle.fuse_request.specs.Operation.Op.{Lookup as LookupOp, Forget as ForgetOp, GetAttr as GetAttrOp, SetAttr as SetAttrOp, ReadLink as ReadLinkOp, SymLink as SymLinkOp, MkNod as MkNodOp, MkDir as MkDirOp, Unlink as UnlinkOp, RmDir as RmDirOp, Rename as RenameOp, Link as LinkOp, Open as OpenOp, Read as ReadOp, Write as WriteOp, StatFs as StatFsOp, Release as ReleaseOp, FSync as FSyncOp, SetXAttr as SetXAttrOp, GetXAttr as GetXAttrOp, ListXAttr as ListXAttrOp, RemoveXAttr as RemoveXAttrOp, Flush as FlushOp, Init as InitOp, OpenDir as OpenDirOp, ReadDir as ReadDirOp, ReleaseDir as ReleaseDirOp, FSyncDir as FSyncDirOp, GetLk as GetLkOp, SetLk as SetLkOp, Access as AccessOp, Create as CreateOp, Interrupt as InterruptOp, BMap as BMapOp, Destroy as DestroyOp, IoCtl as IoCtlOp, Poll as PollOp, NotifyReply as NotifyReplyOp, BatchForget as BatchForgetOp, FAllocate as FAllocateOp, ReadDirPlus as ReadDirPlusOp, Rename2 as Rename2Op, Lseek as LseekOp, CopyFileRange as CopyFileRangeOp, CuseInit as CuseInitOp}
-use Rattle.fuse_request.specs.Setting.{atime_of, ctime_of, file_of, gid_of, mode_of, mtime_of, size_of, uid_of}
+use Rattle.fuse_request.specs.SetAttr.{atime_of, ctime_of, file_of, gid_of, mode_of, mtime_of, size_of, uid_of}
 
 -- one call of a filesystem, with its arguments in their order; a row of `BatchForget` has the arguments of a `Forget`
 pub data Call : Type 0 where
@@ -83,8 +83,8 @@ call node (OpenOp a) = Some (Open node a.flags)
 call node (ReadOp a) = Some (Read node a.fh a.offset a.size a.flags (lock_owner_of a))
 call node (WriteOp a written) = Some (Write node a.fh (unsigned a.offset) written a.write_flags a.flags (writer_of a))
 call node StatFsOp = Some (StatFs node)
-call node (ReleaseOp a) = Some (Release node a.fh a.flags (releaser_of a) (has_bit 0 a.release_flags))
-call node (FSyncOp a) = Some (FSync node a.fh (has_bit 0 a.fsync_flags))
+call node (ReleaseOp a) = Some (Release node a.fh a.flags (releaser_of a) (flushes a))
+call node (FSyncOp a) = Some (FSync node a.fh (contents_alone a))
 call node (SetXAttrOp a name value) = Some (SetXAttr node name value a.flags 0)
 call node (GetXAttrOp a name) = Some (GetXAttr node name a.size)
 call node (ListXAttrOp a) = Some (ListXAttr node a.size)
@@ -94,7 +94,7 @@ call node (InitOp a) = None
 call node (OpenDirOp a) = Some (OpenDir node a.flags)
 call node (ReadDirOp a) = Some (ReadDir node a.fh a.offset a.size)
 call node (ReleaseDirOp a) = Some (ReleaseDir node a.fh a.flags)
-call node (FSyncDirOp a) = Some (FSyncDir node a.fh (has_bit 0 a.fsync_flags))
+call node (FSyncDirOp a) = Some (FSyncDir node a.fh (contents_alone a))
 call node (GetLkOp a) = Some (GetLk node a.fh a.owner a.start a.end a.typ a.pid)
 call node (SetLkOp a sleep) = Some (SetLk node a.fh a.owner a.start a.end a.typ a.pid sleep)
 call node (AccessOp a) = Some (Access node a.mask)

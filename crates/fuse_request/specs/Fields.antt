@@ -1,50 +1,94 @@
--- What the fields of a part mean.
-use Rattle.std.specs.Prelude.{◌==◌, ◌^◌, ℕ, ℤ, pos, negsuc, Bool, true, false, not, Option, None, Some, Result, Ok, Err, nat_lt, if◌then◌else◌}
+-- What the fields of a part mean, by the flags and errors of `fuse.h` and `errno.h`.
+use Rattle.std.specs.Prelude.{◌==◌, ◌^◌, ℕ, ℤ, pos, negsuc, Bool, true, false, Option, None, Some, Result, Ok, Err, nat_lt, if◌then◌else◌}
 use Rattle.std.specs.Int.RustNames.{bit_and}
 use Rattle.std.specs.Int.NonZero.{non_zero_u32_get}
 use Rattle.fuse_args.specs.declared.fixed.devices.GetLkArguments.{GetLkArguments}
+use Rattle.fuse_args.specs.declared.fixed.devices.IoCtlArguments.{IoCtlArguments}
+use Rattle.fuse_args.specs.declared.fixed.files.FSyncArguments.{FSyncArguments}
 use Rattle.fuse_args.specs.declared.fixed.files.ReadArguments.{ReadArguments}
 use Rattle.fuse_args.specs.declared.fixed.files.ReleaseArguments.{ReleaseArguments}
 use Rattle.fuse_args.specs.declared.fixed.files.WriteArguments.{WriteArguments}
 use Rattle.fuse_args.specs.declared.fixed.nodes.GetAttrArguments.{GetAttrArguments}
 use Rattle.fuse_wire.specs.declared.newtypes.INodeNo.{INodeNo}
 use Rattle.fuse_request.specs.declared.locks.Lock.{Lock}
-use Rattle.fuse_request.specs.declared.ranges.CopyFileRangeFile.{CopyFileRangeFile}
+use Rattle.fuse_request.specs.declared.file_ranges.CopyFileRangeFile.{CopyFileRangeFile}
 use Rattle.fuse_request.specs.declared.xattrs.GetXAttrSizeEnum.{GetXAttrSizeEnum}
 use Rattle.fuse_request.specs.declared.xattrs.GetXAttrSizeEnum.TheVariants.{GetSize, Size}
 
--- whether flags have this bit
+-- flags of `fuse.h`
+abbrev pub FUSE_GETATTR_FH : ℕ
+FUSE_GETATTR_FH = 2 ^ 0
+
+abbrev pub FUSE_READ_LOCKOWNER : ℕ
+FUSE_READ_LOCKOWNER = 2 ^ 1
+
+abbrev pub FUSE_WRITE_LOCKOWNER : ℕ
+FUSE_WRITE_LOCKOWNER = 2 ^ 1
+
+abbrev pub FUSE_RELEASE_FLUSH : ℕ
+FUSE_RELEASE_FLUSH = 2 ^ 0
+
+abbrev pub FUSE_RELEASE_FLOCK_UNLOCK : ℕ
+FUSE_RELEASE_FLOCK_UNLOCK = 2 ^ 1
+
+abbrev pub FUSE_FSYNC_FDATASYNC : ℕ
+FUSE_FSYNC_FDATASYNC = 2 ^ 0
+
+abbrev pub FUSE_IOCTL_UNRESTRICTED : ℕ
+FUSE_IOCTL_UNRESTRICTED = 2 ^ 1
+
+-- an invalid argument: the error of Linux
+abbrev pub EINVAL : ℕ
+EINVAL = 22
+
+-- whether flags have this one
+abbrev pub has_flag : (flag flags : ℕ) → Bool
+has_flag flag flags = bit_and flags flag == flag
+
+-- whether flags have the one at this place
 abbrev pub has_bit : (bit flags : ℕ) → Bool
-has_bit bit flags = not (bit_and flags (2 ^ bit) == 0)
+has_bit bit = has_flag (2 ^ bit)
 
--- a field that counts where flags have this bit
-abbrev pub where_bit : {X : Type 0} → (bit flags : ℕ) → X → Option X
-where_bit bit flags field = if bit_and flags (2 ^ bit) == 0 then None else Some field
+-- a field that counts where flags have this one
+abbrev pub where_flag : {X : Type 0} → (flag flags : ℕ) → X → Option X
+where_flag flag flags field = if has_flag flag flags then Some field else None
 
--- the open file of GETATTR: where its flags have `FUSE_GETATTR_FH`, bit 0
+-- the open file of GETATTR
 abbrev pub fh_of : GetAttrArguments → Option ℕ
-fh_of arguments = where_bit 0 arguments.getattr_flags arguments.fh
+fh_of arguments = where_flag FUSE_GETATTR_FH arguments.getattr_flags arguments.fh
 
--- the owner of locks of READ: where its flags have `FUSE_READ_LOCKOWNER`, bit 1
+-- the owner of locks of READ
 abbrev pub lock_owner_of : ReadArguments → Option ℕ
-lock_owner_of arguments = where_bit 1 arguments.read_flags arguments.lock_owner
+lock_owner_of arguments = where_flag FUSE_READ_LOCKOWNER arguments.read_flags arguments.lock_owner
 
--- the owner of locks of WRITE: where its flags have `FUSE_WRITE_LOCKOWNER`, bit 1
+-- the owner of locks of WRITE
 abbrev pub writer_of : WriteArguments → Option ℕ
-writer_of arguments = where_bit 1 arguments.write_flags arguments.lock_owner
+writer_of arguments = where_flag FUSE_WRITE_LOCKOWNER arguments.write_flags arguments.lock_owner
 
--- the owner of locks of RELEASE: where its flags have `FUSE_RELEASE_FLOCK_UNLOCK`, bit 1
+-- the owner of locks of RELEASE and RELEASEDIR
 abbrev pub releaser_of : ReleaseArguments → Option ℕ
-releaser_of arguments = where_bit 1 arguments.release_flags arguments.lock_owner
+releaser_of arguments = where_flag FUSE_RELEASE_FLOCK_UNLOCK arguments.release_flags arguments.lock_owner
 
--- an offset in a file, or a length: a number below 2 ^ 63, and else the error `EINVAL`, 22
+-- whether RELEASE and RELEASEDIR write what is held back
+abbrev pub flushes : ReleaseArguments → Bool
+flushes arguments = has_flag FUSE_RELEASE_FLUSH arguments.release_flags
+
+-- whether FSYNC and FSYNCDIR write the contents alone
+abbrev pub contents_alone : FSyncArguments → Bool
+contents_alone arguments = has_flag FUSE_FSYNC_FDATASYNC arguments.fsync_flags
+
+-- whether the kernel knows no bytes of the command of IOCTL
+abbrev pub is_unrestricted : IoCtlArguments → Bool
+is_unrestricted arguments = has_flag FUSE_IOCTL_UNRESTRICTED arguments.flags
+
+-- an offset in a file, or a length: a number below 2 ^ 63
 abbrev pub file_offset : ℕ → Result ℕ ℕ
-file_offset offset = if nat_lt offset (2 ^ 63) then Ok offset else Err 22
+file_offset offset = if nat_lt offset (2 ^ 63) then Ok offset else Err EINVAL
 
--- an offset that is sent with a sign: one that is not negative, and else the error `EINVAL`, 22
+-- an offset that is sent with a sign: one that is not negative
 abbrev pub signed_offset : ℤ → Result ℕ ℕ
 signed_offset (pos offset) = Ok offset
-signed_offset (negsuc n) = Err 22
+signed_offset (negsuc n) = Err EINVAL
 
 -- a place in an open file, where its offset is one
 abbrev pub range_file : INodeNo → (fh : ℕ) → Result ℕ ℕ → Result CopyFileRangeFile ℕ

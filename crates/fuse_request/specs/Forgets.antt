@@ -1,7 +1,6 @@
 -- The rows of BATCH_FORGET (`struct fuse_forget_one` of `fuse.h`).
 use Rattle.std.specs.Prelude.{ℕ, zero, suc, ◌+◌, ◌/◌, List, [], ◌∷◌, length}
 use Rattle.fuse_wire.specs.Numbers.{number}
-use Rattle.fuse_request.specs.declared.forgets.BatchForget.{BatchForget}
 use Rattle.fuse_request.specs.declared.forgets.ForgetList.{ForgetList}
 use Rattle.fuse_request.specs.declared.forgets.ForgetOne.{ForgetOne}
 
@@ -21,10 +20,6 @@ row_bytes list = list.rows.now
 -- the rows of a list
 abbrev pub rows_of : ForgetList → List (ℕ × ℕ)
 rows_of list = rows_in (row_bytes list)
-
--- the bytes of the rows of BATCH_FORGET
-abbrev pub forgets_of : BatchForget → List ℕ
-forgets_of batch = batch.rows.now
 
 -- one row
 abbrev pub row_of : ForgetOne → ℕ × ℕ

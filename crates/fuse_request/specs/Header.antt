@@ -26,7 +26,7 @@ header m =
     else if nat_lt (number m 0 4) 40 then Err InsufficientData
     else Ok (header_fields m)
 
--- the bytes behind the header that it counts
+-- the bytes after the header that it counts
 abbrev pub body : List ℕ → List ℕ
 body m = take (number m 0 4 - 40) (drop 40 m)
 

@@ -1,12 +1,12 @@
 pub mod Asker
-pub mod Arguments
+pub mod Carried
 pub mod Fields
-pub mod Setting
+pub mod SetAttr
 pub mod Forgets
 pub mod InitOperation
 pub mod Header
 pub mod Opcode
 pub mod Operation
 pub mod Call
-pub mod Behind
+pub mod After
 pub mod ErrorText

@@ -28,10 +28,7 @@ use Rattle.fuse_args.specs.declared.fixed.nodes.MkNodArguments.{MkNodArguments}
 use Rattle.fuse_args.specs.declared.fixed.nodes.Rename2Arguments.{Rename2Arguments}
 use Rattle.fuse_args.specs.declared.fixed.nodes.SetAttrArguments.{SetAttrArguments}
 use Rattle.fuse_args.specs.declared.fixed.nodes.SetXAttrArguments.{SetXAttrArguments}
-use Rattle.fuse_request.specs.Arguments.{access_of, bmap_of, copy_file_range_node, copy_file_range_of, create_name, create_of, fallocate_of, flush_of, forget_nlookup, fsync_of, fsyncdir_of, getattr_of, getlk_of, getxattr_name, getxattr_of, ioctl_in_bytes, ioctl_of, link_new_name, link_node, link_oldnodeid, listxattr_of, lookup_name, lseek_of, mkdir_name, mkdir_of, mknod_name, mknod_of, open_of, opendir_of, poll_of, read_of, readdir_of, readdirplus_of, release_of, releasedir_of, removexattr_name, rename2_new_name, rename2_node, rename2_of, rename2_old_name, rename_new_name, rename_newdir, rename_node, rename_old_name, rmdir_name, setattr_of, setlk_of, setlk_sleep, setxattr_name, setxattr_of, setxattr_value, symlink_link_name, symlink_target, unlink_name, write_of, write_written}
-use Rattle.fuse_request.specs.Forgets.{forgets_of}
 use Rattle.fuse_request.specs.Opcode.{CUSE_INIT, FUSE_ACCESS, FUSE_BATCH_FORGET, FUSE_BMAP, FUSE_COPY_FILE_RANGE, FUSE_CREATE, FUSE_DESTROY, FUSE_FALLOCATE, FUSE_FLUSH, FUSE_FORGET, FUSE_FSYNC, FUSE_FSYNCDIR, FUSE_GETATTR, FUSE_GETLK, FUSE_GETXATTR, FUSE_INIT, FUSE_INTERRUPT, FUSE_IOCTL, FUSE_LINK, FUSE_LISTXATTR, FUSE_LOOKUP, FUSE_LSEEK, FUSE_MKDIR, FUSE_MKNOD, FUSE_NOTIFY_REPLY, FUSE_OPEN, FUSE_OPENDIR, FUSE_POLL, FUSE_READ, FUSE_READDIR, FUSE_READDIRPLUS, FUSE_READLINK, FUSE_RELEASE, FUSE_RELEASEDIR, FUSE_REMOVEXATTR, FUSE_RENAME, FUSE_RENAME2, FUSE_RMDIR, FUSE_SETATTR, FUSE_SETLK, FUSE_SETLKW, FUSE_SETXATTR, FUSE_STATFS, FUSE_SYMLINK, FUSE_UNLINK, FUSE_WRITE}
-use Rattle.fuse_request.specs.InitOperation.{arguments_of, unique_asked}
 use Rattle.fuse_request.specs.declared.error.RequestError.{RequestError}
 use Rattle.fuse_request.specs.declared.error.RequestError.TheVariants.{UnknownOperation, InsufficientData}
 use Rattle.fuse_request.specs.declared.operation.Operation.{Operation}
@@ -192,51 +189,51 @@ operation opcode body =
 
 -- an operation of the code, as plain data
 abbrev pub plain : Operation → Op
-plain (code.Lookup operation) = Lookup (lookup_name operation)
-plain (code.Forget operation) = Forget (forget_nlookup operation)
-plain (code.GetAttr operation) = GetAttr (getattr_of operation)
-plain (code.SetAttr operation) = SetAttr (setattr_of operation)
-plain (code.ReadLink operation) = ReadLink
-plain (code.SymLink operation) = SymLink (symlink_link_name operation) (symlink_target operation)
-plain (code.MkNod operation) = MkNod (mknod_of operation) (mknod_name operation)
-plain (code.MkDir operation) = MkDir (mkdir_of operation) (mkdir_name operation)
-plain (code.Unlink operation) = Unlink (unlink_name operation)
-plain (code.RmDir operation) = RmDir (rmdir_name operation)
-plain (code.Rename operation) = Rename (rename_newdir operation) (rename_old_name operation) (rename_new_name operation)
-plain (code.Link operation) = Link (link_oldnodeid operation) (link_new_name operation)
-plain (code.Open operation) = Open (open_of operation)
-plain (code.Read operation) = Read (read_of operation)
-plain (code.Write operation) = Write (write_of operation) (write_written operation)
-plain (code.StatFs operation) = StatFs
-plain (code.Release operation) = Release (release_of operation)
-plain (code.FSync operation) = FSync (fsync_of operation)
-plain (code.SetXAttr operation) = SetXAttr (setxattr_of operation) (setxattr_name operation) (setxattr_value operation)
-plain (code.GetXAttr operation) = GetXAttr (getxattr_of operation) (getxattr_name operation)
-plain (code.ListXAttr operation) = ListXAttr (listxattr_of operation)
-plain (code.RemoveXAttr operation) = RemoveXAttr (removexattr_name operation)
-plain (code.Flush operation) = Flush (flush_of operation)
-plain (code.Init operation) = Init (arguments_of operation)
-plain (code.OpenDir operation) = OpenDir (opendir_of operation)
-plain (code.ReadDir operation) = ReadDir (readdir_of operation)
-plain (code.ReleaseDir operation) = ReleaseDir (releasedir_of operation)
-plain (code.FSyncDir operation) = FSyncDir (fsyncdir_of operation)
-plain (code.GetLk operation) = GetLk (getlk_of operation)
-plain (code.SetLk operation) = SetLk (setlk_of operation) (setlk_sleep operation)
-plain (code.Access operation) = Access (access_of operation)
-plain (code.Create operation) = Create (create_of operation) (create_name operation)
-plain (code.Interrupt operation) = Interrupt (unique_asked operation)
-plain (code.BMap operation) = BMap (bmap_of operation)
-plain (code.Destroy operation) = Destroy
-plain (code.IoCtl operation) = IoCtl (ioctl_of operation) (ioctl_in_bytes operation)
-plain (code.Poll operation) = Poll (poll_of operation)
-plain (code.NotifyReply operation) = NotifyReply
-plain (code.BatchForget operation) = BatchForget (forgets_of operation)
-plain (code.FAllocate operation) = FAllocate (fallocate_of operation)
-plain (code.ReadDirPlus operation) = ReadDirPlus (readdirplus_of operation)
-plain (code.Rename2 operation) = Rename2 (rename2_of operation) (rename2_old_name operation) (rename2_new_name operation)
-plain (code.Lseek operation) = Lseek (lseek_of operation)
-plain (code.CopyFileRange operation) = CopyFileRange (copy_file_range_of operation)
-plain (code.CuseInit operation) = CuseInit
+plain (code.Lookup name) = Lookup name
+plain (code.Forget nlookup) = Forget nlookup
+plain (code.GetAttr arguments) = GetAttr arguments
+plain (code.SetAttr arguments) = SetAttr arguments
+plain (code.ReadLink nothing) = ReadLink
+plain (code.SymLink made) = SymLink made.link_name made.target
+plain (code.MkNod made) = MkNod made.arguments made.name
+plain (code.MkDir made) = MkDir made.arguments made.name
+plain (code.Unlink name) = Unlink name
+plain (code.RmDir name) = RmDir name
+plain (code.Rename moved) = Rename moved.newdir moved.old_name moved.new_name
+plain (code.Link linked) = Link linked.oldnodeid linked.new_name
+plain (code.Open arguments) = Open arguments
+plain (code.Read arguments) = Read arguments
+plain (code.Write written) = Write written.arguments written.bytes
+plain (code.StatFs nothing) = StatFs
+plain (code.Release arguments) = Release arguments
+plain (code.FSync arguments) = FSync arguments
+plain (code.SetXAttr set) = SetXAttr set.arguments set.name set.value
+plain (code.GetXAttr asked) = GetXAttr asked.arguments asked.name
+plain (code.ListXAttr arguments) = ListXAttr arguments
+plain (code.RemoveXAttr name) = RemoveXAttr name
+plain (code.Flush arguments) = Flush arguments
+plain (code.Init arguments) = Init arguments
+plain (code.OpenDir arguments) = OpenDir arguments
+plain (code.ReadDir arguments) = ReadDir arguments
+plain (code.ReleaseDir arguments) = ReleaseDir arguments
+plain (code.FSyncDir arguments) = FSyncDir arguments
+plain (code.GetLk asked) = GetLk asked.arguments
+plain (code.SetLk asked) = SetLk asked.arguments asked.sleep
+plain (code.Access arguments) = Access arguments
+plain (code.Create made) = Create made.arguments made.name
+plain (code.Interrupt unique) = Interrupt unique
+plain (code.BMap arguments) = BMap arguments
+plain (code.Destroy nothing) = Destroy
+plain (code.IoCtl command) = IoCtl command.arguments command.bytes
+plain (code.Poll arguments) = Poll arguments
+plain (code.NotifyReply nothing) = NotifyReply
+plain (code.BatchForget rows) = BatchForget rows
+plain (code.FAllocate arguments) = FAllocate arguments
+plain (code.ReadDirPlus arguments) = ReadDirPlus arguments
+plain (code.Rename2 moved) = Rename2 moved.arguments moved.old_name moved.new_name
+plain (code.Lseek arguments) = Lseek arguments
+plain (code.CopyFileRange copied) = CopyFileRange copied.arguments
+plain (code.CuseInit nothing) = CuseInit
 
 -- the code decodes what the definition does, and refuses what it refuses
 abbrev pub Is : Result Operation RequestError → Result Op RequestError → Type 0
@@ -245,10 +242,10 @@ Is (Err e) expected = expected ≡ Err e
 
 -- the node that an operation of the code keeps, where one of its places is in that node or is that node
 abbrev pub kept_node : Operation → Option INodeNo
-kept_node (code.Rename operation) = Some (rename_node operation)
-kept_node (code.Rename2 operation) = Some (rename2_node operation)
-kept_node (code.Link operation) = Some (link_node operation)
-kept_node (code.CopyFileRange operation) = Some (copy_file_range_node operation)
+kept_node (code.Rename moved) = Some moved.node
+kept_node (code.Rename2 moved) = Some moved.node
+kept_node (code.Link linked) = Some linked.node
+kept_node (code.CopyFileRange copied) = Some copied.node
 kept_node operation = None
 
 -- an operation that keeps a node keeps this one

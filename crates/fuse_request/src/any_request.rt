@@ -9,20 +9,20 @@ use fuse_wire::consts::REQUEST_HEADER_SIZE;
 use fuse_wire::{INodeNo, RequestId, u32_at, u64_at};
 
 /// What stands in front of every message: `struct fuse_in_header`.
-#[derive(Clone, Copy, Debug, PartialEq, Eq)]
-pub struct Header {
+#[derive(Clone, Copy)]
+pub(crate) struct Header {
     /// What is asked.
-    pub opcode: u32,
+    pub(crate) opcode: u32,
     /// The number of the request.
-    pub unique: RequestId,
+    pub(crate) unique: RequestId,
     /// The inode that it is about.
-    pub nodeid: INodeNo,
+    pub(crate) nodeid: INodeNo,
     /// The user on whose behalf it is made.
-    pub uid: u32,
+    pub(crate) uid: u32,
     /// That user's group.
-    pub gid: u32,
+    pub(crate) gid: u32,
     /// The process that makes it.
-    pub pid: u32,
+    pub(crate) pid: u32,
 }
 
 /// A message with a good header, whose body is borrowed from it.
@@ -33,6 +33,7 @@ pub struct AnyRequest<'a> {
 }
 
 /// The header's fields.
+#[inline(always)]
 fn header_at(message: &[u8]) -> Header
     requires { 40 ≤ length message.now }
     ensures { result ≡ header_fields message.now }
@@ -49,6 +50,10 @@ fn header_at(message: &[u8]) -> Header
 
 impl<'a> AnyRequest<'a> {
     /// Takes a message apart. What follows the bytes that its header counts is ignored.
+    ///
+    /// `ShortReadHeader` where the message is shorter than a header, `ShortRead` where it is shorter than its header says, and
+    /// `InsufficientData` where its header says fewer bytes than a header has.
+    #[inline(always)]
     pub fn try_from(message: &'a [u8]) -> Result<AnyRequest<'a>, RequestError>
         ensures { Decodes result message.now }
     {
@@ -123,6 +128,10 @@ impl<'a> AnyRequest<'a> {
     }
 
     /// What is asked. An operation that has a place in the node of the request keeps that node.
+    ///
+    /// `UnknownOperation` where no operation has the opcode, and `InsufficientData` where the body is cut short, or the value of
+    /// WRITE or SETXATTR is not as long as its fixed part says.
+    #[inline(always)]
     pub fn operation(&self) -> Result<Operation<'a>, RequestError>
         ensures operation { Is result (operation (header_of self.now).opcode (body_of self.now)) }
         ensures node { Keeps result (header_of self.now).nodeid }

@@ -22,6 +22,7 @@ use crate::{
 };
 use fuse_args::ArgumentIterator;
 use fuse_wire::INodeNo;
+use std::marker::PhantomData;
 
 /// A part of a body. The decoding ends with `InsufficientData` where it is not all there.
 macro_rules! whole {
@@ -129,6 +130,7 @@ fn open_to_flush(opcode: u32, body: &[u8]) -> Result<Operation<'_>, RequestError
     let operation = match opcode {
         FUSE_OPEN => Operation::Open(Open {
             arguments: whole!(arguments.fetch_open()),
+            kind: PhantomData,
         }),
         FUSE_READ => Operation::Read(Read {
             arguments: whole!(arguments.fetch_read()),
@@ -144,9 +146,11 @@ fn open_to_flush(opcode: u32, body: &[u8]) -> Result<Operation<'_>, RequestError
         FUSE_STATFS => Operation::StatFs(StatFs),
         FUSE_RELEASE => Operation::Release(Release {
             arguments: whole!(arguments.fetch_release()),
+            kind: PhantomData,
         }),
         FUSE_FSYNC => Operation::FSync(FSync {
             arguments: whole!(arguments.fetch_fsync()),
+            kind: PhantomData,
         }),
         FUSE_SETXATTR => {
             let part = whole!(arguments.fetch_setxattr());
@@ -190,18 +194,23 @@ fn init_to_bmap(opcode: u32, body: &[u8]) -> Result<Operation<'_>, RequestError>
         }),
         FUSE_OPENDIR => Operation::OpenDir(OpenDir {
             arguments: whole!(arguments.fetch_open()),
+            kind: PhantomData,
         }),
         FUSE_READDIR => Operation::ReadDir(ReadDir {
             arguments: whole!(arguments.fetch_read()),
+            kind: PhantomData,
         }),
         FUSE_RELEASEDIR => Operation::ReleaseDir(ReleaseDir {
             arguments: whole!(arguments.fetch_release()),
+            kind: PhantomData,
         }),
         FUSE_FSYNCDIR => Operation::FSyncDir(FSyncDir {
             arguments: whole!(arguments.fetch_fsync()),
+            kind: PhantomData,
         }),
         FUSE_GETLK => Operation::GetLk(GetLk {
             arguments: whole!(arguments.fetch_getlk()),
+            sleep: (),
         }),
         FUSE_SETLK => Operation::SetLk(SetLk {
             arguments: whole!(arguments.fetch_getlk()),
@@ -265,6 +274,7 @@ fn destroy_to_cuse_init<'a>(
         }),
         FUSE_READDIRPLUS => Operation::ReadDirPlus(ReadDirPlus {
             arguments: whole!(arguments.fetch_read()),
+            kind: PhantomData,
         }),
         FUSE_RENAME2 => Operation::Rename2(Rename2 {
             node,

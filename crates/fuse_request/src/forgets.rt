@@ -1,8 +1,9 @@
 // Lookups of several inodes that are given back.
-ghost use Rattle.std.specs.Prelude.{◌≡◌, length, option_map, slice_get};
-ghost use Rattle.fuse_request.specs.Forgets.{forgets_of, row_bytes, row_of, rows_of};
+ghost use Rattle.std.specs.Prelude.{◌≡◌, ◌==◌, length, option_map, slice_get};
+ghost use Rattle.fuse_request.specs.Forgets.{row_bytes, row_of, rows_of};
 
 use fuse_wire::{INodeNo, u64_at};
+use std::marker::Model;
 
 /// How long a row is: `struct fuse_forget_one`.
 const ROW_SIZE: usize = 16;
@@ -45,7 +46,15 @@ impl<'a> ForgetList<'a> {
         self.rows.len() / ROW_SIZE
     }
 
-    /// The inode at this place.
+    /// Whether there is none.
+    #[tactic(auto, using(crate::proofs::Rows::rows_in_length))]
+    pub fn is_empty(&self) -> bool
+        ensures { result ≡ (length (rows_of self.now) == 0) }
+    {
+        self.len() == 0
+    }
+
+    /// The inode at this place. None from `len` on.
     #[tactic(auto, using(crate::proofs::Rows::rows_in_at, crate::proofs::Rows::rows_in_beyond))]
     pub fn get(&self, place: usize) -> Option<ForgetOne>
         ensures { option_map row_of result ≡ slice_get (rows_of self.now) place }
@@ -62,15 +71,24 @@ impl<'a> ForgetList<'a> {
 }
 
 /// BATCH_FORGET: the kernel gives back some of its lookups of several inodes. It waits for no reply.
-#[derive(Clone, Copy)]
+/// A contract sees the bytes of the rows.
+#[derive(Drop)]
 pub struct BatchForget<'a> {
     pub(crate) rows: &'a [u8],
+}
+
+impl<'a> Model for BatchForget<'a> {
+    ghost use Rattle.std.specs.Prelude.{ℕ, List};
+
+    ghost Value = { List ℕ };
+
+    ghost view = { λ a. a.rows.now };
 }
 
 impl<'a> BatchForget<'a> {
     /// The inodes.
     pub fn nodes(&self) -> ForgetList<'a>
-        ensures { row_bytes result ≡ forgets_of self.now }
+        ensures { row_bytes result ≡ self.now }
     {
         ForgetList { rows: self.rows }
     }

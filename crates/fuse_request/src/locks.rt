@@ -3,6 +3,7 @@ ghost use Rattle.std.specs.Prelude.{◌≡◌};
 
 use fuse_args::GetLkArguments;
 use fuse_wire::{FileHandle, LockOwner};
+use std::marker::Model;
 
 /// A lock on a range of a file.
 #[derive(Clone, Copy, Debug, PartialEq, Eq)]
@@ -15,63 +16,40 @@ pub struct Lock {
     pub pid: u32,
 }
 
-/// GETLK: whether a lock could be taken.
-#[derive(Clone, Copy)]
-pub struct GetLk {
+/// GETLK, SETLK and SETLKW: what is asked of a lock, and of the latter two whether to wait.
+#[derive(Drop)]
+pub struct Locking<S> {
     pub(crate) arguments: GetLkArguments,
+    pub(crate) sleep: S,
 }
 
-impl GetLk {
-    ghost use Rattle.fuse_request.specs.Arguments.{getlk_of};
-    ghost use Rattle.fuse_request.specs.Fields.{lock_of};
-
-    /// The open file.
-    pub fn file_handle(&self) -> FileHandle
-        ensures { result.0 ≡ (getlk_of self.now).fh }
-    {
-        FileHandle(self.arguments.fh)
-    }
-
-    /// The lock.
-    pub fn lock(&self) -> Lock
-        ensures { result ≡ lock_of (getlk_of self.now) }
-    {
-        Lock {
-            range: (self.arguments.start, self.arguments.end),
-            typ: self.arguments.typ,
-            pid: self.arguments.pid,
-        }
-    }
-
-    /// Who asks for it.
-    pub fn lock_owner(&self) -> LockOwner
-        ensures { result.0 ≡ (getlk_of self.now).owner }
-    {
-        LockOwner(self.arguments.owner)
-    }
-}
+/// GETLK: whether a lock could be taken.
+pub type GetLk = Locking<()>;
 
 /// SETLK and SETLKW: a lock is taken or given back.
-#[derive(Clone, Copy)]
-pub struct SetLk {
-    pub(crate) arguments: GetLkArguments,
-    pub(crate) sleep: bool,
+pub type SetLk = Locking<bool>;
+
+impl<S> Model for Locking<S> {
+    ghost use Rattle.fuse_request.specs.Carried.{Locked};
+
+    ghost Value = { Locked S };
+
+    ghost view = { λ a. record { arguments = a.arguments; sleep = a.sleep } };
 }
 
-impl SetLk {
-    ghost use Rattle.fuse_request.specs.Arguments.{setlk_of, setlk_sleep};
+impl<S> Locking<S> {
     ghost use Rattle.fuse_request.specs.Fields.{lock_of};
 
     /// The open file.
     pub fn file_handle(&self) -> FileHandle
-        ensures { result.0 ≡ (setlk_of self.now).fh }
+        ensures { result.0 ≡ self.now.arguments.fh }
     {
         FileHandle(self.arguments.fh)
     }
 
     /// The lock.
     pub fn lock(&self) -> Lock
-        ensures { result ≡ lock_of (setlk_of self.now) }
+        ensures { result ≡ lock_of self.now.arguments }
     {
         Lock {
             range: (self.arguments.start, self.arguments.end),
@@ -82,14 +60,16 @@ impl SetLk {
 
     /// Who asks for it.
     pub fn lock_owner(&self) -> LockOwner
-        ensures { result.0 ≡ (setlk_of self.now).owner }
+        ensures { result.0 ≡ self.now.arguments.owner }
     {
         LockOwner(self.arguments.owner)
     }
+}
 
+impl Locking<bool> {
     /// Whether to wait until it can be taken: SETLKW.
     pub fn sleep(&self) -> bool
-        ensures { result ≡ setlk_sleep self.now }
+        ensures { result ≡ self.now.sleep }
     {
         self.sleep
     }

@@ -4,50 +4,63 @@ ghost use Rattle.std.specs.Prelude.{◌≡◌};
 use bitflags::Flags;
 use fuse_args::{AccessArguments, GetAttrArguments};
 use fuse_wire::{AccessFlags, FileHandle, GetattrFlags};
+use std::marker::Model;
 
-/// FORGET: the kernel gives back some of its lookups of an inode. It waits for no reply.
-#[derive(Clone, Copy)]
+/// FORGET: the kernel gives back some of its lookups of an inode. It waits for no reply. A contract sees their number.
+#[derive(Drop)]
 pub struct Forget {
     pub(crate) nlookup: u64,
 }
 
-impl Forget {
-    ghost use Rattle.fuse_request.specs.Arguments.{forget_nlookup};
+impl Model for Forget {
+    ghost use Rattle.std.specs.Prelude.{ℕ};
 
+    ghost Value = { ℕ };
+
+    ghost view = { λ a. a.nlookup };
+}
+
+impl Forget {
     /// How many lookups are given back.
     pub fn nlookup(&self) -> u64
-        ensures { result ≡ forget_nlookup self.now }
+        ensures { result ≡ self.now }
     {
         self.nlookup
     }
 }
 
 /// GETATTR: what the attributes of an inode are.
-#[derive(Clone, Copy)]
+#[derive(Drop)]
 pub struct GetAttr {
     pub(crate) arguments: GetAttrArguments,
 }
 
+impl Model for GetAttr {
+    ghost use Rattle.fuse_args.specs.declared.fixed.nodes.GetAttrArguments.{GetAttrArguments};
+
+    ghost Value = { GetAttrArguments };
+
+    ghost view = { λ a. a.arguments };
+}
+
 impl GetAttr {
-    ghost use Rattle.fuse_request.specs.Arguments.{getattr_of};
     ghost use Rattle.fuse_request.specs.Call.{handle_number};
     ghost use Rattle.fuse_request.specs.Fields.{fh_of};
 
     /// Which fields count.
     pub fn getattr_flags(&self) -> GetattrFlags
-        ensures { result.0 ≡ (getattr_of self.now).getattr_flags }
+        ensures { result.0 ≡ self.now.getattr_flags }
     {
         GetattrFlags::from_bits_retain(self.arguments.getattr_flags)
     }
 
     /// The open file through which it is asked, if there is one: where the flags have `FUSE_GETATTR_FH`.
     pub fn file_handle(&self) -> Option<FileHandle>
-        ensures { handle_number result ≡ fh_of (getattr_of self.now) }
+        ensures { handle_number result ≡ fh_of self.now }
     {
-        if self.arguments.getattr_flags & 1 == 0 {
-            return None;
-        }
-        Some(FileHandle(self.arguments.fh))
+        self.getattr_flags()
+            .contains(GetattrFlags::FUSE_GETATTR_FH)
+            .then_some(FileHandle(self.arguments.fh))
     }
 }
 
@@ -60,17 +73,23 @@ pub struct ReadLink;
 pub struct StatFs;
 
 /// ACCESS: whether the caller may use an inode so.
-#[derive(Clone, Copy)]
+#[derive(Drop)]
 pub struct Access {
     pub(crate) arguments: AccessArguments,
 }
 
-impl Access {
-    ghost use Rattle.fuse_request.specs.Arguments.{access_of};
+impl Model for Access {
+    ghost use Rattle.fuse_args.specs.declared.fixed.nodes.AccessArguments.{AccessArguments};
 
+    ghost Value = { AccessArguments };
+
+    ghost view = { λ a. a.arguments };
+}
+
+impl Access {
     /// What the caller wants to do.
     pub fn mask(&self) -> AccessFlags
-        ensures { result.0 ≡ (access_of self.now).mask }
+        ensures { result.0 ≡ self.now.mask }
     {
         AccessFlags::from_bits_retain(self.arguments.mask)
     }

@@ -10,37 +10,47 @@ use crate::{
 use bitflags::Flags;
 use fuse_args::InitArguments;
 use fuse_wire::{InitFlags, RequestId, Version};
+use std::fmt;
+use std::marker::Model;
 
 /// INIT: a kernel offers to speak.
-#[derive(Clone, Copy)]
+#[derive(Drop)]
 pub struct Init {
     pub(crate) arguments: InitArguments,
 }
 
+impl Model for Init {
+    ghost use Rattle.fuse_args.specs.declared.fixed.InitArguments.{InitArguments};
+
+    ghost Value = { InitArguments };
+
+    ghost view = { λ a. a.arguments };
+}
+
 impl Init {
-    ghost use Rattle.fuse_request.specs.InitOperation.{arguments_of, offered, version};
+    ghost use Rattle.fuse_request.specs.InitOperation.{offered, version};
 
     /// The capabilities offered. The second word counts where the first has `FUSE_INIT_EXT`.
     pub fn capabilities(&self) -> InitFlags
-        ensures { result.0 ≡ offered (arguments_of self.now) }
+        ensures { result.0 ≡ offered self.now }
     {
-        let low = self.arguments.flags as u64;
-        if low & 0x4000_0000 == 0 {
-            return InitFlags::from_bits_retain(low);
+        let low = InitFlags::from_bits_retain(self.arguments.flags as u64);
+        if !low.contains(InitFlags::FUSE_INIT_EXT) {
+            return low;
         }
-        InitFlags::from_bits_retain(low + self.arguments.flags2 as u64 * 0x1_0000_0000)
+        InitFlags::from_bits_retain(low.bits() + self.arguments.flags2 as u64 * 0x1_0000_0000)
     }
 
     /// The most bytes that the kernel reads ahead.
     pub fn max_readahead(&self) -> u32
-        ensures { result ≡ (arguments_of self.now).max_readahead }
+        ensures { result ≡ self.now.max_readahead }
     {
         self.arguments.max_readahead
     }
 
     /// The kernel's version.
     pub fn version(&self) -> Version
-        ensures { result ≡ version (arguments_of self.now) }
+        ensures { result ≡ version self.now }
     {
         Version(self.arguments.major, self.arguments.minor)
     }
@@ -51,17 +61,23 @@ impl Init {
 pub struct Destroy;
 
 /// INTERRUPT: a request need not be answered any more.
-#[derive(Clone, Copy)]
+#[derive(Drop)]
 pub struct Interrupt {
     pub(crate) unique: u64,
 }
 
-impl Interrupt {
-    ghost use Rattle.fuse_request.specs.InitOperation.{unique_asked};
+impl Model for Interrupt {
+    ghost use Rattle.std.specs.Prelude.{ℕ};
 
+    ghost Value = { ℕ };
+
+    ghost view = { λ a. a.unique };
+}
+
+impl Interrupt {
     /// The number of that request.
     pub fn unique(&self) -> RequestId
-        ensures { result.0 ≡ unique_asked self.now }
+        ensures { result.0 ≡ self.now }
     {
         RequestId(self.unique)
     }
@@ -76,7 +92,7 @@ pub struct NotifyReply;
 pub struct CuseInit;
 
 /// What is asked, with its arguments.
-#[derive(Clone, Copy)]
+#[derive(Drop)]
 pub enum Operation<'a> {
     /// Which inode a name means.
     Lookup(Lookup<'a>),
@@ -168,4 +184,58 @@ pub enum Operation<'a> {
     CopyFileRange(CopyFileRange),
     /// A kernel offers to speak of a character device.
     CuseInit(CuseInit),
+}
+
+/// An operation is printed as its name.
+impl fmt::Debug for Operation<'_> {
+    fn fmt<W: fmt::Write>(&self, f: &mut fmt::Formatter<W>) -> fmt::Result {
+        let name = match self {
+            Operation::Lookup(_) => "Lookup",
+            Operation::Forget(_) => "Forget",
+            Operation::GetAttr(_) => "GetAttr",
+            Operation::SetAttr(_) => "SetAttr",
+            Operation::ReadLink(_) => "ReadLink",
+            Operation::SymLink(_) => "SymLink",
+            Operation::MkNod(_) => "MkNod",
+            Operation::MkDir(_) => "MkDir",
+            Operation::Unlink(_) => "Unlink",
+            Operation::RmDir(_) => "RmDir",
+            Operation::Rename(_) => "Rename",
+            Operation::Link(_) => "Link",
+            Operation::Open(_) => "Open",
+            Operation::Read(_) => "Read",
+            Operation::Write(_) => "Write",
+            Operation::StatFs(_) => "StatFs",
+            Operation::Release(_) => "Release",
+            Operation::FSync(_) => "FSync",
+            Operation::SetXAttr(_) => "SetXAttr",
+            Operation::GetXAttr(_) => "GetXAttr",
+            Operation::ListXAttr(_) => "ListXAttr",
+            Operation::RemoveXAttr(_) => "RemoveXAttr",
+            Operation::Flush(_) => "Flush",
+            Operation::Init(_) => "Init",
+            Operation::OpenDir(_) => "OpenDir",
+            Operation::ReadDir(_) => "ReadDir",
+            Operation::ReleaseDir(_) => "ReleaseDir",
+            Operation::FSyncDir(_) => "FSyncDir",
+            Operation::GetLk(_) => "GetLk",
+            Operation::SetLk(_) => "SetLk",
+            Operation::Access(_) => "Access",
+            Operation::Create(_) => "Create",
+            Operation::Interrupt(_) => "Interrupt",
+            Operation::BMap(_) => "BMap",
+            Operation::Destroy(_) => "Destroy",
+            Operation::IoCtl(_) => "IoCtl",
+            Operation::Poll(_) => "Poll",
+            Operation::NotifyReply(_) => "NotifyReply",
+            Operation::BatchForget(_) => "BatchForget",
+            Operation::FAllocate(_) => "FAllocate",
+            Operation::ReadDirPlus(_) => "ReadDirPlus",
+            Operation::Rename2(_) => "Rename2",
+            Operation::Lseek(_) => "Lseek",
+            Operation::CopyFileRange(_) => "CopyFileRange",
+            Operation::CuseInit(_) => "CuseInit",
+        };
+        f.write_str(name)
+    }
 }

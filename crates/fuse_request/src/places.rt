@@ -4,6 +4,7 @@ ghost use Rattle.std.specs.Prelude.{◌≡◌};
 use bitflags::Flags;
 use fuse_args::Rename2Arguments;
 use fuse_wire::{INodeNo, RenameFlags};
+use std::marker::Model;
 
 /// A name in a directory.
 #[derive(Clone, Copy, Debug, PartialEq, Eq)]
@@ -15,7 +16,7 @@ pub struct FilenameInDir<'a> {
 }
 
 /// RENAME: a name moves to another place.
-#[derive(Clone, Copy)]
+#[derive(Drop)]
 pub struct Rename<'a> {
     pub(crate) node: INodeNo,
     pub(crate) newdir: u64,
@@ -23,13 +24,19 @@ pub struct Rename<'a> {
     pub(crate) new_name: &'a [u8],
 }
 
-impl<'a> Rename<'a> {
-    ghost use Rattle.fuse_request.specs.Arguments.{rename_new_name, rename_newdir, rename_node, rename_old_name};
+impl<'a> Model for Rename<'a> {
+    ghost use Rattle.fuse_request.specs.Carried.{Moved};
 
+    ghost Value = { Moved };
+
+    ghost view = { λ a. record { node = a.node; newdir = a.newdir; old_name = a.old_name.now; new_name = a.new_name.now } };
+}
+
+impl<'a> Rename<'a> {
     /// The place that it moves from, which is in the node of the request.
     pub fn src(&self) -> FilenameInDir<'a>
-        ensures dir { result.dir ≡ rename_node self.now }
-        ensures name { result.name.now ≡ rename_old_name self.now }
+        ensures dir { result.dir ≡ self.now.node }
+        ensures name { result.name.now ≡ self.now.old_name }
     {
         FilenameInDir {
             dir: self.node,
@@ -39,8 +46,8 @@ impl<'a> Rename<'a> {
 
     /// The place that it moves to.
     pub fn dest(&self) -> FilenameInDir<'a>
-        ensures dir { result.dir.0 ≡ rename_newdir self.now }
-        ensures name { result.name.now ≡ rename_new_name self.now }
+        ensures dir { result.dir.0 ≡ self.now.newdir }
+        ensures name { result.name.now ≡ self.now.new_name }
     {
         FilenameInDir {
             dir: INodeNo(self.newdir),
@@ -50,7 +57,7 @@ impl<'a> Rename<'a> {
 }
 
 /// RENAME2: a name moves to another place, in a way that flags say.
-#[derive(Clone, Copy)]
+#[derive(Drop)]
 pub struct Rename2<'a> {
     pub(crate) node: INodeNo,
     pub(crate) arguments: Rename2Arguments,
@@ -58,13 +65,19 @@ pub struct Rename2<'a> {
     pub(crate) new_name: &'a [u8],
 }
 
-impl<'a> Rename2<'a> {
-    ghost use Rattle.fuse_request.specs.Arguments.{rename2_new_name, rename2_node, rename2_of, rename2_old_name};
+impl<'a> Model for Rename2<'a> {
+    ghost use Rattle.fuse_request.specs.Carried.{MovedByFlags};
 
+    ghost Value = { MovedByFlags };
+
+    ghost view = { λ a. record { node = a.node; arguments = a.arguments; old_name = a.old_name.now; new_name = a.new_name.now } };
+}
+
+impl<'a> Rename2<'a> {
     /// The place that it moves from, which is in the node of the request.
     pub fn from(&self) -> FilenameInDir<'a>
-        ensures dir { result.dir ≡ rename2_node self.now }
-        ensures name { result.name.now ≡ rename2_old_name self.now }
+        ensures dir { result.dir ≡ self.now.node }
+        ensures name { result.name.now ≡ self.now.old_name }
     {
         FilenameInDir {
             dir: self.node,
@@ -74,8 +87,8 @@ impl<'a> Rename2<'a> {
 
     /// The place that it moves to.
     pub fn to(&self) -> FilenameInDir<'a>
-        ensures dir { result.dir.0 ≡ (rename2_of self.now).newdir }
-        ensures name { result.name.now ≡ rename2_new_name self.now }
+        ensures dir { result.dir.0 ≡ self.now.arguments.newdir }
+        ensures name { result.name.now ≡ self.now.new_name }
     {
         FilenameInDir {
             dir: INodeNo(self.arguments.newdir),
@@ -85,34 +98,40 @@ impl<'a> Rename2<'a> {
 
     /// How it moves.
     pub fn flags(&self) -> RenameFlags
-        ensures { result.0 ≡ (rename2_of self.now).flags }
+        ensures { result.0 ≡ self.now.arguments.flags }
     {
         RenameFlags::from_bits_retain(self.arguments.flags)
     }
 }
 
 /// LINK: an inode gets another name.
-#[derive(Clone, Copy)]
+#[derive(Drop)]
 pub struct Link<'a> {
     pub(crate) node: INodeNo,
     pub(crate) oldnodeid: u64,
     pub(crate) new_name: &'a [u8],
 }
 
-impl<'a> Link<'a> {
-    ghost use Rattle.fuse_request.specs.Arguments.{link_new_name, link_node, link_oldnodeid};
+impl<'a> Model for Link<'a> {
+    ghost use Rattle.fuse_request.specs.Carried.{Linked};
 
+    ghost Value = { Linked };
+
+    ghost view = { λ a. record { node = a.node; oldnodeid = a.oldnodeid; new_name = a.new_name.now } };
+}
+
+impl<'a> Link<'a> {
     /// The inode.
     pub fn inode_no(&self) -> INodeNo
-        ensures { result.0 ≡ link_oldnodeid self.now }
+        ensures { result.0 ≡ self.now.oldnodeid }
     {
         INodeNo(self.oldnodeid)
     }
 
     /// The place of the new name, which is in the node of the request.
     pub fn dest(&self) -> FilenameInDir<'a>
-        ensures dir { result.dir ≡ link_node self.now }
-        ensures name { result.name.now ≡ link_new_name self.now }
+        ensures dir { result.dir ≡ self.now.node }
+        ensures name { result.name.now ≡ self.now.new_name }
     {
         FilenameInDir {
             dir: self.node,

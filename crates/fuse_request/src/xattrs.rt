@@ -2,6 +2,7 @@
 ghost use Rattle.std.specs.Prelude.{◌≡◌};
 
 use fuse_args::{GetXAttrArguments, SetXAttrArguments};
+use std::marker::Model;
 use std::num::NonZeroU32;
 
 /// The size of an extended attribute is wanted.
@@ -18,33 +19,39 @@ pub enum GetXAttrSizeEnum {
 }
 
 /// SETXATTR: an extended attribute is set.
-#[derive(Clone, Copy)]
+#[derive(Drop)]
 pub struct SetXAttr<'a> {
     pub(crate) arguments: SetXAttrArguments,
     pub(crate) name: &'a [u8],
     pub(crate) value: &'a [u8],
 }
 
-impl<'a> SetXAttr<'a> {
-    ghost use Rattle.fuse_request.specs.Arguments.{setxattr_name, setxattr_of, setxattr_value};
+impl<'a> Model for SetXAttr<'a> {
+    ghost use Rattle.fuse_request.specs.Carried.{NamedValue};
 
+    ghost Value = { NamedValue };
+
+    ghost view = { λ a. record { arguments = a.arguments; name = a.name.now; value = a.value.now } };
+}
+
+impl<'a> SetXAttr<'a> {
     /// The name, without the zero byte that ends it.
     pub fn name(&self) -> &'a [u8]
-        ensures { result.now ≡ setxattr_name self.now }
+        ensures { result.now ≡ self.now.name }
     {
         self.name
     }
 
     /// The value.
     pub fn value(&self) -> &'a [u8]
-        ensures { result.now ≡ setxattr_value self.now }
+        ensures { result.now ≡ self.now.value }
     {
         self.value
     }
 
     /// The flags of `setxattr(2)`.
     pub fn flags(&self) -> i32
-        ensures { result ≡ (setxattr_of self.now).flags }
+        ensures { result ≡ self.now.arguments.flags }
     {
         self.arguments.flags
     }
@@ -58,26 +65,34 @@ impl<'a> SetXAttr<'a> {
 }
 
 /// GETXATTR: the value of an extended attribute.
-#[derive(Clone, Copy)]
+#[derive(Drop)]
 pub struct GetXAttr<'a> {
     pub(crate) arguments: GetXAttrArguments,
     pub(crate) name: &'a [u8],
 }
 
+impl<'a> Model for GetXAttr<'a> {
+    ghost use Rattle.fuse_args.specs.declared.fixed.nodes.GetXAttrArguments.{GetXAttrArguments};
+    ghost use Rattle.fuse_request.specs.Carried.{Named};
+
+    ghost Value = { Named GetXAttrArguments };
+
+    ghost view = { λ a. record { arguments = a.arguments; name = a.name.now } };
+}
+
 impl<'a> GetXAttr<'a> {
-    ghost use Rattle.fuse_request.specs.Arguments.{getxattr_name, getxattr_of};
     ghost use Rattle.fuse_request.specs.Fields.{size_wanted};
 
     /// The name, without the zero byte that ends it.
     pub fn name(&self) -> &'a [u8]
-        ensures { result.now ≡ getxattr_name self.now }
+        ensures { result.now ≡ self.now.name }
     {
         self.name
     }
 
     /// What is wanted: the value, or its size alone.
     pub fn size(&self) -> GetXAttrSizeEnum
-        ensures { size_wanted result ≡ (getxattr_of self.now).size }
+        ensures { size_wanted result ≡ self.now.arguments.size }
     {
         match NonZeroU32::new(self.arguments.size) {
             Some(size) => GetXAttrSizeEnum::Size(size),
@@ -87,41 +102,53 @@ impl<'a> GetXAttr<'a> {
 
     /// The most bytes that are wanted, or 0 where the size alone is.
     pub fn size_u32(&self) -> u32
-        ensures { result ≡ (getxattr_of self.now).size }
+        ensures { result ≡ self.now.arguments.size }
     {
         self.arguments.size
     }
 }
 
 /// LISTXATTR: the names of the extended attributes.
-#[derive(Clone, Copy)]
+#[derive(Drop)]
 pub struct ListXAttr {
     pub(crate) arguments: GetXAttrArguments,
 }
 
-impl ListXAttr {
-    ghost use Rattle.fuse_request.specs.Arguments.{listxattr_of};
+impl Model for ListXAttr {
+    ghost use Rattle.fuse_args.specs.declared.fixed.nodes.GetXAttrArguments.{GetXAttrArguments};
 
+    ghost Value = { GetXAttrArguments };
+
+    ghost view = { λ a. a.arguments };
+}
+
+impl ListXAttr {
     /// The most bytes that are wanted, or 0 where the size alone is.
     pub fn size(&self) -> u32
-        ensures { result ≡ (listxattr_of self.now).size }
+        ensures { result ≡ self.now.size }
     {
         self.arguments.size
     }
 }
 
 /// REMOVEXATTR: an extended attribute goes away.
-#[derive(Clone, Copy)]
+#[derive(Drop)]
 pub struct RemoveXAttr<'a> {
     pub(crate) name: &'a [u8],
 }
 
-impl<'a> RemoveXAttr<'a> {
-    ghost use Rattle.fuse_request.specs.Arguments.{removexattr_name};
+impl<'a> Model for RemoveXAttr<'a> {
+    ghost use Rattle.std.specs.Prelude.{ℕ, List};
 
+    ghost Value = { List ℕ };
+
+    ghost view = { λ a. a.name.now };
+}
+
+impl<'a> RemoveXAttr<'a> {
     /// The name, without the zero byte that ends it.
     pub fn name(&self) -> &'a [u8]
-        ensures { result.now ≡ removexattr_name self.now }
+        ensures { result.now ≡ self.now }
     {
         self.name
     }

@@ -1,7 +1,11 @@
 // Messages taken apart: their headers, what they ask, and why some are none.
-use fuse_request::{AnyRequest, RequestError};
-use std::alloc::{AllocError, Global};
-use std::process::Abort;
+use bitflags::Flags;
+use fuse_request::{
+    AnyRequest, CopyFileRangeFile, FilenameInDir, ForgetList, ForgetOne, GetXAttrSize,
+    GetXAttrSizeEnum, Lock, Operation, Request, RequestError,
+};
+use std::alloc::AllocError;
+use std::fmt::{Debug, Display};
 use std::test::Fail;
 
 /// INIT, from a kernel of version 7.8.
@@ -21,38 +25,40 @@ const MKNOD: [u8; 64] = [
     0x6f, 0x2e, 0x74, 0x78, 0x74, 0,
 ];
 
-/// What a message asks, as text.
-pub(crate) fn text(alloc: Global, message: &[u8]) -> Result<String, AllocError> {
+/// Why a message is no request, or its operation can't be told.
+pub(crate) fn refusal(message: &[u8]) -> Option<RequestError> {
     match AnyRequest::try_from(message) {
-        Ok(request) => format!(in alloc; "{:?}", request.operation()),
-        Err(error) => format!(in alloc; "no request: {error:?}"),
+        Ok(request) => request.operation().err(),
+        Err(error) => Some(error),
     }
 }
 
-/// A message asks this.
-pub(crate) fn expect_asked(
-    rt: &impl Abort,
-    alloc: Global,
-    message: &[u8],
-    expected: &str,
-) -> Result<(), AllocError> {
-    let found = text(alloc, message)?;
-    assert_eq!(rt; found.as_str(), expected);
-    Ok(())
-}
-
-#[test]
-fn takes_the_header_apart(rt: HostRuntime) -> Result<(), Fail> {
-    let message = INIT;
-    let request = AnyRequest::try_from(&message)?;
-    let found = [
+/// The numbers of the header: the opcode, the request, the node, the user, the group and the process.
+pub(crate) fn header(request: &AnyRequest<'_>) -> [u64; 6] {
+    [
         u64::from(request.opcode()),
         request.unique().0,
         request.nodeid().0,
         u64::from(request.uid()),
         u64::from(request.gid()),
         u64::from(request.pid()),
-    ];
+    ]
+}
+
+/// What a filesystem is told of a request: its number, the user, the group and the process.
+fn asker(request: Request) -> [u64; 4] {
+    [
+        request.unique().0,
+        u64::from(request.uid()),
+        u64::from(request.gid()),
+        u64::from(request.pid()),
+    ]
+}
+
+#[test]
+fn takes_the_header_apart(rt: HostRuntime) -> Result<(), Fail> {
+    let message = INIT;
+    let request = AnyRequest::try_from(&message)?;
     let expected = [
         26,
         0xdead_beef_baad_f00d,
@@ -61,38 +67,60 @@ fn takes_the_header_apart(rt: HostRuntime) -> Result<(), Fail> {
         0xc001_cafe,
         0xc0de_ba5e,
     ];
-    assert_eq!(rt; found, expected);
+    assert_eq!(rt; header(&request), expected);
+    let expected = [0xdead_beef_baad_f00d, 0xc001_d00d, 0xc001_cafe, 0xc0de_ba5e];
+    assert_eq!(rt; asker(request.request()), expected);
     Ok(())
 }
 
-#[test]
-fn decodes_what_kernels_sent(rt: HostRuntime) -> Result<(), AllocError> {
-    let alloc = rt.alloc();
-    let init =
-        "Ok(Init(Init { arguments: InitArguments { major: 7, minor: 8, max_readahead: 4096, flags: 0, flags2: 0 } }))";
-    expect_asked(&rt, alloc, &INIT, init)?;
-    let mknod =
-        "Ok(MkNod(MkNod { arguments: MkNodArguments { mode: 420, rdev: 0, umask: 493 }, name: [102, 111, 111, 46, 116, 120, 116] }))";
-    expect_asked(&rt, alloc, &MKNOD, mknod)
+/// What INIT says: the version, the readahead, and the capabilities.
+fn offered(message: &[u8]) -> Option<(u32, u32, u32, u64)> {
+    match AnyRequest::try_from(message).ok()?.operation() {
+        Ok(Operation::Init(init)) => Some((
+            init.version().0,
+            init.version().1,
+            init.max_readahead(),
+            init.capabilities().bits(),
+        )),
+        _ => None,
+    }
+}
+
+/// What MKNOD says: the name, the mode, the device, and the mask.
+fn made(message: &[u8]) -> Option<(&[u8], u32, u32, u32)> {
+    match AnyRequest::try_from(message).ok()?.operation() {
+        Ok(Operation::MkNod(mknod)) => {
+            Some((mknod.name(), mknod.mode(), mknod.rdev(), mknod.umask()))
+        }
+        _ => None,
+    }
 }
 
 #[test]
-fn refuses_what_is_no_request(rt: HostRuntime) -> Result<(), AllocError> {
-    let alloc = rt.alloc();
+fn decodes_what_kernels_sent(rt: HostRuntime) {
+    assert_eq!(rt; offered(&INIT), Some((7, 8, 4096, 0)));
+    let name: &[u8] = b"foo.txt";
+    assert_eq!(rt; made(&MKNOD), Some((name, 0o644, 0, 0o755)));
+}
+
+#[test]
+fn refuses_what_is_no_request(rt: HostRuntime) {
     let cases = [
-        (20, 104, 26, "no request: ShortReadHeader(20)"),
-        (48, 104, 26, "no request: ShortRead(48, 104)"),
-        (104, 39, 26, "no request: InsufficientData"),
-        (104, 104, 7, "Err(UnknownOperation(7))"),
+        (20, 104, 26, RequestError::ShortReadHeader(20)),
+        (48, 104, 26, RequestError::ShortRead(48, 104)),
+        (104, 39, 26, RequestError::InsufficientData),
+        (104, 104, 7, RequestError::UnknownOperation(7)),
+        (104, 104, 0, RequestError::UnknownOperation(0)),
+        (104, 104, 19, RequestError::UnknownOperation(19)),
+        (104, 104, 48, RequestError::UnknownOperation(48)),
     ];
     for (length, counted, opcode, expected) in cases {
         let mut message = INIT;
         message[0] = counted;
         message[4] = opcode;
         let part = message.get(..length).unwrap_or(&[]);
-        expect_asked(&rt, alloc, part, expected)?;
+        assert_eq!(rt; refusal(part), Some(expected));
     }
-    Ok(())
 }
 
 #[test]
@@ -114,4 +142,22 @@ fn says_why_a_message_is_none(rt: HostRuntime) -> Result<(), AllocError> {
         assert_eq!(rt; error.to_string(alloc)?.as_str(), text);
     }
     Ok(())
+}
+
+/// That a type has what is asked of an error and of plain data.
+fn is_an_error<T: Copy + Eq + Debug + Display>() {}
+
+fn is_plain<T: Copy + Eq + Debug>() {}
+
+#[test]
+fn types_have_their_traits() {
+    is_an_error::<RequestError>();
+    is_plain::<Request>();
+    is_plain::<FilenameInDir<'_>>();
+    is_plain::<Lock>();
+    is_plain::<CopyFileRangeFile>();
+    is_plain::<GetXAttrSize>();
+    is_plain::<GetXAttrSizeEnum>();
+    is_plain::<ForgetOne>();
+    is_plain::<ForgetList<'_>>();
 }

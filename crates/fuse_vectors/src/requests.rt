@@ -1,19 +1,16 @@
 // Messages of each opcode: what they decode to, which are cut short, and what their bits say.
-use crate::headers::{expect_asked, text};
+use crate::headers::{header, refusal};
 use bitflags::Flags;
 use fuse_request::{
-    AnyRequest, BatchForget, CopyFileRange, GetXAttrSize, GetXAttrSizeEnum, Operation, SetAttr,
-    laws,
+    AnyRequest, BatchForget, CopyFileRange, FilenameInDir, GetXAttrSize, GetXAttrSizeEnum, Lock,
+    Operation, RequestError, SetAttr, laws,
 };
 use fuse_wire::{Errno, FileHandle, LockOwner};
 use std::alloc::{AllocError, Global};
 use std::process::Abort;
 
-/// What a message asks that is cut short.
-const CUT: &str = "Err(InsufficientData)";
-
 /// A message of this opcode about node 9: each 4 bytes of its fixed part are their number, from 1, and the tail follows.
-/// The header counts the first bytes of this body. Behind it stand ones.
+/// The header counts the first bytes of this body. After it stand ones.
 fn message(opcode: u16, fixed: usize, tail: &[u8], length: usize) -> [u8; 160] {
     let mut message = [1; 160];
     for byte in message.iter_mut().take(40) {
@@ -36,310 +33,25 @@ fn message(opcode: u16, fixed: usize, tail: &[u8], length: usize) -> [u8; 160] {
     message
 }
 
-/// Opcode, bytes of the fixed part, the tail, how many bytes of all this are needed, and what they ask.
-const GOOD: [(u16, usize, &[u8], usize, &str); 46] = [
-    (1, 0, b"a\0", 2, "Ok(Lookup(Lookup { name: [97] }))"),
-    (2, 8, b"", 8, "Ok(Forget(Forget { nlookup: 8589934593 }))"),
-    (
-        3,
-        16,
-        b"",
-        16,
-        "Ok(GetAttr(GetAttr { arguments: GetAttrArguments { getattr_flags: 1, fh: 17179869187 } }))",
-    ),
-    (
-        4,
-        88,
-        b"",
-        88,
-        "Ok(SetAttr(SetAttr { arguments: SetAttrArguments { valid: 1, fh: 17179869187, size: 25769803781, lock_owner: 34359738375, atime: 42949672969, mtime: 51539607563, ctime: 60129542157, atimensec: 15, mtimensec: 16, ctimensec: 17, mode: 18, uid: 20, gid: 21 } }))",
-    ),
-    (5, 0, b"", 0, "Ok(ReadLink(ReadLink))"),
-    (
-        6,
-        0,
-        b"a\0bc\0",
-        5,
-        "Ok(SymLink(SymLink { link_name: [97], target: [98, 99] }))",
-    ),
-    (
-        8,
-        16,
-        b"a\0",
-        18,
-        "Ok(MkNod(MkNod { arguments: MkNodArguments { mode: 1, rdev: 2, umask: 3 }, name: [97] }))",
-    ),
-    (
-        9,
-        8,
-        b"a\0",
-        10,
-        "Ok(MkDir(MkDir { arguments: MkDirArguments { mode: 1, umask: 2 }, name: [97] }))",
-    ),
-    (10, 0, b"a\0", 2, "Ok(Unlink(Unlink { name: [97] }))"),
-    (11, 0, b"a\0", 2, "Ok(RmDir(RmDir { name: [97] }))"),
-    (
-        12,
-        8,
-        b"a\0bc\0",
-        13,
-        "Ok(Rename(Rename { newdir: 8589934593, names: Move { node: INodeNo(9), old_name: [97], new_name: [98, 99] } }))",
-    ),
-    (
-        13,
-        8,
-        b"a\0",
-        10,
-        "Ok(Link(Link { node: INodeNo(9), oldnodeid: 8589934593, new_name: [97] }))",
-    ),
-    (
-        14,
-        8,
-        b"",
-        8,
-        "Ok(Open(Open { arguments: OpenArguments { flags: 1 } }))",
-    ),
-    (
-        15,
-        40,
-        b"",
-        40,
-        "Ok(Read(Read { arguments: ReadArguments { fh: 8589934593, offset: 17179869187, size: 5, read_flags: 6, lock_owner: 34359738375, flags: 9 } }))",
-    ),
-    (
-        16,
-        40,
-        b"hello",
-        45,
-        "Ok(Write(Write { arguments: WriteArguments { fh: 8589934593, offset: 17179869187, size: 5, write_flags: 6, lock_owner: 34359738375, flags: 9 }, written: [104, 101, 108, 108, 111] }))",
-    ),
-    (17, 0, b"", 0, "Ok(StatFs(StatFs))"),
-    (
-        18,
-        24,
-        b"",
-        24,
-        "Ok(Release(Release { arguments: ReleaseArguments { fh: 8589934593, flags: 3, release_flags: 4, lock_owner: 25769803781 } }))",
-    ),
-    (
-        20,
-        16,
-        b"",
-        16,
-        "Ok(FSync(FSync { arguments: FSyncArguments { fh: 8589934593, fsync_flags: 3 } }))",
-    ),
-    (
-        21,
-        8,
-        b"a\0v",
-        11,
-        "Ok(SetXAttr(SetXAttr { arguments: SetXAttrArguments { size: 1, flags: 2 }, name: [97], value: [118] }))",
-    ),
-    (
-        22,
-        8,
-        b"a\0",
-        10,
-        "Ok(GetXAttr(GetXAttr { arguments: GetXAttrArguments { size: 1 }, name: [97] }))",
-    ),
-    (
-        23,
-        8,
-        b"",
-        8,
-        "Ok(ListXAttr(ListXAttr { arguments: GetXAttrArguments { size: 1 } }))",
-    ),
-    (
-        24,
-        0,
-        b"a\0",
-        2,
-        "Ok(RemoveXAttr(RemoveXAttr { name: [97] }))",
-    ),
-    (
-        25,
-        24,
-        b"",
-        24,
-        "Ok(Flush(Flush { arguments: FlushArguments { fh: 8589934593, lock_owner: 25769803781 } }))",
-    ),
-    (
-        26,
-        64,
-        b"",
-        16,
-        "Ok(Init(Init { arguments: InitArguments { major: 1, minor: 2, max_readahead: 3, flags: 4, flags2: 5 } }))",
-    ),
-    (
-        27,
-        8,
-        b"",
-        8,
-        "Ok(OpenDir(OpenDir { arguments: OpenArguments { flags: 1 } }))",
-    ),
-    (
-        28,
-        40,
-        b"",
-        40,
-        "Ok(ReadDir(ReadDir { arguments: ReadArguments { fh: 8589934593, offset: 17179869187, size: 5, read_flags: 6, lock_owner: 34359738375, flags: 9 } }))",
-    ),
-    (
-        29,
-        24,
-        b"",
-        24,
-        "Ok(ReleaseDir(ReleaseDir { arguments: ReleaseArguments { fh: 8589934593, flags: 3, release_flags: 4, lock_owner: 25769803781 } }))",
-    ),
-    (
-        30,
-        16,
-        b"",
-        16,
-        "Ok(FSyncDir(FSyncDir { arguments: FSyncArguments { fh: 8589934593, fsync_flags: 3 } }))",
-    ),
-    (
-        31,
-        48,
-        b"",
-        48,
-        "Ok(GetLk(GetLk { arguments: GetLkArguments { fh: 8589934593, owner: 17179869187, start: 25769803781, end: 34359738375, typ: 9, pid: 10, lk_flags: 11 } }))",
-    ),
-    (
-        32,
-        48,
-        b"",
-        48,
-        "Ok(SetLk(SetLk { arguments: GetLkArguments { fh: 8589934593, owner: 17179869187, start: 25769803781, end: 34359738375, typ: 9, pid: 10, lk_flags: 11 }, sleep: false }))",
-    ),
-    (
-        33,
-        48,
-        b"",
-        48,
-        "Ok(SetLk(SetLk { arguments: GetLkArguments { fh: 8589934593, owner: 17179869187, start: 25769803781, end: 34359738375, typ: 9, pid: 10, lk_flags: 11 }, sleep: true }))",
-    ),
-    (
-        34,
-        8,
-        b"",
-        8,
-        "Ok(Access(Access { arguments: AccessArguments { mask: 1 } }))",
-    ),
-    (
-        35,
-        16,
-        b"a\0",
-        18,
-        "Ok(Create(Create { arguments: CreateArguments { flags: 1, mode: 2, umask: 3 }, name: [97] }))",
-    ),
-    (
-        36,
-        8,
-        b"",
-        8,
-        "Ok(Interrupt(Interrupt { unique: 8589934593 }))",
-    ),
-    (
-        37,
-        16,
-        b"",
-        16,
-        "Ok(BMap(BMap { arguments: BMapArguments { block: 8589934593, blocksize: 3 } }))",
-    ),
-    (38, 0, b"", 0, "Ok(Destroy(Destroy))"),
-    (
-        39,
-        32,
-        b"abcdefgh",
-        39,
-        "Ok(IoCtl(IoCtl { arguments: IoCtlArguments { fh: 8589934593, flags: 3, cmd: 4, arg: 25769803781, in_size: 7, out_size: 8 }, in_bytes: [97, 98, 99, 100, 101, 102, 103] }))",
-    ),
-    (
-        40,
-        24,
-        b"",
-        24,
-        "Ok(Poll(Poll { arguments: PollArguments { fh: 8589934593, kh: 17179869187, flags: 5, events: 6 } }))",
-    ),
-    (41, 0, b"any", 0, "Ok(NotifyReply(NotifyReply))"),
-    (
-        42,
-        8,
-        b"\x05\0\0\0\0\0\0\0\x06\0\0\0\0\0\0\0more",
-        24,
-        "Ok(BatchForget(BatchForget { nodes: ForgetList { rows: [5, 0, 0, 0, 0, 0, 0, 0, 6, 0, 0, 0, 0, 0, 0, 0] } }))",
-    ),
-    (
-        43,
-        32,
-        b"",
-        32,
-        "Ok(FAllocate(FAllocate { arguments: FAllocateArguments { fh: 8589934593, offset: 17179869187, length: 25769803781, mode: 7 } }))",
-    ),
-    (
-        44,
-        40,
-        b"",
-        40,
-        "Ok(ReadDirPlus(ReadDirPlus { arguments: ReadArguments { fh: 8589934593, offset: 17179869187, size: 5, read_flags: 6, lock_owner: 34359738375, flags: 9 } }))",
-    ),
-    (
-        45,
-        16,
-        b"a\0bc\0",
-        21,
-        "Ok(Rename2(Rename2 { arguments: Rename2Arguments { newdir: 8589934593, flags: 3 }, names: Move { node: INodeNo(9), old_name: [97], new_name: [98, 99] } }))",
-    ),
-    (
-        46,
-        24,
-        b"",
-        24,
-        "Ok(Lseek(Lseek { arguments: LseekArguments { fh: 8589934593, offset: 17179869187, whence: 5 } }))",
-    ),
-    (
-        47,
-        56,
-        b"",
-        56,
-        "Ok(CopyFileRange(CopyFileRange { arguments: CopyFileRangeArguments { fh_in: 8589934593, off_in: 17179869187, nodeid_out: 25769803781, fh_out: 34359738375, off_out: 42949672969, len: 51539607563, flags: 60129542157 }, node: INodeNo(9) }))",
-    ),
-    (4096, 64, b"", 64, "Ok(CuseInit(CuseInit))"),
-];
+/// The first, second and further 8 bytes of a fixed part.
+const FIRST: u64 = 0x2_0000_0001;
 
-/// Each part of a message that is shorter than is needed is cut short, and the whole asks what the row says.
-fn expect_decoded(
-    rt: &impl Abort,
-    alloc: Global,
-    row: &(u16, usize, &[u8], usize, &str),
-) -> Result<(), AllocError> {
-    let (opcode, fixed, tail, needed, expected) = *row;
-    let whole = fixed.saturating_add(tail.len()).min(100);
-    for length in 0..whole {
-        let found = text(alloc, &message(opcode, fixed, tail, length))?;
-        let cut = found.as_str() == CUT;
-        assert_eq!(rt; cut, length < needed, "{opcode} of {length}");
-    }
-    let whole = message(opcode, fixed, tail, whole);
-    expect_asked(rt, alloc, &whole, expected)
-}
+const SECOND: u64 = 0x4_0000_0003;
 
-#[test]
-fn decodes_each_and_refuses_what_is_cut(rt: HostRuntime) -> Result<(), AllocError> {
-    for row in &GOOD {
-        expect_decoded(&rt, rt.alloc(), row)?;
-    }
-    Ok(())
-}
+const THIRD: u64 = 0x6_0000_0005;
 
-#[test]
-fn refuses_a_value_of_another_size(rt: HostRuntime) -> Result<(), AllocError> {
-    let write = message(16, 40, b"hello!", 46);
-    expect_asked(&rt, rt.alloc(), &write, CUT)?;
-    let set_attribute = message(21, 8, b"a\0vw", 12);
-    expect_asked(&rt, rt.alloc(), &set_attribute, CUT)
-}
+const FOURTH: u64 = 0x8_0000_0007;
+
+const FIFTH: u64 = 0xa_0000_0009;
+
+const SIXTH: u64 = 0xc_0000_000b;
+
+const SEVENTH: u64 = 0xe_0000_000d;
+
+/// The two names.
+const NAME: &[u8] = b"a";
+
+const OTHER: &[u8] = b"bc";
 
 /// What stands for a value that is not given, and for an offset that is refused.
 const NONE: u64 = u64::MAX;
@@ -367,6 +79,381 @@ fn offset(found: Result<u64, Errno>) -> u64 {
         Err(error) if error == Errno::EINVAL => NONE,
         Err(_) => 0,
     }
+}
+
+/// Whether this is that name in that directory.
+fn is_place(place: FilenameInDir<'_>, dir: u64, name: &[u8]) -> bool {
+    place.dir.0 == dir && place.name == name
+}
+
+/// The opcode of an operation on a name whose accessors say what stands in the message, and 0 for any other operation.
+fn opcode_of(operation: &Operation<'_>) -> u16 {
+    match operation {
+        Operation::Lookup(asked) if asked.name() == NAME => 1,
+        Operation::Unlink(asked) if asked.name() == NAME => 10,
+        Operation::RmDir(asked) if asked.name() == NAME => 11,
+        Operation::RemoveXAttr(asked) if asked.name() == NAME => 24,
+        Operation::SymLink(asked) if asked.link_name() == NAME && asked.target() == OTHER => 6,
+        Operation::MkNod(asked) if asked.name() == NAME => match (
+            asked.mode(),
+            asked.rdev(),
+            asked.umask(),
+        ) {
+            (1, 2, 3) => 8,
+            _ => 0,
+        },
+        Operation::MkDir(asked) if asked.name() == NAME => match (asked.mode(), asked.umask()) {
+            (1, 2) => 9,
+            _ => 0,
+        },
+        Operation::Create(asked) if asked.name() == NAME => match (
+            asked.flags(),
+            asked.mode(),
+            asked.umask(),
+        ) {
+            (1, 2, 3) => 35,
+            _ => 0,
+        },
+        operation => opcode_of_places(operation),
+    }
+}
+
+/// The same of operations on two places, and on extended attributes.
+fn opcode_of_places(operation: &Operation<'_>) -> u16 {
+    match operation {
+        Operation::Rename(asked)
+            if is_place(asked.src(), 9, NAME) && is_place(asked.dest(), FIRST, OTHER) => 12,
+        Operation::Rename2(asked)
+            if is_place(asked.from(), 9, NAME) && is_place(asked.to(), FIRST, OTHER) => {
+            match asked.flags().bits() {
+                3 => 45,
+                _ => 0,
+            }
+        }
+        Operation::Link(asked) if is_place(asked.dest(), 9, NAME) => match asked.inode_no().0 {
+            FIRST => 13,
+            _ => 0,
+        },
+        Operation::SetXAttr(asked) if asked.name() == NAME && asked.value() == VALUE => {
+            match (asked.flags(), asked.position()) {
+                (2, 0) => 21,
+                _ => 0,
+            }
+        }
+        Operation::GetXAttr(asked) if asked.name() == NAME => match (
+            asked.size_u32(),
+            asked.size(),
+        ) {
+            (1, GetXAttrSizeEnum::Size(size)) if size.get() == 1 => 22,
+            _ => 0,
+        },
+        Operation::ListXAttr(asked) if asked.size() == 1 => 23,
+        operation => opcode_of_nodes(operation),
+    }
+}
+
+/// The same of operations on inodes.
+fn opcode_of_nodes(operation: &Operation<'_>) -> u16 {
+    match operation {
+        Operation::Forget(asked) if asked.nlookup() == FIRST => 2,
+        Operation::GetAttr(asked) => match (
+            asked.getattr_flags().bits(),
+            handle(asked.file_handle()),
+        ) {
+            (1, SECOND) => 3,
+            _ => 0,
+        },
+        Operation::SetAttr(asked)
+            if asked.mode() == Some(18) && asked.uid().is_none() && sets_none_of_bsd(asked) => 4,
+        Operation::ReadLink(_) => 5,
+        Operation::StatFs(_) => 17,
+        Operation::Access(asked) if asked.mask().bits() == 1 => 34,
+        Operation::BatchForget(asked) if first_row(asked) == [1, 5, 6] => 42,
+        Operation::Interrupt(asked) if asked.unique().0 == FIRST => 36,
+        Operation::Destroy(_) => 38,
+        Operation::NotifyReply(_) => 41,
+        Operation::CuseInit(_) => 4096,
+        Operation::Init(asked) => match (
+            asked.version().0,
+            asked.version().1,
+            asked.max_readahead(),
+            asked.capabilities().bits(),
+        ) {
+            (1, 2, 3, 4) => 26,
+            _ => 0,
+        },
+        operation => opcode_of_files(operation),
+    }
+}
+
+/// Whether SETATTR sets none of what Linux does not know.
+fn sets_none_of_bsd(setattr: &SetAttr) -> bool {
+    setattr.crtime().is_none()
+        && setattr.chgtime().is_none()
+        && setattr.bkuptime().is_none()
+        && setattr.flags().is_none()
+}
+
+/// How many rows BATCH_FORGET has, and the numbers of the first.
+fn first_row(forgets: &BatchForget<'_>) -> [u64; 3] {
+    let nodes = forgets.nodes();
+    match nodes.get(0) {
+        Some(row) if !nodes.is_empty() => [nodes.len() as u64, row.nodeid().0, row.nlookup()],
+        _ => [nodes.len() as u64, NONE, NONE],
+    }
+}
+
+/// The same of operations on open files.
+fn opcode_of_files(operation: &Operation<'_>) -> u16 {
+    match operation {
+        Operation::Open(asked) if asked.flags().0 == 1 => 14,
+        Operation::OpenDir(asked) if asked.flags().0 == 1 => 27,
+        Operation::Read(asked)
+            if asked.file_handle().0 == FIRST && offset(asked.offset()) == SECOND => {
+            match (
+                asked.size(),
+                asked.read_flags().bits(),
+                owner(asked.lock_owner()),
+                asked.flags().0,
+            ) {
+                (5, 6, FOURTH, 9) => 15,
+                _ => 0,
+            }
+        }
+        Operation::Write(asked)
+            if asked.file_handle().0 == FIRST && offset(asked.offset()) == SECOND => {
+            match (
+                asked.write_flags().bits(),
+                owner(asked.lock_owner()),
+                asked.flags().0,
+            ) {
+                (6, FOURTH, 9) if asked.data() == WRITTEN => 16,
+                _ => 0,
+            }
+        }
+        Operation::Release(asked) => match (
+            asked.file_handle().0,
+            asked.flags().0,
+            asked.release_flags().bits(),
+        ) {
+            (FIRST, 3, 4) => 18,
+            _ => 0,
+        },
+        Operation::ReleaseDir(asked) => match (
+            asked.file_handle().0,
+            asked.flags().0,
+            asked.release_flags().bits(),
+        ) {
+            (FIRST, 3, 4) => 29,
+            _ => 0,
+        },
+        Operation::FSync(asked) if asked.file_handle().0 == FIRST && asked.fdatasync() => 20,
+        Operation::FSyncDir(asked) if asked.file_handle().0 == FIRST && asked.fdatasync() => 30,
+        Operation::Flush(asked)
+            if asked.file_handle().0 == FIRST && asked.lock_owner().0 == THIRD => 25,
+        operation => opcode_of_ranges(operation),
+    }
+}
+
+/// The same of operations on ranges, directories, locks and devices.
+fn opcode_of_ranges(operation: &Operation<'_>) -> u16 {
+    match operation {
+        Operation::ReadDir(asked) => match (asked.file_handle().0, asked.offset(), asked.size()) {
+            (FIRST, SECOND, 5) => 28,
+            _ => 0,
+        },
+        Operation::ReadDirPlus(asked) => match (
+            asked.file_handle().0,
+            asked.offset(),
+            asked.size(),
+        ) {
+            (FIRST, SECOND, 5) => 44,
+            _ => 0,
+        },
+        Operation::FAllocate(asked) => {
+            match (
+                asked.file_handle().0,
+                offset(asked.offset()),
+                offset(asked.len()),
+                asked.mode(),
+            ) {
+                (FIRST, SECOND, THIRD, 7) => 43,
+                _ => 0,
+            }
+        }
+        Operation::Lseek(asked) => match (asked.file_handle().0, asked.offset(), asked.whence()) {
+            (FIRST, 0x4_0000_0003, 5) => 46,
+            _ => 0,
+        },
+        Operation::CopyFileRange(asked)
+            if places(asked) == [9, FIRST, SECOND, THIRD, FOURTH, FIFTH] => {
+            match (asked.len(), asked.flags().bits()) {
+                (SIXTH, SEVENTH) => 47,
+                _ => 0,
+            }
+        }
+        Operation::BMap(asked) if asked.block() == FIRST && asked.block_size() == 3 => 37,
+        operation => opcode_of_devices(operation),
+    }
+}
+
+/// The numbers of the two files of COPY_FILE_RANGE.
+fn places(copy: &CopyFileRange) -> [u64; 6] {
+    match (copy.src(), copy.dest()) {
+        (Ok(src), Ok(dest)) => [
+            src.inode.0,
+            src.file_handle.0,
+            src.offset,
+            dest.inode.0,
+            dest.file_handle.0,
+            dest.offset,
+        ],
+        _ => [NONE; 6],
+    }
+}
+
+/// Whether this is the lock of the message.
+fn is_lock(lock: Lock) -> bool {
+    matches!(
+        lock,
+        Lock {
+            range: (THIRD, FOURTH),
+            typ: 9,
+            pid: 10
+        }
+    )
+}
+
+/// The same of operations on locks and devices.
+fn opcode_of_devices(operation: &Operation<'_>) -> u16 {
+    match operation {
+        Operation::GetLk(asked) if is_lock(asked.lock()) => match (
+            asked.file_handle().0,
+            asked.lock_owner().0,
+        ) {
+            (FIRST, SECOND) => 31,
+            _ => 0,
+        },
+        Operation::SetLk(asked) if is_lock(asked.lock()) => {
+            match (asked.file_handle().0, asked.lock_owner().0, asked.sleep()) {
+                (FIRST, SECOND, false) => 32,
+                (FIRST, SECOND, true) => 33,
+                _ => 0,
+            }
+        }
+        Operation::IoCtl(asked) if asked.file_handle().0 == FIRST && asked.in_data() == HANDED_IN =>
+            {
+                match (
+                    asked.unrestricted(),
+                    asked.flags().bits(),
+                    asked.command(),
+                    asked.out_size(),
+                ) {
+                    (true, 3, 4, 8) => 39,
+                    _ => 0,
+                }
+            }
+        Operation::Poll(asked)
+            if asked.file_handle().0 == FIRST && asked.kernel_handle().0 == SECOND => {
+            match (asked.events().bits(), asked.flags().bits()) {
+                (6, 5) => 40,
+                _ => 0,
+            }
+        }
+        _ => 0,
+    }
+}
+
+/// The value of SETXATTR, the bytes of WRITE, and those of IOCTL.
+const VALUE: &[u8] = b"v";
+
+const WRITTEN: &[u8] = b"hello";
+
+const HANDED_IN: &[u8] = b"abcdefg";
+
+/// The header of a message, and the opcode of what it asks, where the accessors say what stands in it.
+fn asked(message: &[u8]) -> Option<([u64; 6], u16)> {
+    let request = AnyRequest::try_from(message).ok()?;
+    let operation = request.operation().ok()?;
+    Some((header(&request), opcode_of(&operation)))
+}
+
+/// Opcode, bytes of the fixed part, the tail, and how many bytes of all this are needed.
+const GOOD: [(u16, usize, &[u8], usize); 46] = [
+    (1, 0, b"a\0", 2),
+    (2, 8, b"", 8),
+    (3, 16, b"", 16),
+    (4, 88, b"", 88),
+    (5, 0, b"", 0),
+    (6, 0, b"a\0bc\0", 5),
+    (8, 16, b"a\0", 18),
+    (9, 8, b"a\0", 10),
+    (10, 0, b"a\0", 2),
+    (11, 0, b"a\0", 2),
+    (12, 8, b"a\0bc\0", 13),
+    (13, 8, b"a\0", 10),
+    (14, 8, b"", 8),
+    (15, 40, b"", 40),
+    (16, 40, b"hello", 45),
+    (17, 0, b"", 0),
+    (18, 24, b"", 24),
+    (20, 16, b"", 16),
+    (21, 8, b"a\0v", 11),
+    (22, 8, b"a\0", 10),
+    (23, 8, b"", 8),
+    (24, 0, b"a\0", 2),
+    (25, 24, b"", 24),
+    (26, 64, b"", 16),
+    (27, 8, b"", 8),
+    (28, 40, b"", 40),
+    (29, 24, b"", 24),
+    (30, 16, b"", 16),
+    (31, 48, b"", 48),
+    (32, 48, b"", 48),
+    (33, 48, b"", 48),
+    (34, 8, b"", 8),
+    (35, 16, b"a\0", 18),
+    (36, 8, b"", 8),
+    (37, 16, b"", 16),
+    (38, 0, b"", 0),
+    (39, 32, b"abcdefgh", 39),
+    (40, 24, b"", 24),
+    (41, 0, b"any", 0),
+    (42, 8, b"\x05\0\0\0\0\0\0\0\x06\0\0\0\0\0\0\0more", 24),
+    (43, 32, b"", 32),
+    (44, 40, b"", 40),
+    (45, 16, b"a\0bc\0", 21),
+    (46, 24, b"", 24),
+    (47, 56, b"", 56),
+    (4096, 64, b"", 64),
+];
+
+/// Each part of a message that is shorter than is needed is cut short, and the whole asks what stands in it.
+fn expect_decoded(rt: &impl Abort, row: &(u16, usize, &[u8], usize)) {
+    let (opcode, fixed, tail, needed) = *row;
+    let whole = fixed.saturating_add(tail.len()).min(100);
+    for length in 0..whole {
+        let found = refusal(&message(opcode, fixed, tail, length));
+        let cut = matches!(found, Some(RequestError::InsufficientData));
+        assert_eq!(rt; cut, length < needed, "{opcode} of {length}");
+    }
+    let found = asked(&message(opcode, fixed, tail, whole));
+    let header = [u64::from(opcode), 0, 9, 0, 0, 0];
+    assert_eq!(rt; found, Some((header, opcode)));
+}
+
+#[test]
+fn decodes_each_and_refuses_what_is_cut(rt: HostRuntime) {
+    for row in &GOOD {
+        expect_decoded(&rt, row);
+    }
+}
+
+#[test]
+fn refuses_a_value_of_another_size(rt: HostRuntime) {
+    let cut = Some(RequestError::InsufficientData);
+    assert_eq!(rt; refusal(&message(16, 40, b"hello!", 46)), cut);
+    assert_eq!(rt; refusal(&message(21, 8, b"a\0vw", 12)), cut);
 }
 
 /// Where COPY_FILE_RANGE reads and writes, and the node that it writes to.
@@ -435,15 +522,6 @@ fn other_numbers(operation: &Operation<'_>) -> [u64; 3] {
         _ => [NONE, NONE, NONE],
     }
 }
-
-/// The second, third, fourth and fifth 8 bytes of a fixed part.
-const SECOND: u64 = 0x4_0000_0003;
-
-const THIRD: u64 = 0x6_0000_0005;
-
-const FOURTH: u64 = 0x8_0000_0007;
-
-const FIFTH: u64 = 0xa_0000_0009;
 
 /// Opcode, bytes of the fixed part, the tail, the place and the value of a byte that is changed, and what is said then.
 const CHANGED: [(u16, usize, &[u8], usize, u8, [u64; 3]); 46] = [
@@ -590,6 +668,23 @@ fn sets_what_valid_says(rt: HostRuntime) {
     }
 }
 
+/// The values that SETATTR sets where no time is set: mode, uid, gid, size, file handle.
+fn set_values(valid: u16) -> Option<[u64; 5]> {
+    let setattr = setattr(valid)?;
+    Some([
+        u64::from(setattr.mode()?),
+        u64::from(setattr.uid()?),
+        u64::from(setattr.gid()?),
+        setattr.size()?,
+        handle(setattr.file_handle()),
+    ])
+}
+
+#[test]
+fn sets_these_values(rt: HostRuntime) {
+    assert_eq!(rt; set_values(0x4f), Some([0o100644, 10, 11, 8, 7]));
+}
+
 #[test]
 fn sets_these_times(rt: HostRuntime) -> Result<(), AllocError> {
     let alloc = rt.alloc();
@@ -608,16 +703,8 @@ fn sets_these_times(rt: HostRuntime) -> Result<(), AllocError> {
     Ok(())
 }
 
-/// A message taken apart, and what it asks, as text.
-fn described(alloc: Global, message: &[u8]) -> Result<String, AllocError> {
-    let request = AnyRequest::try_from(message);
-    let asked = text(alloc, message)?;
-    format!(in alloc; "{request:?} asks {asked}")
-}
-
 #[test]
-fn reads_nothing_behind(rt: HostRuntime) -> Result<(), AllocError> {
-    let alloc = rt.alloc();
+fn reads_nothing_after_the_message(rt: HostRuntime) {
     let cases: [(u16, usize, &[u8], usize); 3] = [
         (1, 0, b"a\0", 42),
         (15, 40, b"", 80),
@@ -626,12 +713,27 @@ fn reads_nothing_behind(rt: HostRuntime) -> Result<(), AllocError> {
     for (opcode, fixed, tail, counted) in cases {
         let whole = message(opcode, fixed, tail, counted.saturating_sub(40));
         let alone = whole.get(..counted).unwrap_or(&[]);
-        let behind = whole.get(counted..).unwrap_or(&[]);
-        laws::bytes_behind_are_not_read(alone, behind);
-        assert_eq!(rt; alone.len(), counted);
-        let expected = described(alloc, alone)?;
-        let found = described(alloc, &whole)?;
-        assert_eq!(rt; found.as_str(), expected.as_str());
+        let others = whole.get(counted..).unwrap_or(&[]);
+        laws::bytes_after_are_not_read(alone, others);
+        let expected = Some(([u64::from(opcode), 0, 9, 0, 0, 0], opcode));
+        assert_eq!(rt; (asked(alone), asked(&whole)), (expected, expected));
     }
+}
+
+/// The name of an operation.
+fn printed(alloc: Global, message: &[u8]) -> Result<String, AllocError> {
+    match AnyRequest::try_from(message) {
+        Ok(request) => format!(in alloc; "{:?}", request.operation()),
+        Err(error) => format!(in alloc; "no request: {error:?}"),
+    }
+}
+
+#[test]
+fn prints_the_name_of_an_operation(rt: HostRuntime) -> Result<(), AllocError> {
+    let alloc = rt.alloc();
+    let lookup = printed(alloc, &message(1, 0, b"a\0", 2))?;
+    assert_eq!(rt; lookup.as_str(), "Ok(Lookup)");
+    let range = printed(alloc, &message(47, 56, b"", 56))?;
+    assert_eq!(rt; range.as_str(), "Ok(CopyFileRange)");
     Ok(())
 }

@@ -1,69 +1,83 @@
 // Attributes that are set.
 ghost use Rattle.std.specs.Prelude.{◌≡◌};
 
+use bitflags::Flags;
 use fuse_args::SetAttrArguments;
-use fuse_wire::{BsdFileFlags, FileHandle, SystemTime, TimeOrNow, system_time_from_time};
+use fuse_wire::{
+    BsdFileFlags, FattrFlags, FileHandle, SystemTime, TimeOrNow, system_time_from_time,
+};
+use std::marker::Model;
 
-/// SETATTR: attributes of an inode are set, each where its bit of `valid` says so.
-#[derive(Clone, Copy)]
+/// SETATTR: attributes of an inode are set, each where its flag of `valid` says so.
+#[derive(Drop)]
 pub struct SetAttr {
     pub(crate) arguments: SetAttrArguments,
 }
 
+impl Model for SetAttr {
+    ghost use Rattle.fuse_args.specs.declared.fixed.nodes.SetAttrArguments.{SetAttrArguments};
+
+    ghost Value = { SetAttrArguments };
+
+    ghost view = { λ a. a.arguments };
+}
+
 impl SetAttr {
-    ghost use Rattle.fuse_request.specs.Arguments.{setattr_of};
     ghost use Rattle.fuse_request.specs.Call.{handle_number};
-    ghost use Rattle.fuse_request.specs.Setting.{mode_of, uid_of, gid_of, size_of, atime_of, mtime_of, ctime_of, file_of};
+    ghost use Rattle.fuse_request.specs.SetAttr.{mode_of, uid_of, gid_of, size_of, atime_of, mtime_of, ctime_of, file_of};
     ghost use Rattle.std.specs.Prelude.{None};
+
+    /// Which attributes are set.
+    fn valid(&self) -> FattrFlags
+        ensures { result.0 ≡ self.now.valid }
+    {
+        FattrFlags::from_bits_retain(self.arguments.valid)
+    }
 
     /// The kind and the permissions: `FATTR_MODE`.
     pub fn mode(&self) -> Option<u32>
-        ensures { result ≡ mode_of (setattr_of self.now) }
+        ensures { result ≡ mode_of self.now }
     {
-        if self.arguments.valid & 0x1 == 0 {
-            return None;
-        }
-        Some(self.arguments.mode)
+        self.valid()
+            .contains(FattrFlags::FATTR_MODE)
+            .then_some(self.arguments.mode)
     }
 
     /// The owner: `FATTR_UID`.
     pub fn uid(&self) -> Option<u32>
-        ensures { result ≡ uid_of (setattr_of self.now) }
+        ensures { result ≡ uid_of self.now }
     {
-        if self.arguments.valid & 0x2 == 0 {
-            return None;
-        }
-        Some(self.arguments.uid)
+        self.valid()
+            .contains(FattrFlags::FATTR_UID)
+            .then_some(self.arguments.uid)
     }
 
     /// The group: `FATTR_GID`.
     pub fn gid(&self) -> Option<u32>
-        ensures { result ≡ gid_of (setattr_of self.now) }
+        ensures { result ≡ gid_of self.now }
     {
-        if self.arguments.valid & 0x4 == 0 {
-            return None;
-        }
-        Some(self.arguments.gid)
+        self.valid()
+            .contains(FattrFlags::FATTR_GID)
+            .then_some(self.arguments.gid)
     }
 
     /// The size: `FATTR_SIZE`.
     pub fn size(&self) -> Option<u64>
-        ensures { result ≡ size_of (setattr_of self.now) }
+        ensures { result ≡ size_of self.now }
     {
-        if self.arguments.valid & 0x8 == 0 {
-            return None;
-        }
-        Some(self.arguments.size)
+        self.valid()
+            .contains(FattrFlags::FATTR_SIZE)
+            .then_some(self.arguments.size)
     }
 
     /// When it was last read: `FATTR_ATIME`, and the present where `FATTR_ATIME_NOW` is set too.
     pub fn atime(&self) -> Option<TimeOrNow>
-        ensures { result ≡ atime_of (setattr_of self.now) }
+        ensures { result ≡ atime_of self.now }
     {
-        if self.arguments.valid & 0x10 == 0 {
+        if !self.valid().contains(FattrFlags::FATTR_ATIME) {
             return None;
         }
-        if self.arguments.valid & 0x80 != 0 {
+        if self.valid().contains(FattrFlags::FATTR_ATIME_NOW) {
             return Some(TimeOrNow::Now);
         }
         let time = system_time_from_time(self.arguments.atime, self.arguments.atimensec);
@@ -72,12 +86,12 @@ impl SetAttr {
 
     /// When it was last written: `FATTR_MTIME`, and the present where `FATTR_MTIME_NOW` is set too.
     pub fn mtime(&self) -> Option<TimeOrNow>
-        ensures { result ≡ mtime_of (setattr_of self.now) }
+        ensures { result ≡ mtime_of self.now }
     {
-        if self.arguments.valid & 0x20 == 0 {
+        if !self.valid().contains(FattrFlags::FATTR_MTIME) {
             return None;
         }
-        if self.arguments.valid & 0x100 != 0 {
+        if self.valid().contains(FattrFlags::FATTR_MTIME_NOW) {
             return Some(TimeOrNow::Now);
         }
         let time = system_time_from_time(self.arguments.mtime, self.arguments.mtimensec);
@@ -86,22 +100,21 @@ impl SetAttr {
 
     /// When its attributes last changed: `FATTR_CTIME`.
     pub fn ctime(&self) -> Option<SystemTime>
-        ensures { result ≡ ctime_of (setattr_of self.now) }
+        ensures { result ≡ ctime_of self.now }
     {
-        if self.arguments.valid & 0x400 == 0 {
-            return None;
-        }
-        Some(system_time_from_time(self.arguments.ctime, self.arguments.ctimensec))
+        self.valid().contains(FattrFlags::FATTR_CTIME).then_some(system_time_from_time(
+            self.arguments.ctime,
+            self.arguments.ctimensec,
+        ))
     }
 
     /// The open file through which they are set, if there is one: `FATTR_FH`.
     pub fn file_handle(&self) -> Option<FileHandle>
-        ensures { handle_number result ≡ file_of (setattr_of self.now) }
+        ensures { handle_number result ≡ file_of self.now }
     {
-        if self.arguments.valid & 0x40 == 0 {
-            return None;
-        }
-        Some(FileHandle(self.arguments.fh))
+        self.valid()
+            .contains(FattrFlags::FATTR_FH)
+            .then_some(FileHandle(self.arguments.fh))
     }
 
     /// When it was made, which Linux never sets.

@@ -5,6 +5,7 @@ use crate::offsets::{file_offset, signed_offset};
 use bitflags::Flags;
 use fuse_args::{BMapArguments, CopyFileRangeArguments, FAllocateArguments, LseekArguments};
 use fuse_wire::{CopyFileRangeFlags, Errno, FileHandle, INodeNo};
+use std::marker::Model;
 
 /// A place in an open file.
 #[derive(Clone, Copy, Debug, PartialEq, Eq)]
@@ -18,89 +19,109 @@ pub struct CopyFileRangeFile {
 }
 
 /// FALLOCATE: room for a range of a file.
-#[derive(Clone, Copy)]
+#[derive(Drop)]
 pub struct FAllocate {
     pub(crate) arguments: FAllocateArguments,
 }
 
+impl Model for FAllocate {
+    ghost use Rattle.fuse_args.specs.declared.fixed.files.FAllocateArguments.{FAllocateArguments};
+
+    ghost Value = { FAllocateArguments };
+
+    ghost view = { λ a. a.arguments };
+}
+
 impl FAllocate {
-    ghost use Rattle.fuse_request.specs.Arguments.{fallocate_of};
     ghost use Rattle.fuse_request.specs.Fields.{file_offset};
 
     /// The open file.
     pub fn file_handle(&self) -> FileHandle
-        ensures { result.0 ≡ (fallocate_of self.now).fh }
+        ensures { result.0 ≡ self.now.fh }
     {
         FileHandle(self.arguments.fh)
     }
 
-    /// Where in the file the range starts. A number above the last `i64` is no offset.
+    /// Where in the file the range starts. `EINVAL` where the number is above the last `i64`.
     pub fn offset(&self) -> Result<u64, Errno>
-        ensures { result ≡ file_offset (fallocate_of self.now).offset }
+        ensures { result ≡ file_offset self.now.offset }
     {
         file_offset(self.arguments.offset)
     }
 
-    /// How long the range is. A number above the last `i64` is no length.
+    /// How long the range is. `EINVAL` where the number is above the last `i64`.
     pub fn len(&self) -> Result<u64, Errno>
-        ensures { result ≡ file_offset (fallocate_of self.now).length }
+        ensures { result ≡ file_offset self.now.length }
     {
         file_offset(self.arguments.length)
     }
 
     /// The mode of `fallocate(2)`.
     pub fn mode(&self) -> i32
-        ensures { result ≡ (fallocate_of self.now).mode }
+        ensures { result ≡ self.now.mode }
     {
         self.arguments.mode
     }
 }
 
 /// LSEEK: where in an open file the next data or the next hole is.
-#[derive(Clone, Copy)]
+#[derive(Drop)]
 pub struct Lseek {
     pub(crate) arguments: LseekArguments,
 }
 
-impl Lseek {
-    ghost use Rattle.fuse_request.specs.Arguments.{lseek_of};
+impl Model for Lseek {
+    ghost use Rattle.fuse_args.specs.declared.fixed.files.LseekArguments.{LseekArguments};
 
+    ghost Value = { LseekArguments };
+
+    ghost view = { λ a. a.arguments };
+}
+
+impl Lseek {
     /// The open file.
     pub fn file_handle(&self) -> FileHandle
-        ensures { result.0 ≡ (lseek_of self.now).fh }
+        ensures { result.0 ≡ self.now.fh }
     {
         FileHandle(self.arguments.fh)
     }
 
     /// How far from the place that `whence` says.
     pub fn offset(&self) -> i64
-        ensures { result ≡ (lseek_of self.now).offset }
+        ensures { result ≡ self.now.offset }
     {
         self.arguments.offset
     }
 
     /// The directive of `lseek(2)`.
     pub fn whence(&self) -> i32
-        ensures { result ≡ (lseek_of self.now).whence }
+        ensures { result ≡ self.now.whence }
     {
         self.arguments.whence
     }
 }
 
 /// COPY_FILE_RANGE: a range of a file is copied into another.
-#[derive(Clone, Copy)]
+#[derive(Drop)]
 pub struct CopyFileRange {
     pub(crate) arguments: CopyFileRangeArguments,
     pub(crate) node: INodeNo,
 }
 
+impl Model for CopyFileRange {
+    ghost use Rattle.fuse_request.specs.Carried.{CopiedFrom};
+
+    ghost Value = { CopiedFrom };
+
+    ghost view = { λ a. record { node = a.node; arguments = a.arguments } };
+}
+
 impl CopyFileRange {
-    ghost use Rattle.fuse_request.specs.Arguments.{copy_file_range_node, copy_file_range_of};
     ghost use Rattle.fuse_request.specs.Fields.{signed_offset, range_file};
 
-    /// The file that is read, which is the node of the request, and where. A negative number is no offset.
+    /// The file that is read, which is the node of the request, and where. `EINVAL` where the offset is negative.
     pub fn src(&self) -> Result<CopyFileRangeFile, Errno>
-        ensures { result ≡ range_file (copy_file_range_node self.now) (copy_file_range_of self.now).fh_in (signed_offset (copy_file_range_of self.now).off_in) }
+        ensures { let a = self.now.arguments in result ≡ range_file self.now.node a.fh_in (signed_offset a.off_in) }
     {
         Ok(CopyFileRangeFile {
             inode: self.node,
@@ -109,9 +130,9 @@ impl CopyFileRange {
         })
     }
 
-    /// The file that is written, and where. A negative number is no offset.
+    /// The file that is written, and where. `EINVAL` where the offset is negative.
     pub fn dest(&self) -> Result<CopyFileRangeFile, Errno>
-        ensures { result ≡ range_file (record { 0 = (copy_file_range_of self.now).nodeid_out }) (copy_file_range_of self.now).fh_out (signed_offset (copy_file_range_of self.now).off_out) }
+        ensures { let a = self.now.arguments in result ≡ range_file (record { 0 = a.nodeid_out }) a.fh_out (signed_offset a.off_out) }
     {
         Ok(CopyFileRangeFile {
             inode: INodeNo(self.arguments.nodeid_out),
@@ -122,38 +143,44 @@ impl CopyFileRange {
 
     /// How many bytes.
     pub fn len(&self) -> u64
-        ensures { result ≡ (copy_file_range_of self.now).len }
+        ensures { result ≡ self.now.arguments.len }
     {
         self.arguments.len
     }
 
     /// How they are copied.
     pub fn flags(&self) -> CopyFileRangeFlags
-        ensures { result.0 ≡ (copy_file_range_of self.now).flags }
+        ensures { result.0 ≡ self.now.arguments.flags }
     {
         CopyFileRangeFlags::from_bits_retain(self.arguments.flags)
     }
 }
 
 /// BMAP: which block of the device a block of a file is.
-#[derive(Clone, Copy)]
+#[derive(Drop)]
 pub struct BMap {
     pub(crate) arguments: BMapArguments,
 }
 
-impl BMap {
-    ghost use Rattle.fuse_request.specs.Arguments.{bmap_of};
+impl Model for BMap {
+    ghost use Rattle.fuse_args.specs.declared.fixed.devices.BMapArguments.{BMapArguments};
 
+    ghost Value = { BMapArguments };
+
+    ghost view = { λ a. a.arguments };
+}
+
+impl BMap {
     /// How many bytes a block has.
     pub fn block_size(&self) -> u32
-        ensures { result ≡ (bmap_of self.now).blocksize }
+        ensures { result ≡ self.now.blocksize }
     {
         self.arguments.blocksize
     }
 
     /// The block of the file.
     pub fn block(&self) -> u64
-        ensures { result ≡ (bmap_of self.now).block }
+        ensures { result ≡ self.now.block }
     {
         self.arguments.block
     }

@@ -1,0 +1,79 @@
+-- What SETATTR sets: each field where `valid` has its flag (`FATTR_` of `fuse.h`).
+use Rattle.std.specs.Prelude.{◌^◌, ℕ, ℤ, Option, if◌then◌else◌}
+use Rattle.fuse_args.specs.declared.fixed.nodes.SetAttrArguments.{SetAttrArguments}
+use Rattle.fuse_wire.specs.Times.{time_in}
+use Rattle.fuse_wire.specs.declared.time.SystemTime.{SystemTime}
+use Rattle.fuse_wire.specs.declared.time.TimeOrNow.{TimeOrNow}
+use Rattle.fuse_wire.specs.declared.time.TimeOrNow.TheVariants.{SpecificTime, Now}
+use Rattle.fuse_request.specs.Fields.{has_flag, where_flag}
+
+-- the flags of `valid`
+abbrev pub FATTR_MODE : ℕ
+FATTR_MODE = 2 ^ 0
+
+abbrev pub FATTR_UID : ℕ
+FATTR_UID = 2 ^ 1
+
+abbrev pub FATTR_GID : ℕ
+FATTR_GID = 2 ^ 2
+
+abbrev pub FATTR_SIZE : ℕ
+FATTR_SIZE = 2 ^ 3
+
+abbrev pub FATTR_ATIME : ℕ
+FATTR_ATIME = 2 ^ 4
+
+abbrev pub FATTR_MTIME : ℕ
+FATTR_MTIME = 2 ^ 5
+
+abbrev pub FATTR_FH : ℕ
+FATTR_FH = 2 ^ 6
+
+abbrev pub FATTR_ATIME_NOW : ℕ
+FATTR_ATIME_NOW = 2 ^ 7
+
+abbrev pub FATTR_MTIME_NOW : ℕ
+FATTR_MTIME_NOW = 2 ^ 8
+
+abbrev pub FATTR_CTIME : ℕ
+FATTR_CTIME = 2 ^ 10
+
+-- the kind and the permissions
+abbrev pub mode_of : SetAttrArguments → Option ℕ
+mode_of a = where_flag FATTR_MODE a.valid a.mode
+
+-- the owner
+abbrev pub uid_of : SetAttrArguments → Option ℕ
+uid_of a = where_flag FATTR_UID a.valid a.uid
+
+-- the group
+abbrev pub gid_of : SetAttrArguments → Option ℕ
+gid_of a = where_flag FATTR_GID a.valid a.gid
+
+-- the size
+abbrev pub size_of : SetAttrArguments → Option ℕ
+size_of a = where_flag FATTR_SIZE a.valid a.size
+
+-- a time of so many seconds and nanoseconds
+abbrev pub time_of : ℤ → ℕ → SystemTime
+time_of secs nanos = record { 0 = time_in secs nanos }
+
+-- the present where flags have this one, and else that time
+abbrev pub now_or : (flag flags : ℕ) → SystemTime → TimeOrNow
+now_or flag flags time = if has_flag flag flags then Now else SpecificTime time
+
+-- when it was last read
+abbrev pub atime_of : SetAttrArguments → Option TimeOrNow
+atime_of a = where_flag FATTR_ATIME a.valid (now_or FATTR_ATIME_NOW a.valid (time_of a.atime a.atimensec))
+
+-- when it was last written
+abbrev pub mtime_of : SetAttrArguments → Option TimeOrNow
+mtime_of a = where_flag FATTR_MTIME a.valid (now_or FATTR_MTIME_NOW a.valid (time_of a.mtime a.mtimensec))
+
+-- the open file
+abbrev pub file_of : SetAttrArguments → Option ℕ
+file_of a = where_flag FATTR_FH a.valid a.fh
+
+-- when its attributes last changed
+abbrev pub ctime_of : SetAttrArguments → Option SystemTime
+ctime_of a = where_flag FATTR_CTIME a.valid (time_of a.ctime a.ctimensec)
