@@ -1,11 +1,12 @@
 -- What stands at the front of a body, and the bytes after it: the structs of `fuse.h` field by field.
-use Rattle.std.specs.Prelude.{◌≡◌, ◌==◌, ◌+◌, ℕ, List, Option, None, Some, option_map, position, length, take, drop, ◌*◌, nat_le, if◌then◌else◌}
+use Rattle.std.specs.Prelude.{◌≡◌, ◌==◌, ◌+◌, ℕ, List, Option, None, Some, option_map, position, length, take, drop}
+use Rattle.std.specs.Prelude.{◌*◌, nat_le, if◌then◌else◌}
 use Rattle.std.specs.Borrow.{Bor}
 use Rattle.fuse_wire.specs.Numbers.{number}
 use Rattle.fuse_args.specs.declared.fixed.InitArguments.{InitArguments}
 
--- A fetch gives what stands at the front and leaves the bytes after it, or gives nothing where nothing whole stands there,
--- and leaves all.
+-- A fetch gives what stands at the front and leaves the bytes after it, or gives nothing where nothing whole stands
+-- there, and leaves all.
 abbrev pub Fetches : {X : Type 0} → Option X → List ℕ → List ℕ → Option (X × List ℕ) → Type 0
 Fetches None before after front = (front ≡ None) × (after ≡ before)
 Fetches (Some found) before after front = front ≡ Some (found, after)

@@ -17,7 +17,8 @@ use Rattle.fuse_args.specs.declared.fixed.nodes.SetXAttrArguments.{SetXAttrArgum
 abbrev pub getattr_at : List ℕ → Option (GetAttrArguments × List ℕ)
 getattr_at = fixed 16 (λ b. record { getattr_flags = number b 0 4; fh = number b 8 8 })
 
--- SETATTR: valid4 _4 fh8 size8 lock_owner8 atime8i mtime8i ctime8i atimensec4 mtimensec4 ctimensec4 mode4 _4 uid4 gid4 _4 (`struct fuse_setattr_in`)
+-- SETATTR: valid4 _4 fh8 size8 lock_owner8 atime8i mtime8i ctime8i atimensec4 mtimensec4 ctimensec4 mode4 _4 uid4 gid4 _4
+-- (`struct fuse_setattr_in`)
 abbrev pub setattr_at : List ℕ → Option (SetAttrArguments × List ℕ)
 setattr_at = fixed 88 (λ b. record {
   valid = number b 0 4;

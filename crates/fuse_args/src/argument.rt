@@ -1,6 +1,7 @@
 // The cursor over a body.
 ghost use Rattle.std.specs.Prelude.{◌≡◌, ◌==◌, [], drop, length, position};
-ghost use Rattle.fuse_args.specs.Arguments.{Fetches, FetchesSlice, cuse_init_at, fixed, init_at, name_at, rows_at, u64_first};
+ghost use Rattle.fuse_args.specs.Arguments.{Fetches, FetchesSlice, cuse_init_at, fixed, init_at, name_at, rows_at};
+ghost use Rattle.fuse_args.specs.Arguments.{u64_first};
 
 mod devices;
 mod files;

@@ -1,6 +1,7 @@
 // The fetches of the parts of requests of open files.
 ghost use Rattle.fuse_args.specs.Arguments.{Fetches};
-ghost use Rattle.fuse_args.specs.FileParts.{copy_file_range_at, create_at, fallocate_at, flush_at, fsync_at, lseek_at, open_at, read_at, release_at, write_at};
+ghost use Rattle.fuse_args.specs.FileParts.{copy_file_range_at, create_at, fallocate_at, flush_at, fsync_at};
+ghost use Rattle.fuse_args.specs.FileParts.{lseek_at, open_at, read_at, release_at, write_at};
 
 use crate::{
     ArgumentIterator, CopyFileRangeArguments, CreateArguments, FAllocateArguments, FSyncArguments,

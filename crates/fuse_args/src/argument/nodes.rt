@@ -1,6 +1,7 @@
 // The fetches of the parts of requests of nodes and their names.
 ghost use Rattle.fuse_args.specs.Arguments.{Fetches};
-ghost use Rattle.fuse_args.specs.NodeParts.{access_at, batch_forget_at, getattr_at, getxattr_at, mkdir_at, mknod_at, rename2_at, setattr_at, setxattr_at};
+ghost use Rattle.fuse_args.specs.NodeParts.{access_at, batch_forget_at, getattr_at, getxattr_at, mkdir_at, mknod_at};
+ghost use Rattle.fuse_args.specs.NodeParts.{rename2_at, setattr_at, setxattr_at};
 
 use crate::{
     AccessArguments, ArgumentIterator, BatchForgetArguments, GetAttrArguments, GetXAttrArguments,
