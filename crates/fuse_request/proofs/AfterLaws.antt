@@ -1,5 +1,6 @@
 -- What stands after the bytes that a good header counts is not read.
-use Rattle.std.proofs.Common.{◌≡◌, ◌≤◌, ◌+◌, ◌-◌, ◌++◌, ℕ, List, Bool, true, false, length, take, drop, ap, sym, ◌∙◌, arith, refl, nat_lt, Ok, length-append}
+use Rattle.std.proofs.Common.{◌≡◌, ◌≤◌, ◌+◌, ◌-◌, ◌++◌, ℕ, List, Bool, true, false, length, take, drop, ap, sym, ◌∙◌}
+use Rattle.std.proofs.Common.{arith, refl, nat_lt, Ok, length-append}
 use Rattle.std.specs.Prelude.{Err, if◌then◌else◌}
 use Rattle.std.proofs.lemmas.Bool.{le-ltb}
 use Rattle.std.proofs.lemmas.Bool.Decides.{nat_tests}
@@ -69,7 +70,8 @@ same-body m others itself there =
     let front : List ℕ = take (number m 0 4) m in
     let long : length (take (number m 0 4) m) ≡ number m 0 4 = length-take-le (number m 0 4) m there in
     let counted : number (with_after m others) 0 4 ≡ number m 0 4 = same-number m others 0 4 (omega (arith, itself)) there in
-    let beyond : drop 40 (with_after m others) ≡ drop 40 (take (number m 0 4) m) ++ others = drop-append-le 40 (take (number m 0 4) m) others (omega (arith, long, itself)) in
+    let beyond : drop 40 (with_after m others) ≡ drop 40 (take (number m 0 4) m) ++ others =
+    drop-append-le 40 (take (number m 0 4) m) others (omega (arith, long, itself)) in
     let whole : 40 + (number m 0 4 - 40) ≡ number m 0 4 = omega (arith, itself) in
     let cut : drop 40 (take (number m 0 4) m) ≡ take (number m 0 4 - 40) (drop 40 m) =
     ap (λ (k : ℕ). drop 40 (take k m)) (sym whole) ∙ drop-take 40 (number m 0 4 - 40) m in

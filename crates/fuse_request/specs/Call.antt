@@ -8,7 +8,6 @@ use Rattle.fuse_wire.specs.declared.time.TimeOrNow.{TimeOrNow}
 use Rattle.fuse_request.specs.Fields.{contents_alone, fh_of, flushes, lock_owner_of, releaser_of, writer_of}
 use Rattle.fuse_request.specs.Forgets.{rows_in}
 use Rattle.fuse_request.specs.Operation.{Op}
-use Rattle.fuse_request.specs.Operation.Op.{Lookup as LookupOp, Forget as ForgetOp, GetAttr as GetAttrOp, SetAttr as SetAttrOp, ReadLink as ReadLinkOp, SymLink as SymLinkOp, MkNod as MkNodOp, MkDir as MkDirOp, Unlink as UnlinkOp, RmDir as RmDirOp, Rename as RenameOp, Link as LinkOp, Open as OpenOp, Read as ReadOp, Write as WriteOp, StatFs as StatFsOp, Release as ReleaseOp, FSync as FSyncOp, SetXAttr as SetXAttrOp, GetXAttr as GetXAttrOp, ListXAttr as ListXAttrOp, RemoveXAttr as RemoveXAttrOp, Flush as FlushOp, Init as InitOp, OpenDir as OpenDirOp, ReadDir as ReadDirOp, ReleaseDir as ReleaseDirOp, FSyncDir as FSyncDirOp, GetLk as GetLkOp, SetLk as SetLkOp, Access as AccessOp, Create as CreateOp, Interrupt as InterruptOp, BMap as BMapOp, Destroy as DestroyOp, IoCtl as IoCtlOp, Poll as PollOp, NotifyReply as NotifyReplyOp, BatchForget as BatchForgetOp, FAllocate as FAllocateOp, ReadDirPlus as ReadDirPlusOp, Rename2 as Rename2Op, Lseek as LseekOp, CopyFileRange as CopyFileRangeOp, CuseInit as CuseInitOp}
 use Rattle.fuse_request.specs.SetAttr.{atime_of, ctime_of, file_of, gid_of, mode_of, mtime_of, size_of, uid_of}
 
 -- one call of a filesystem, with its arguments in their order; a row of `BatchForget` has the arguments of a `Forget`
@@ -16,7 +15,8 @@ pub data Call : Type 0 where
   Lookup : (parent : ℕ) (name : List ℕ) → Call
   Forget : (ino nlookup : ℕ) → Call
   GetAttr : (ino : ℕ) (fh : Option ℕ) → Call
-  SetAttr : (ino : ℕ) (mode uid gid size : Option ℕ) (atime mtime : Option TimeOrNow) (ctime : Option SystemTime) (fh : Option ℕ) (crtime chgtime bkuptime : Option SystemTime) (flags : Option ℕ) → Call
+  SetAttr : (ino : ℕ) (mode uid gid size : Option ℕ) (atime mtime : Option TimeOrNow) (ctime : Option SystemTime)
+      (fh : Option ℕ) (crtime chgtime bkuptime : Option SystemTime) (flags : Option ℕ) → Call
   ReadLink : (ino : ℕ) → Call
   SymLink : (parent : ℕ) (link_name target : List ℕ) → Call
   MkNod : (parent : ℕ) (name : List ℕ) (mode umask rdev : ℕ) → Call
@@ -65,50 +65,54 @@ owner_number = option_map (λ owner. owner.0)
 abbrev pub unsigned : ℤ → ℕ
 unsigned = cast_unsigned w64
 
--- the call that an operation on a node makes, where it makes one: INIT and DESTROY are the session's own, and INTERRUPT, NOTIFY_REPLY and CUSE_INIT are refused
+-- the call that an operation on a node makes, where it makes one: INIT and DESTROY are the session's own, and INTERRUPT,
+-- NOTIFY_REPLY and CUSE_INIT are refused
 abbrev pub call : ℕ → Op → Option Call
-call node (LookupOp name) = Some (Lookup node name)
-call node (ForgetOp nlookup) = Some (Forget node nlookup)
-call node (GetAttrOp a) = Some (GetAttr node (fh_of a))
-call node (SetAttrOp a) = Some (SetAttr node (mode_of a) (uid_of a) (gid_of a) (size_of a) (atime_of a) (mtime_of a) (ctime_of a) (file_of a) None None None None)
-call node ReadLinkOp = Some (ReadLink node)
-call node (SymLinkOp link_name target) = Some (SymLink node link_name target)
-call node (MkNodOp a name) = Some (MkNod node name a.mode a.umask a.rdev)
-call node (MkDirOp a name) = Some (MkDir node name a.mode a.umask)
-call node (UnlinkOp name) = Some (Unlink node name)
-call node (RmDirOp name) = Some (RmDir node name)
-call node (RenameOp newdir old_name new_name) = Some (Rename node old_name newdir new_name 0)
-call node (LinkOp oldnodeid new_name) = Some (Link oldnodeid node new_name)
-call node (OpenOp a) = Some (Open node a.flags)
-call node (ReadOp a) = Some (Read node a.fh a.offset a.size a.flags (lock_owner_of a))
-call node (WriteOp a written) = Some (Write node a.fh (unsigned a.offset) written a.write_flags a.flags (writer_of a))
-call node StatFsOp = Some (StatFs node)
-call node (ReleaseOp a) = Some (Release node a.fh a.flags (releaser_of a) (flushes a))
-call node (FSyncOp a) = Some (FSync node a.fh (contents_alone a))
-call node (SetXAttrOp a name value) = Some (SetXAttr node name value a.flags 0)
-call node (GetXAttrOp a name) = Some (GetXAttr node name a.size)
-call node (ListXAttrOp a) = Some (ListXAttr node a.size)
-call node (RemoveXAttrOp name) = Some (RemoveXAttr node name)
-call node (FlushOp a) = Some (Flush node a.fh a.lock_owner)
-call node (InitOp a) = None
-call node (OpenDirOp a) = Some (OpenDir node a.flags)
-call node (ReadDirOp a) = Some (ReadDir node a.fh a.offset a.size)
-call node (ReleaseDirOp a) = Some (ReleaseDir node a.fh a.flags)
-call node (FSyncDirOp a) = Some (FSyncDir node a.fh (contents_alone a))
-call node (GetLkOp a) = Some (GetLk node a.fh a.owner a.start a.end a.typ a.pid)
-call node (SetLkOp a sleep) = Some (SetLk node a.fh a.owner a.start a.end a.typ a.pid sleep)
-call node (AccessOp a) = Some (Access node a.mask)
-call node (CreateOp a name) = Some (Create node name a.mode a.umask a.flags)
-call node (InterruptOp unique) = None
-call node (BMapOp a) = Some (BMap node a.blocksize a.block)
-call node DestroyOp = None
-call node (IoCtlOp a in_bytes) = Some (IoCtl node a.fh a.flags a.cmd in_bytes a.out_size)
-call node (PollOp a) = Some (Poll node a.fh a.kh a.events a.flags)
-call node NotifyReplyOp = None
-call node (BatchForgetOp rows) = Some (BatchForget (rows_in rows))
-call node (FAllocateOp a) = Some (FAllocate node a.fh a.offset a.length a.mode)
-call node (ReadDirPlusOp a) = Some (ReadDirPlus node a.fh a.offset a.size)
-call node (Rename2Op a old_name new_name) = Some (Rename node old_name a.newdir new_name a.flags)
-call node (LseekOp a) = Some (Lseek node a.fh a.offset a.whence)
-call node (CopyFileRangeOp a) = Some (CopyFileRange node a.fh_in (unsigned a.off_in) a.nodeid_out a.fh_out (unsigned a.off_out) a.len a.flags)
-call node CuseInitOp = None
+call node (Op.Lookup name) = Some (Lookup node name)
+call node (Op.Forget nlookup) = Some (Forget node nlookup)
+call node (Op.GetAttr a) = Some (GetAttr node (fh_of a))
+call node (Op.SetAttr a) =
+    Some (SetAttr node (mode_of a) (uid_of a) (gid_of a) (size_of a) (atime_of a) (mtime_of a) (ctime_of a) (file_of a)
+    None None None None)
+call node Op.ReadLink = Some (ReadLink node)
+call node (Op.SymLink link_name target) = Some (SymLink node link_name target)
+call node (Op.MkNod a name) = Some (MkNod node name a.mode a.umask a.rdev)
+call node (Op.MkDir a name) = Some (MkDir node name a.mode a.umask)
+call node (Op.Unlink name) = Some (Unlink node name)
+call node (Op.RmDir name) = Some (RmDir node name)
+call node (Op.Rename newdir old_name new_name) = Some (Rename node old_name newdir new_name 0)
+call node (Op.Link oldnodeid new_name) = Some (Link oldnodeid node new_name)
+call node (Op.Open a) = Some (Open node a.flags)
+call node (Op.Read a) = Some (Read node a.fh a.offset a.size a.flags (lock_owner_of a))
+call node (Op.Write a written) = Some (Write node a.fh (unsigned a.offset) written a.write_flags a.flags (writer_of a))
+call node Op.StatFs = Some (StatFs node)
+call node (Op.Release a) = Some (Release node a.fh a.flags (releaser_of a) (flushes a))
+call node (Op.FSync a) = Some (FSync node a.fh (contents_alone a))
+call node (Op.SetXAttr a name value) = Some (SetXAttr node name value a.flags 0)
+call node (Op.GetXAttr a name) = Some (GetXAttr node name a.size)
+call node (Op.ListXAttr a) = Some (ListXAttr node a.size)
+call node (Op.RemoveXAttr name) = Some (RemoveXAttr node name)
+call node (Op.Flush a) = Some (Flush node a.fh a.lock_owner)
+call node (Op.Init a) = None
+call node (Op.OpenDir a) = Some (OpenDir node a.flags)
+call node (Op.ReadDir a) = Some (ReadDir node a.fh a.offset a.size)
+call node (Op.ReleaseDir a) = Some (ReleaseDir node a.fh a.flags)
+call node (Op.FSyncDir a) = Some (FSyncDir node a.fh (contents_alone a))
+call node (Op.GetLk a) = Some (GetLk node a.fh a.owner a.start a.end a.typ a.pid)
+call node (Op.SetLk a sleep) = Some (SetLk node a.fh a.owner a.start a.end a.typ a.pid sleep)
+call node (Op.Access a) = Some (Access node a.mask)
+call node (Op.Create a name) = Some (Create node name a.mode a.umask a.flags)
+call node (Op.Interrupt unique) = None
+call node (Op.BMap a) = Some (BMap node a.blocksize a.block)
+call node Op.Destroy = None
+call node (Op.IoCtl a in_bytes) = Some (IoCtl node a.fh a.flags a.cmd in_bytes a.out_size)
+call node (Op.Poll a) = Some (Poll node a.fh a.kh a.events a.flags)
+call node Op.NotifyReply = None
+call node (Op.BatchForget rows) = Some (BatchForget (rows_in rows))
+call node (Op.FAllocate a) = Some (FAllocate node a.fh a.offset a.length a.mode)
+call node (Op.ReadDirPlus a) = Some (ReadDirPlus node a.fh a.offset a.size)
+call node (Op.Rename2 a old_name new_name) = Some (Rename node old_name a.newdir new_name a.flags)
+call node (Op.Lseek a) = Some (Lseek node a.fh a.offset a.whence)
+call node (Op.CopyFileRange a) =
+    Some (CopyFileRange node a.fh_in (unsigned a.off_in) a.nodeid_out a.fh_out (unsigned a.off_out) a.len a.flags)
+call node Op.CuseInit = None

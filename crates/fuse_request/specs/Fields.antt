@@ -1,5 +1,6 @@
 -- What the fields of a part mean, by the flags and errors of `fuse.h` and `errno.h`.
-use Rattle.std.specs.Prelude.{◌==◌, ◌^◌, ℕ, ℤ, pos, negsuc, Bool, true, false, Option, None, Some, Result, Ok, Err, nat_lt, if◌then◌else◌}
+use Rattle.std.specs.Prelude.{◌==◌, ◌^◌, ℕ, ℤ, pos, negsuc, Bool, true, false, Option, None, Some, Result, Ok, Err}
+use Rattle.std.specs.Prelude.{nat_lt, if◌then◌else◌}
 use Rattle.std.specs.Int.RustNames.{bit_and}
 use Rattle.std.specs.Int.NonZero.{non_zero_u32_get}
 use Rattle.fuse_args.specs.declared.fixed.devices.GetLkArguments.{GetLkArguments}

@@ -1,10 +1,13 @@
 -- What a message asks, by its opcode and body (`enum fuse_opcode` of `fuse.h`, and the struct of each).
-use Rattle.std.specs.Prelude.{◌≡◌, ◌==◌, ⊤, ℕ, Bool, true, false, List, [], Option, None, Some, Result, Ok, Err, IfSome, length, take, nat_le, nat_lt, if◌then◌else◌}
+use Rattle.std.specs.Prelude.{◌≡◌, ◌==◌, ⊤, ℕ, Bool, true, false, List, [], Option, None, Some, Result, Ok, Err}
+use Rattle.std.specs.Prelude.{IfSome, length, take, nat_le, nat_lt, if◌then◌else◌}
 use Rattle.fuse_wire.specs.declared.newtypes.INodeNo.{INodeNo}
 use Rattle.fuse_args.specs.Arguments.{cuse_init_at, init_at, name_at, rows_at, u64_first}
 use Rattle.fuse_args.specs.DeviceParts.{bmap_at, getlk_at, ioctl_at, poll_at}
-use Rattle.fuse_args.specs.FileParts.{copy_file_range_at, create_at, fallocate_at, flush_at, fsync_at, lseek_at, open_at, read_at, release_at, write_at}
-use Rattle.fuse_args.specs.NodeParts.{access_at, batch_forget_at, getattr_at, getxattr_at, mkdir_at, mknod_at, rename2_at, setattr_at, setxattr_at}
+use Rattle.fuse_args.specs.FileParts.{copy_file_range_at, create_at, fallocate_at, flush_at, fsync_at, lseek_at}
+use Rattle.fuse_args.specs.FileParts.{open_at, read_at, release_at, write_at}
+use Rattle.fuse_args.specs.NodeParts.{access_at, batch_forget_at, getattr_at, getxattr_at, mkdir_at, mknod_at}
+use Rattle.fuse_args.specs.NodeParts.{rename2_at, setattr_at, setxattr_at}
 use Rattle.fuse_args.specs.declared.fixed.InitArguments.{InitArguments}
 use Rattle.fuse_args.specs.declared.fixed.devices.BMapArguments.{BMapArguments}
 use Rattle.fuse_args.specs.declared.fixed.devices.GetLkArguments.{GetLkArguments}
@@ -28,7 +31,15 @@ use Rattle.fuse_args.specs.declared.fixed.nodes.MkNodArguments.{MkNodArguments}
 use Rattle.fuse_args.specs.declared.fixed.nodes.Rename2Arguments.{Rename2Arguments}
 use Rattle.fuse_args.specs.declared.fixed.nodes.SetAttrArguments.{SetAttrArguments}
 use Rattle.fuse_args.specs.declared.fixed.nodes.SetXAttrArguments.{SetXAttrArguments}
-use Rattle.fuse_request.specs.Opcode.{CUSE_INIT, FUSE_ACCESS, FUSE_BATCH_FORGET, FUSE_BMAP, FUSE_COPY_FILE_RANGE, FUSE_CREATE, FUSE_DESTROY, FUSE_FALLOCATE, FUSE_FLUSH, FUSE_FORGET, FUSE_FSYNC, FUSE_FSYNCDIR, FUSE_GETATTR, FUSE_GETLK, FUSE_GETXATTR, FUSE_INIT, FUSE_INTERRUPT, FUSE_IOCTL, FUSE_LINK, FUSE_LISTXATTR, FUSE_LOOKUP, FUSE_LSEEK, FUSE_MKDIR, FUSE_MKNOD, FUSE_NOTIFY_REPLY, FUSE_OPEN, FUSE_OPENDIR, FUSE_POLL, FUSE_READ, FUSE_READDIR, FUSE_READDIRPLUS, FUSE_READLINK, FUSE_RELEASE, FUSE_RELEASEDIR, FUSE_REMOVEXATTR, FUSE_RENAME, FUSE_RENAME2, FUSE_RMDIR, FUSE_SETATTR, FUSE_SETLK, FUSE_SETLKW, FUSE_SETXATTR, FUSE_STATFS, FUSE_SYMLINK, FUSE_UNLINK, FUSE_WRITE}
+use Rattle.fuse_request.specs.Opcode.{CUSE_INIT, FUSE_ACCESS, FUSE_BATCH_FORGET, FUSE_BMAP, FUSE_COPY_FILE_RANGE}
+use Rattle.fuse_request.specs.Opcode.{FUSE_CREATE, FUSE_DESTROY, FUSE_FALLOCATE, FUSE_FLUSH, FUSE_FORGET, FUSE_FSYNC}
+use Rattle.fuse_request.specs.Opcode.{FUSE_FSYNCDIR, FUSE_GETATTR, FUSE_GETLK, FUSE_GETXATTR, FUSE_INIT}
+use Rattle.fuse_request.specs.Opcode.{FUSE_INTERRUPT, FUSE_IOCTL, FUSE_LINK, FUSE_LISTXATTR, FUSE_LOOKUP, FUSE_LSEEK}
+use Rattle.fuse_request.specs.Opcode.{FUSE_MKDIR, FUSE_MKNOD, FUSE_NOTIFY_REPLY, FUSE_OPEN, FUSE_OPENDIR, FUSE_POLL}
+use Rattle.fuse_request.specs.Opcode.{FUSE_READ, FUSE_READDIR, FUSE_READDIRPLUS, FUSE_READLINK, FUSE_RELEASE}
+use Rattle.fuse_request.specs.Opcode.{FUSE_RELEASEDIR, FUSE_REMOVEXATTR, FUSE_RENAME, FUSE_RENAME2, FUSE_RMDIR}
+use Rattle.fuse_request.specs.Opcode.{FUSE_SETATTR, FUSE_SETLK, FUSE_SETLKW, FUSE_SETXATTR, FUSE_STATFS, FUSE_SYMLINK}
+use Rattle.fuse_request.specs.Opcode.{FUSE_UNLINK, FUSE_WRITE}
 use Rattle.fuse_request.specs.declared.error.RequestError.{RequestError}
 use Rattle.fuse_request.specs.declared.error.RequestError.TheVariants.{UnknownOperation, InsufficientData}
 use Rattle.fuse_request.specs.declared.operation.Operation.{Operation}
@@ -109,7 +120,8 @@ abbrev pub at_least : ℕ → List ℕ → Option (List ℕ × List ℕ)
 at_least size bytes = if nat_le size (length bytes) then Some (take size bytes, []) else None
 
 -- an operation of that part, and of a name and a value after it, which is as long as the part says
-abbrev pub valued : Option (SetXAttrArguments × List ℕ) → (SetXAttrArguments → List ℕ → List ℕ → Op) → Result Op RequestError
+abbrev pub valued : Option (SetXAttrArguments × List ℕ) → (SetXAttrArguments → List ℕ → List ℕ → Op)
+    → Result Op RequestError
 valued part make = after part (λ front rest.
     after (name_at rest) (λ name bytes. taking (exactly front.size bytes) (λ value. make front name value)))
 

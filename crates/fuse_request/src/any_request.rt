@@ -51,8 +51,8 @@ fn header_at(message: &[u8]) -> Header
 impl<'a> AnyRequest<'a> {
     /// Takes a message apart. What follows the bytes that its header counts is ignored.
     ///
-    /// `ShortReadHeader` where the message is shorter than a header, `ShortRead` where it is shorter than its header says, and
-    /// `InsufficientData` where its header says fewer bytes than a header has.
+    /// `ShortReadHeader` where the message is shorter than a header, `ShortRead` where it is shorter than its header
+    /// says, and `InsufficientData` where its header says fewer bytes than a header has.
     #[inline(always)]
     pub fn try_from(message: &'a [u8]) -> Result<AnyRequest<'a>, RequestError>
         ensures { Decodes result message.now }
@@ -129,8 +129,8 @@ impl<'a> AnyRequest<'a> {
 
     /// What is asked. An operation that has a place in the node of the request keeps that node.
     ///
-    /// `UnknownOperation` where no operation has the opcode, and `InsufficientData` where the body is cut short, or the value of
-    /// WRITE or SETXATTR is not as long as its fixed part says.
+    /// `UnknownOperation` where no operation has the opcode, and `InsufficientData` where the body is cut short, or the
+    /// value of WRITE or SETXATTR is not as long as its fixed part says.
     #[inline(always)]
     pub fn operation(&self) -> Result<Operation<'a>, RequestError>
         ensures operation { Is result (operation (header_of self.now).opcode (body_of self.now)) }

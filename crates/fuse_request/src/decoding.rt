@@ -1,6 +1,7 @@
 // What a body asks, by its opcode.
 ghost use Rattle.std.specs.Prelude.{◌≡◌};
-ghost use Rattle.fuse_request.specs.Operation.{Is, Keeps, operation, lookup_to_link, open_to_flush, init_to_bmap, destroy_to_cuse_init};
+ghost use Rattle.fuse_request.specs.Operation.{Is, Keeps, operation, lookup_to_link, open_to_flush, init_to_bmap};
+ghost use Rattle.fuse_request.specs.Operation.{destroy_to_cuse_init};
 ghost use Rattle.fuse_wire.specs.declared.newtypes.INodeNo.{INodeNo};
 
 use crate::opcode::{
@@ -36,8 +37,8 @@ macro_rules! whole {
 
 /// What an opcode asks of its body. An operation with a place in the node of its request keeps that node.
 ///
-/// `UnknownOperation` where no operation has this opcode, and `InsufficientData` where a part of the body is cut short or a
-/// value is not as long as its fixed part says.
+/// `UnknownOperation` where no operation has this opcode, and `InsufficientData` where a part of the body is cut short
+/// or a value is not as long as its fixed part says.
 #[inline(always)]
 pub(crate) fn decode<'a>(
     opcode: u32,

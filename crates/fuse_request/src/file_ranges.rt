@@ -132,7 +132,8 @@ impl CopyFileRange {
 
     /// The file that is written, and where. `EINVAL` where the offset is negative.
     pub fn dest(&self) -> Result<CopyFileRangeFile, Errno>
-        ensures { let a = self.now.arguments in result ≡ range_file (record { 0 = a.nodeid_out }) a.fh_out (signed_offset a.off_out) }
+        ensures { let a = self.now.arguments in
+            result ≡ range_file (record { 0 = a.nodeid_out }) a.fh_out (signed_offset a.off_out) }
     {
         Ok(CopyFileRangeFile {
             inode: INodeNo(self.arguments.nodeid_out),

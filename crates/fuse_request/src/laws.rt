@@ -18,7 +18,7 @@ pub fn bytes_after_are_not_read(message: &[u8], others: &[u8])
     ensures { UnreadAfter message.now others.now }
 {}
 
-/// Errors and parts of requests are equal where they are the same, and what borrows bytes where those bytes are the same.
+/// Errors and parts of requests are equal where they are the same, and what borrows bytes where those are the same.
 pub fn equal_where_they_are_the_same()
     ensures errors { SaysSame ⟦<RequestError as PartialEq>⟧.eq }
     ensures requests { SaysSame ⟦<Request as PartialEq>⟧.eq }

@@ -14,7 +14,7 @@ use std::fmt;
 use std::marker::Model;
 
 /// INIT: a kernel offers to speak.
-#[derive(Drop)]
+#[derive(Clone, Copy)]
 pub struct Init {
     pub(crate) arguments: InitArguments,
 }
@@ -25,6 +25,8 @@ impl Model for Init {
     ghost Value = { InitArguments };
 
     ghost view = { λ a. a.arguments };
+
+    ghost inverse = { λ arguments. record { arguments = arguments } };
 }
 
 impl Init {

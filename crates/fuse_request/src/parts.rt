@@ -6,6 +6,7 @@ ghost use Rattle.fuse_request.specs.Operation.{at_least, exactly};
 use fuse_args::ArgumentIterator;
 
 /// All bytes that are left, where there are exactly so many.
+#[inline(always)]
 pub(crate) fn exactly<'a>(arguments: &mut ArgumentIterator<'a>, size: u32) -> Option<&'a [u8]>
     ensures { FetchesSlice result arguments.old arguments.new (exactly size arguments.old) }
 {
@@ -16,6 +17,7 @@ pub(crate) fn exactly<'a>(arguments: &mut ArgumentIterator<'a>, size: u32) -> Op
 }
 
 /// The first of the bytes that are left, where there are so many.
+#[inline(always)]
 pub(crate) fn at_least<'a>(arguments: &mut ArgumentIterator<'a>, size: u32) -> Option<&'a [u8]>
     ensures { FetchesSlice result arguments.old arguments.new (at_least size arguments.old) }
 {

@@ -29,7 +29,12 @@ impl<'a> Model for Rename<'a> {
 
     ghost Value = { Moved };
 
-    ghost view = { λ a. record { node = a.node; newdir = a.newdir; old_name = a.old_name.now; new_name = a.new_name.now } };
+    ghost view = { λ a. record {
+      node = a.node;
+      newdir = a.newdir;
+      old_name = a.old_name.now;
+      new_name = a.new_name.now;
+    } };
 }
 
 impl<'a> Rename<'a> {
@@ -70,7 +75,12 @@ impl<'a> Model for Rename2<'a> {
 
     ghost Value = { MovedByFlags };
 
-    ghost view = { λ a. record { node = a.node; arguments = a.arguments; old_name = a.old_name.now; new_name = a.new_name.now } };
+    ghost view = { λ a. record {
+      node = a.node;
+      arguments = a.arguments;
+      old_name = a.old_name.now;
+      new_name = a.new_name.now;
+    } };
 }
 
 impl<'a> Rename2<'a> {

@@ -24,7 +24,8 @@ impl Model for SetAttr {
 
 impl SetAttr {
     ghost use Rattle.fuse_request.specs.Call.{handle_number};
-    ghost use Rattle.fuse_request.specs.SetAttr.{mode_of, uid_of, gid_of, size_of, atime_of, mtime_of, ctime_of, file_of};
+    ghost use Rattle.fuse_request.specs.SetAttr.{mode_of, uid_of, gid_of, size_of, atime_of, mtime_of, ctime_of};
+    ghost use Rattle.fuse_request.specs.SetAttr.{file_of};
     ghost use Rattle.std.specs.Prelude.{None};
 
     /// Which attributes are set.
