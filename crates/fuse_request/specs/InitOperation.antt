@@ -7,7 +7,7 @@ use Rattle.fuse_request.specs.declared.operation.Init.{Init}
 
 -- the arguments that it carries
 abbrev pub arguments_of : Init → InitArguments
-arguments_of init = init
+arguments_of init = init.arguments
 
 -- the flag of `fuse.h` that says that a second word of capabilities counts
 abbrev pub FUSE_INIT_EXT : ℕ

@@ -40,6 +40,7 @@ use Rattle.fuse_request.specs.Opcode.{FUSE_READ, FUSE_READDIR, FUSE_READDIRPLUS,
 use Rattle.fuse_request.specs.Opcode.{FUSE_RELEASEDIR, FUSE_REMOVEXATTR, FUSE_RENAME, FUSE_RENAME2, FUSE_RMDIR}
 use Rattle.fuse_request.specs.Opcode.{FUSE_SETATTR, FUSE_SETLK, FUSE_SETLKW, FUSE_SETXATTR, FUSE_STATFS, FUSE_SYMLINK}
 use Rattle.fuse_request.specs.Opcode.{FUSE_UNLINK, FUSE_WRITE}
+use Rattle.fuse_request.specs.InitOperation.{arguments_of}
 use Rattle.fuse_request.specs.declared.error.RequestError.{RequestError}
 use Rattle.fuse_request.specs.declared.error.RequestError.TheVariants.{UnknownOperation, InsufficientData}
 use Rattle.fuse_request.specs.declared.operation.Operation.{Operation}
@@ -224,7 +225,7 @@ plain (code.GetXAttr asked) = GetXAttr asked.arguments asked.name
 plain (code.ListXAttr arguments) = ListXAttr arguments
 plain (code.RemoveXAttr name) = RemoveXAttr name
 plain (code.Flush arguments) = Flush arguments
-plain (code.Init arguments) = Init arguments
+plain (code.Init init) = Init (arguments_of init)
 plain (code.OpenDir arguments) = OpenDir arguments
 plain (code.ReadDir arguments) = ReadDir arguments
 plain (code.ReleaseDir arguments) = ReleaseDir arguments

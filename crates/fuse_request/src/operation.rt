@@ -19,22 +19,12 @@ pub struct Init {
     pub(crate) arguments: InitArguments,
 }
 
-impl Model for Init {
-    ghost use Rattle.fuse_args.specs.declared.fixed.InitArguments.{InitArguments};
-
-    ghost Value = { InitArguments };
-
-    ghost view = { λ a. a.arguments };
-
-    ghost inverse = { λ arguments. record { arguments = arguments } };
-}
-
 impl Init {
-    ghost use Rattle.fuse_request.specs.InitOperation.{offered, version};
+    ghost use Rattle.fuse_request.specs.InitOperation.{arguments_of, offered, version};
 
     /// The capabilities offered. The second word counts where the first has `FUSE_INIT_EXT`.
     pub fn capabilities(&self) -> InitFlags
-        ensures { result.0 ≡ offered self.now }
+        ensures { result.0 ≡ offered (arguments_of self.now) }
     {
         let low = InitFlags::from_bits_retain(self.arguments.flags as u64);
         if !low.contains(InitFlags::FUSE_INIT_EXT) {
@@ -45,14 +35,14 @@ impl Init {
 
     /// The most bytes that the kernel reads ahead.
     pub fn max_readahead(&self) -> u32
-        ensures { result ≡ self.now.max_readahead }
+        ensures { result ≡ (arguments_of self.now).max_readahead }
     {
         self.arguments.max_readahead
     }
 
     /// The kernel's version.
     pub fn version(&self) -> Version
-        ensures { result ≡ version self.now }
+        ensures { result ≡ version (arguments_of self.now) }
     {
         Version(self.arguments.major, self.arguments.minor)
     }
