@@ -86,103 +86,93 @@ fn is_place(place: FilenameInDir<'_>, dir: u64, name: &[u8]) -> bool {
     place.dir.0 == dir && place.name == name
 }
 
-/// The opcode of an operation on a name whose accessors say what stands in the message, and 0 for any other operation.
-fn opcode_of(operation: &Operation<'_>) -> u16 {
+/// The opcode of an operation on a name, and whether its accessors say what stands in the message.
+fn told(operation: &Operation<'_>) -> (u16, bool) {
     match operation {
-        Operation::Lookup(asked) if asked.name() == NAME => 1,
-        Operation::Unlink(asked) if asked.name() == NAME => 10,
-        Operation::RmDir(asked) if asked.name() == NAME => 11,
-        Operation::RemoveXAttr(asked) if asked.name() == NAME => 24,
-        Operation::SymLink(asked) if asked.link_name() == NAME && asked.target() == OTHER => 6,
-        Operation::MkNod(asked) if asked.name() == NAME => match (
-            asked.mode(),
-            asked.rdev(),
-            asked.umask(),
-        ) {
-            (1, 2, 3) => 8,
-            _ => 0,
-        },
-        Operation::MkDir(asked) if asked.name() == NAME => match (asked.mode(), asked.umask()) {
-            (1, 2) => 9,
-            _ => 0,
-        },
-        Operation::Create(asked) if asked.name() == NAME => match (
-            asked.flags(),
-            asked.mode(),
-            asked.umask(),
-        ) {
-            (1, 2, 3) => 35,
-            _ => 0,
-        },
-        operation => opcode_of_places(operation),
+        Operation::Lookup(asked) => (1, asked.name() == NAME),
+        Operation::SymLink(asked) => (6, asked.link_name() == NAME && asked.target() == OTHER),
+        Operation::MkNod(asked) => {
+            let numbers = (asked.mode(), asked.rdev(), asked.umask());
+            (8, asked.name() == NAME && matches!(numbers, (1, 2, 3)))
+        }
+        Operation::MkDir(asked) => {
+            let numbers = (asked.mode(), asked.umask());
+            (9, asked.name() == NAME && matches!(numbers, (1, 2)))
+        }
+        Operation::Unlink(asked) => (10, asked.name() == NAME),
+        Operation::RmDir(asked) => (11, asked.name() == NAME),
+        Operation::RemoveXAttr(asked) => (24, asked.name() == NAME),
+        Operation::Create(asked) => {
+            let numbers = (asked.flags(), asked.mode(), asked.umask());
+            (35, asked.name() == NAME && matches!(numbers, (1, 2, 3)))
+        }
+        operation => told_of_places(operation),
     }
 }
 
 /// The same of operations on two places, and on extended attributes.
-fn opcode_of_places(operation: &Operation<'_>) -> u16 {
+fn told_of_places(operation: &Operation<'_>) -> (u16, bool) {
     match operation {
-        Operation::Rename(asked)
-            if is_place(asked.src(), 9, NAME) && is_place(asked.dest(), FIRST, OTHER) => 12,
-        Operation::Rename2(asked)
-            if is_place(asked.from(), 9, NAME) && is_place(asked.to(), FIRST, OTHER) => {
-            match asked.flags().bits() {
-                3 => 45,
-                _ => 0,
-            }
+        Operation::Rename(asked) => {
+            let moves = is_place(asked.src(), 9, NAME) && is_place(asked.dest(), FIRST, OTHER);
+            (12, moves)
         }
-        Operation::Link(asked) if is_place(asked.dest(), 9, NAME) => match asked.inode_no().0 {
-            FIRST => 13,
-            _ => 0,
-        },
-        Operation::SetXAttr(asked) if asked.name() == NAME && asked.value() == VALUE => {
-            match (asked.flags(), asked.position()) {
-                (2, 0) => 21,
-                _ => 0,
-            }
+        Operation::Rename2(asked) => {
+            let moves = is_place(asked.from(), 9, NAME) && is_place(asked.to(), FIRST, OTHER);
+            (45, moves && asked.flags().bits() == 3)
         }
-        Operation::GetXAttr(asked) if asked.name() == NAME => match (
-            asked.size_u32(),
-            asked.size(),
-        ) {
-            (1, GetXAttrSizeEnum::Size(size)) if size.get() == 1 => 22,
-            _ => 0,
-        },
-        Operation::ListXAttr(asked) if asked.size() == 1 => 23,
-        operation => opcode_of_nodes(operation),
+        Operation::Link(asked) => {
+            let links = is_place(asked.dest(), 9, NAME);
+            (13, links && asked.inode_no().0 == FIRST)
+        }
+        Operation::SetXAttr(asked) => {
+            let sets = asked.name() == NAME && asked.value() == VALUE;
+            (
+                21,
+                sets && matches!((asked.flags(), asked.position()), (2, 0)),
+            )
+        }
+        Operation::GetXAttr(asked) => {
+            let wanted = match asked.size() {
+                GetXAttrSizeEnum::Size(size) => size.get(),
+                GetXAttrSizeEnum::GetSize(GetXAttrSize) => 0,
+            };
+            (
+                22,
+                asked.name() == NAME && matches!((asked.size_u32(), wanted), (1, 1)),
+            )
+        }
+        Operation::ListXAttr(asked) => (23, asked.size() == 1),
+        operation => told_of_nodes(operation),
     }
 }
 
-/// The same of operations on inodes.
-fn opcode_of_nodes(operation: &Operation<'_>) -> u16 {
+/// The same of operations on inodes, and of the session's own.
+fn told_of_nodes(operation: &Operation<'_>) -> (u16, bool) {
     match operation {
-        Operation::Forget(asked) if asked.nlookup() == FIRST => 2,
-        Operation::GetAttr(asked) => match (
-            asked.getattr_flags().bits(),
-            handle(asked.file_handle()),
-        ) {
-            (1, SECOND) => 3,
-            _ => 0,
-        },
-        Operation::SetAttr(asked)
-            if asked.mode() == Some(18) && asked.uid().is_none() && sets_none_of_bsd(asked) => 4,
-        Operation::ReadLink(_) => 5,
-        Operation::StatFs(_) => 17,
-        Operation::Access(asked) if asked.mask().bits() == 1 => 34,
-        Operation::BatchForget(asked) if first_row(asked) == [1, 5, 6] => 42,
-        Operation::Interrupt(asked) if asked.unique().0 == FIRST => 36,
-        Operation::Destroy(_) => 38,
-        Operation::NotifyReply(_) => 41,
-        Operation::CuseInit(_) => 4096,
-        Operation::Init(asked) => match (
-            asked.version().0,
-            asked.version().1,
-            asked.max_readahead(),
-            asked.capabilities().bits(),
-        ) {
-            (1, 2, 3, 4) => 26,
-            _ => 0,
-        },
-        operation => opcode_of_files(operation),
+        Operation::Forget(asked) => (2, asked.nlookup() == FIRST),
+        Operation::GetAttr(asked) => {
+            let numbers = (asked.getattr_flags().bits(), handle(asked.file_handle()));
+            (3, matches!(numbers, (1, SECOND)))
+        }
+        Operation::SetAttr(asked) => (4, asked.mode() == Some(18) && sets_none_of_bsd(asked)),
+        Operation::ReadLink(_) => (5, true),
+        Operation::StatFs(_) => (17, true),
+        Operation::Init(asked) => {
+            let version = asked.version();
+            let numbers = (asked.max_readahead(), asked.capabilities().bits());
+            (
+                26,
+                matches!((version.0, version.1, numbers), (1, 2, (3, 4))),
+            )
+        }
+        Operation::Access(asked) => (34, asked.mask().bits() == 1),
+        Operation::Interrupt(asked) => (36, asked.unique().0 == FIRST),
+        Operation::Destroy(_) => (38, true),
+        Operation::NotifyReply(_) => (41, true),
+        Operation::BatchForget(asked) => (42, matches!(first_row(asked), [1, 5, 6])),
+        Operation::CuseInit(_) => (4096, true),
+        operation => told_of_files(operation),
     }
 }
 
@@ -204,96 +194,89 @@ fn first_row(forgets: &BatchForget<'_>) -> [u64; 3] {
 }
 
 /// The same of operations on open files.
-fn opcode_of_files(operation: &Operation<'_>) -> u16 {
+fn told_of_files(operation: &Operation<'_>) -> (u16, bool) {
     match operation {
-        Operation::Open(asked) if asked.flags().0 == 1 => 14,
-        Operation::OpenDir(asked) if asked.flags().0 == 1 => 27,
-        Operation::Read(asked)
-            if asked.file_handle().0 == FIRST && offset(asked.offset()) == SECOND => {
-            match (
-                asked.size(),
-                asked.read_flags().bits(),
-                owner(asked.lock_owner()),
-                asked.flags().0,
-            ) {
-                (5, 6, FOURTH, 9) => 15,
-                _ => 0,
-            }
+        Operation::Open(asked) => (14, asked.flags().0 == 1),
+        Operation::Read(asked) => {
+            let place = (asked.file_handle().0, offset(asked.offset()), asked.size());
+            let flags = (asked.read_flags().bits(), asked.flags().0);
+            let rest = (flags, owner(asked.lock_owner()));
+            (
+                15,
+                matches!((place, rest), ((FIRST, SECOND, 5), ((6, 9), FOURTH))),
+            )
         }
-        Operation::Write(asked)
-            if asked.file_handle().0 == FIRST && offset(asked.offset()) == SECOND => {
-            match (
-                asked.write_flags().bits(),
-                owner(asked.lock_owner()),
-                asked.flags().0,
-            ) {
-                (6, FOURTH, 9) if asked.data() == WRITTEN => 16,
-                _ => 0,
-            }
+        Operation::Write(asked) => {
+            let place = (asked.file_handle().0, offset(asked.offset()));
+            let flags = (asked.write_flags().bits(), asked.flags().0);
+            let rest = (flags, owner(asked.lock_owner()));
+            let numbers = matches!((place, rest), ((FIRST, SECOND), ((6, 9), FOURTH)));
+            (16, numbers && asked.data() == WRITTEN)
         }
-        Operation::Release(asked) => match (
-            asked.file_handle().0,
-            asked.flags().0,
-            asked.release_flags().bits(),
-        ) {
-            (FIRST, 3, 4) => 18,
-            _ => 0,
-        },
-        Operation::ReleaseDir(asked) => match (
-            asked.file_handle().0,
-            asked.flags().0,
-            asked.release_flags().bits(),
-        ) {
-            (FIRST, 3, 4) => 29,
-            _ => 0,
-        },
-        Operation::FSync(asked) if asked.file_handle().0 == FIRST && asked.fdatasync() => 20,
-        Operation::FSyncDir(asked) if asked.file_handle().0 == FIRST && asked.fdatasync() => 30,
-        Operation::Flush(asked)
-            if asked.file_handle().0 == FIRST && asked.lock_owner().0 == THIRD => 25,
-        operation => opcode_of_ranges(operation),
+        Operation::Release(asked) => {
+            let flags = (asked.flags().0, asked.release_flags().bits());
+            (
+                18,
+                matches!((asked.file_handle().0, flags), (FIRST, (3, 4))),
+            )
+        }
+        Operation::FSync(asked) => (20, asked.file_handle().0 == FIRST && asked.fdatasync()),
+        Operation::Flush(asked) => {
+            let numbers = (asked.file_handle().0, asked.lock_owner().0);
+            (25, matches!(numbers, (FIRST, THIRD)))
+        }
+        operation => told_of_directories(operation),
     }
 }
 
-/// The same of operations on ranges, directories, locks and devices.
-fn opcode_of_ranges(operation: &Operation<'_>) -> u16 {
+/// The same of operations on open directories.
+fn told_of_directories(operation: &Operation<'_>) -> (u16, bool) {
     match operation {
-        Operation::ReadDir(asked) => match (asked.file_handle().0, asked.offset(), asked.size()) {
-            (FIRST, SECOND, 5) => 28,
-            _ => 0,
-        },
-        Operation::ReadDirPlus(asked) => match (
-            asked.file_handle().0,
-            asked.offset(),
-            asked.size(),
-        ) {
-            (FIRST, SECOND, 5) => 44,
-            _ => 0,
-        },
+        Operation::OpenDir(asked) => (27, asked.flags().0 == 1),
+        Operation::ReadDir(asked) => {
+            let numbers = (asked.file_handle().0, asked.offset(), asked.size());
+            (28, matches!(numbers, (FIRST, SECOND, 5)))
+        }
+        Operation::ReleaseDir(asked) => {
+            let flags = (asked.flags().0, asked.release_flags().bits());
+            (
+                29,
+                matches!((asked.file_handle().0, flags), (FIRST, (3, 4))),
+            )
+        }
+        Operation::FSyncDir(asked) => (30, asked.file_handle().0 == FIRST && asked.fdatasync()),
+        Operation::ReadDirPlus(asked) => {
+            let numbers = (asked.file_handle().0, asked.offset(), asked.size());
+            (44, matches!(numbers, (FIRST, SECOND, 5)))
+        }
+        operation => told_of_ranges(operation),
+    }
+}
+
+/// The same of operations on ranges of files.
+fn told_of_ranges(operation: &Operation<'_>) -> (u16, bool) {
+    match operation {
+        Operation::BMap(asked) => {
+            (
+                37,
+                matches!((asked.block(), asked.block_size()), (FIRST, 3)),
+            )
+        }
         Operation::FAllocate(asked) => {
-            match (
-                asked.file_handle().0,
-                offset(asked.offset()),
-                offset(asked.len()),
-                asked.mode(),
-            ) {
-                (FIRST, SECOND, THIRD, 7) => 43,
-                _ => 0,
-            }
+            let range = (offset(asked.offset()), offset(asked.len()));
+            let numbers = (asked.file_handle().0, range, asked.mode());
+            (43, matches!(numbers, (FIRST, (SECOND, THIRD), 7)))
         }
-        Operation::Lseek(asked) => match (asked.file_handle().0, asked.offset(), asked.whence()) {
-            (FIRST, 0x4_0000_0003, 5) => 46,
-            _ => 0,
-        },
-        Operation::CopyFileRange(asked)
-            if places(asked) == [9, FIRST, SECOND, THIRD, FOURTH, FIFTH] => {
-            match (asked.len(), asked.flags().bits()) {
-                (SIXTH, SEVENTH) => 47,
-                _ => 0,
-            }
+        Operation::Lseek(asked) => {
+            let numbers = (asked.file_handle().0, asked.offset(), asked.whence());
+            (46, matches!(numbers, (FIRST, 0x4_0000_0003, 5)))
         }
-        Operation::BMap(asked) if asked.block() == FIRST && asked.block_size() == 3 => 37,
-        operation => opcode_of_devices(operation),
+        Operation::CopyFileRange(asked) => {
+            let places = matches!(places(asked), [9, FIRST, SECOND, THIRD, FOURTH, FIFTH]);
+            let numbers = (asked.len(), asked.flags().bits());
+            (47, places && matches!(numbers, (SIXTH, SEVENTH)))
+        }
+        operation => told_of_devices(operation),
     }
 }
 
@@ -314,53 +297,42 @@ fn places(copy: &CopyFileRange) -> [u64; 6] {
 
 /// Whether this is the lock of the message.
 fn is_lock(lock: Lock) -> bool {
-    matches!(
-        lock,
-        Lock {
-            range: (THIRD, FOURTH),
-            typ: 9,
-            pid: 10
-        }
-    )
+    matches!((lock.range, lock.typ, lock.pid), ((THIRD, FOURTH), 9, 10))
 }
 
-/// The same of operations on locks and devices.
-fn opcode_of_devices(operation: &Operation<'_>) -> u16 {
+/// The same of operations on locks and devices. No other is left.
+fn told_of_devices(operation: &Operation<'_>) -> (u16, bool) {
     match operation {
-        Operation::GetLk(asked) if is_lock(asked.lock()) => match (
-            asked.file_handle().0,
-            asked.lock_owner().0,
-        ) {
-            (FIRST, SECOND) => 31,
-            _ => 0,
-        },
-        Operation::SetLk(asked) if is_lock(asked.lock()) => {
-            match (asked.file_handle().0, asked.lock_owner().0, asked.sleep()) {
-                (FIRST, SECOND, false) => 32,
-                (FIRST, SECOND, true) => 33,
-                _ => 0,
-            }
+        Operation::GetLk(asked) => {
+            let numbers = (asked.file_handle().0, asked.lock_owner().0);
+            (
+                31,
+                is_lock(asked.lock()) && matches!(numbers, (FIRST, SECOND)),
+            )
         }
-        Operation::IoCtl(asked) if asked.file_handle().0 == FIRST && asked.in_data() == HANDED_IN =>
-            {
-                match (
-                    asked.unrestricted(),
-                    asked.flags().bits(),
-                    asked.command(),
-                    asked.out_size(),
-                ) {
-                    (true, 3, 4, 8) => 39,
-                    _ => 0,
-                }
-            }
-        Operation::Poll(asked)
-            if asked.file_handle().0 == FIRST && asked.kernel_handle().0 == SECOND => {
-            match (asked.events().bits(), asked.flags().bits()) {
-                (6, 5) => 40,
-                _ => 0,
-            }
+        Operation::SetLk(asked) => {
+            let numbers = (asked.file_handle().0, asked.lock_owner().0);
+            let opcode = match asked.sleep() {
+                false => 32,
+                true => 33,
+            };
+            (
+                opcode,
+                is_lock(asked.lock()) && matches!(numbers, (FIRST, SECOND)),
+            )
         }
-        _ => 0,
+        Operation::IoCtl(asked) => {
+            let flags = (asked.flags().bits(), asked.unrestricted());
+            let numbers = (asked.file_handle().0, asked.command(), asked.out_size());
+            let all = matches!((flags, numbers), ((3, true), (FIRST, 4, 8)));
+            (39, all && asked.in_data() == HANDED_IN)
+        }
+        Operation::Poll(asked) => {
+            let handles = (asked.file_handle().0, asked.kernel_handle().0);
+            let bits = (asked.events().bits(), asked.flags().bits());
+            (40, matches!((handles, bits), ((FIRST, SECOND), (6, 5))))
+        }
+        _ => (0, false),
     }
 }
 
@@ -371,11 +343,11 @@ const WRITTEN: &[u8] = b"hello";
 
 const HANDED_IN: &[u8] = b"abcdefg";
 
-/// The header of a message, and the opcode of what it asks, where the accessors say what stands in it.
-fn asked(message: &[u8]) -> Option<([u64; 6], u16)> {
+/// The header of a message, the opcode of what it asks, and whether the accessors say what stands in it.
+fn asked(message: &[u8]) -> Option<([u64; 6], (u16, bool))> {
     let request = AnyRequest::try_from(message).ok()?;
     let operation = request.operation().ok()?;
-    Some((header(&request), opcode_of(&operation)))
+    Some((header(&request), told(&operation)))
 }
 
 /// Opcode, bytes of the fixed part, the tail, and how many bytes of all this are needed.
@@ -439,7 +411,7 @@ fn expect_decoded(rt: &impl Abort, row: &(u16, usize, &[u8], usize)) {
     }
     let found = asked(&message(opcode, fixed, tail, whole));
     let header = [u64::from(opcode), 0, 9, 0, 0, 0];
-    assert_eq!(rt; found, Some((header, opcode)));
+    assert_eq!(rt; found, Some((header, (opcode, true))));
 }
 
 #[test]
@@ -715,7 +687,7 @@ fn reads_nothing_after_the_message(rt: HostRuntime) {
         let alone = whole.get(..counted).unwrap_or(&[]);
         let others = whole.get(counted..).unwrap_or(&[]);
         laws::bytes_after_are_not_read(alone, others);
-        let expected = Some(([u64::from(opcode), 0, 9, 0, 0, 0], opcode));
+        let expected = Some(([u64::from(opcode), 0, 9, 0, 0, 0], (opcode, true)));
         assert_eq!(rt; (asked(alone), asked(&whole)), (expected, expected));
     }
 }
