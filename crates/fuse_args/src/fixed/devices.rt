@@ -15,7 +15,7 @@ pub struct GetLkArguments {
     pub typ: i32,
     /// The process that holds it.
     pub pid: u32,
-    /// Bit 0 says that the lock is one of `flock(2)`.
+    /// `FUSE_LK_FLOCK` says that the lock is one of `flock(2)`.
     pub lk_flags: u32,
 }
 
@@ -52,7 +52,7 @@ pub struct PollArguments {
     pub fh: u64,
     /// Which poll a notice answers.
     pub kh: u64,
-    /// Bit 0 says that a notice is wanted.
+    /// `FUSE_POLL_SCHEDULE_NOTIFY` says that a notice is wanted.
     pub flags: u32,
     /// The events that are waited for.
     pub events: u32,

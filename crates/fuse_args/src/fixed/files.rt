@@ -27,7 +27,7 @@ pub struct ReadArguments {
     pub offset: u64,
     /// The most bytes that are wanted.
     pub size: u32,
-    /// Bit 1 says that `lock_owner` counts.
+    /// `FUSE_READ_LOCKOWNER` says that `lock_owner` counts.
     pub read_flags: u32,
     /// Who holds the locks on the file.
     pub lock_owner: u64,
@@ -44,7 +44,7 @@ pub struct WriteArguments {
     pub offset: i64,
     /// How many bytes follow.
     pub size: u32,
-    /// Bit 1 says that `lock_owner` counts.
+    /// `FUSE_WRITE_LOCKOWNER` says that `lock_owner` counts.
     pub write_flags: u32,
     /// Who holds the locks on the file.
     pub lock_owner: u64,
@@ -66,7 +66,7 @@ pub struct FlushArguments {
 pub struct FSyncArguments {
     /// The open file.
     pub fh: u64,
-    /// Bit 0 says that the contents alone are to be written.
+    /// `FUSE_FSYNC_FDATASYNC` says that the contents alone are to be written.
     pub fsync_flags: u32,
 }
 
@@ -77,7 +77,7 @@ pub struct ReleaseArguments {
     pub fh: u64,
     /// The flags that the file was opened with.
     pub flags: i32,
-    /// Bit 0 says that the file is to be flushed, bit 1 that `lock_owner` counts.
+    /// `FUSE_RELEASE_FLUSH` says that the file is to be flushed, `FUSE_RELEASE_FLOCK_UNLOCK` that `lock_owner` counts.
     pub release_flags: u32,
     /// Who holds the locks on the file.
     pub lock_owner: u64,

@@ -3,7 +3,7 @@
 /// The arguments of GETATTR: `struct fuse_getattr_in`.
 #[derive(Clone, Copy)]
 pub struct GetAttrArguments {
-    /// Bit 0 says that `fh` counts.
+    /// `FUSE_GETATTR_FH` says that `fh` counts.
     pub getattr_flags: u32,
     /// The open file.
     pub fh: u64,
@@ -12,7 +12,7 @@ pub struct GetAttrArguments {
 /// The arguments of SETATTR: `struct fuse_setattr_in`.
 #[derive(Clone, Copy)]
 pub struct SetAttrArguments {
-    /// A bit for each field that is to be set.
+    /// A flag for each field that is to be set: `FATTR_MODE` and the like.
     pub valid: u32,
     /// The open file.
     pub fh: u64,
