@@ -99,6 +99,11 @@ fn made(message: &[u8]) -> Option<(&[u8], u32, u32, u32)> {
 #[test]
 fn decodes_what_kernels_sent(rt: HostRuntime) {
     assert_eq!(rt; offered(&INIT), Some((7, 8, 4096, 0)));
+    let mut second_word = INIT;
+    second_word[56] = 2;
+    assert_eq!(rt; offered(&second_word), Some((7, 8, 4096, 0)));
+    second_word[55] = 0x40;
+    assert_eq!(rt; offered(&second_word), Some((7, 8, 4096, 0x2_4000_0000)));
     let name: &[u8] = b"foo.txt";
     assert_eq!(rt; made(&MKNOD), Some((name, 0o644, 0, 0o755)));
 }
