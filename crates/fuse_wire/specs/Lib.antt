@@ -1,5 +1,6 @@
 pub mod Numbers
 pub mod Errno
+pub mod ErrorNumbers
 pub mod Numbered
 pub mod Faults
 pub mod Frames

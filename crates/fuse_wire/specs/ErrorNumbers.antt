@@ -1,0 +1,26 @@
+-- Errors by their names, those that the session itself answers with (`asm-generic/errno-base.h` and `asm-generic/errno.h`).
+use Rattle.std.specs.Prelude.{ℕ}
+
+abbrev pub EPERM : ℕ
+EPERM = 1
+
+abbrev pub ENOENT : ℕ
+ENOENT = 2
+
+abbrev pub EIO : ℕ
+EIO = 5
+
+abbrev pub ENOMEM : ℕ
+ENOMEM = 12
+
+abbrev pub EACCES : ℕ
+EACCES = 13
+
+abbrev pub EINVAL : ℕ
+EINVAL = 22
+
+abbrev pub ENOSYS : ℕ
+ENOSYS = 38
+
+abbrev pub EPROTO : ℕ
+EPROTO = 71
