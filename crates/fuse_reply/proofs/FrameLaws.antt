@@ -8,37 +8,39 @@ use Rattle.std.specs.Int.{w32, w64, to_le_bytes, cast_unsigned, cast_signed}
 use Rattle.fuse_wire.specs.Numbers.{number}
 use Rattle.fuse_wire.specs.Frames.{IsFrame}
 use Rattle.fuse_wire.proofs.NumberLaws.{number-to_le_bytes_4, number-append_right}
+use Rattle.fuse_wire.specs.ErrorNumbers.{ENOMEM}
+use Rattle.fuse_reply.specs.Sizes.{out_header_size, max_payload}
 use Rattle.fuse_reply.specs.Answer.{Answer, IsAnswer}
 use Rattle.fuse_reply.specs.Answer.Answer.{Error, Empty, Data, Entry, Attr}
-use Rattle.fuse_reply.specs.Frame.{frame, reply, payload, status, frame_status, is_set_aside}
+use Rattle.fuse_reply.specs.Frame.{frame, reply, payload, answer_status, frame_status, is_set_aside, IsReply}
 use Rattle.fuse_reply.specs.Attributes.{entry_payload, attr_payload}
-use Rattle.fuse_reply.specs.Reply.{Replies}
+use Rattle.fuse_reply.specs.Reply.{RepliesWith}
 use Rattle.fuse_reply.specs.declared.out.Out.TheVariants.{Frame}
 use Rattle.fuse_reply.proofs.PayloadLength.{payload-fits}
 
 -- a frame is its header and its payload
-pub length-frame : (id : ℕ) (status : ℤ) (p : List ℕ) → length (frame id status p) ≡ 16 + length p
+pub length-frame : (id : ℕ) (status : ℤ) (p : List ℕ) → length (frame id status p) ≡ out_header_size + length p
 unfolding frame
 length-frame id status p = omega arith
 
 -- a frame begins with its own length
-pub number-frame_length : (id : ℕ) (status : ℤ) (p : List ℕ) → length p ≤ 2 ^ 32 - 17 → number (frame id status p) 0 4 ≡ length (frame id status p)
+pub number-frame_length : (id : ℕ) (status : ℤ) (p : List ℕ) → length p ≤ max_payload → number (frame id status p) 0 4 ≡ length (frame id status p)
 unfolding frame
 number-frame_length id status p fits =
-    let read : number (frame id status p) 0 4 ≡ 16 + length p =
-    number-to_le_bytes_4 (16 + length p) (to_le_bytes w32 (cast_unsigned w32 status) ++ to_le_bytes w64 id ++ p) (omega (arith, fits)) in
+    let read : number (frame id status p) 0 4 ≡ out_header_size + length p =
+    number-to_le_bytes_4 (out_header_size + length p) (to_le_bytes w32 (cast_unsigned w32 status) ++ to_le_bytes w64 id ++ p) (omega (arith, fits)) in
     read ∙ sym (length-frame id status p)
 
 -- a frame is one frame on a stream
-pub is_frame-frame : (id : ℕ) (status : ℤ) (p : List ℕ) → length p ≤ 2 ^ 32 - 17 → IsFrame (frame id status p)
+pub is_frame-frame : (id : ℕ) (status : ℤ) (p : List ℕ) → length p ≤ max_payload → IsFrame (frame id status p)
 unfolding frame
 is_frame-frame id status p fits = record { header = omega (arith, length-frame id status p); length_field = number-frame_length id status p fits }
 
--- behind the length stands the status, in two's complement
+-- after the length stands the status, in two's complement
 pub number-frame_status : (id : ℕ) (status : ℤ) (p : List ℕ) → cast_unsigned w32 status < 2 ^ 32 → number (frame id status p) 4 4 ≡ cast_unsigned w32 status
 unfolding frame
 number-frame_status id status p fits =
-    number-append_right (to_le_bytes w32 (16 + length p)) (to_le_bytes w32 (cast_unsigned w32 status) ++ to_le_bytes w64 id ++ p) 0 4
+    number-append_right (to_le_bytes w32 (out_header_size + length p)) (to_le_bytes w32 (cast_unsigned w32 status) ++ to_le_bytes w64 id ++ p) 0 4
     ∙ number-to_le_bytes_4 (cast_unsigned w32 status) (to_le_bytes w64 id ++ p) fits
 
 -- a frame's status is the one that it was made of
@@ -68,33 +70,41 @@ not_set_aside-reply id (Entry entry_valid attr_valid generation attr) valid =
 not_set_aside-reply id (Attr valid attr) fits = not_set_aside-frame_zero id (attr_payload valid attr)
 
 -- the status of an answer is in the range of 4 bytes
-status-fits : (a : Answer) → IsAnswer a → FitsSigned w32 (status a)
-status-fits (Error zero) valid = omega arith
-status-fits (Error (suc errno)) valid = omega (arith, valid.1)
-status-fits Empty valid = omega arith
-status-fits (Data bytes) valid = omega arith
-status-fits (Entry entry_valid attr_valid generation attr) valid = omega arith
-status-fits (Attr valid attr) fits = omega arith
+answer_status-fits : (a : Answer) → IsAnswer a → FitsSigned w32 (answer_status a)
+answer_status-fits (Error zero) valid = omega arith
+answer_status-fits (Error (suc errno)) valid = omega (arith, valid.1)
+answer_status-fits Empty valid = omega arith
+answer_status-fits (Data bytes) valid = omega arith
+answer_status-fits (Entry entry_valid attr_valid generation attr) valid = omega arith
+answer_status-fits (Attr valid attr) fits = omega arith
 
 -- the status of a reply is its answer's
-pub frame_status-reply : (id : ℕ) (a : Answer) → IsAnswer a → frame_status (reply id a) ≡ status a
-frame_status-reply id a valid = frame_status-frame id (status a) (payload a) (status-fits a valid)
+pub frame_status-reply : (id : ℕ) (a : Answer) → IsAnswer a → frame_status (reply id a) ≡ answer_status a
+frame_status-reply id a valid = frame_status-frame id (answer_status a) (payload a) (answer_status-fits a valid)
 
 -- a reply is one frame on a stream
 pub is_frame-reply : (id : ℕ) (a : Answer) → IsAnswer a → IsFrame (reply id a)
-is_frame-reply id a valid = is_frame-frame id (status a) (payload a) (payload-fits a valid)
+is_frame-reply id a valid = is_frame-frame id (answer_status a) (payload a) (payload-fits a valid)
 
 same_frame : (f g : List ℕ) → Frame f ≡ Frame g → f ≡ g
 same_frame f g same = cc
 
 -- what a reply came to is no notice
-pub not_set_aside-replies : (id : ℕ) (a : Answer) (f : List ℕ) → IsAnswer a → Replies id a (Frame f) → is_set_aside f ≡ false
-not_set_aside-replies id a f valid (inl same) = ap is_set_aside (same_frame f (reply id a) same) ∙ not_set_aside-reply id a valid
-not_set_aside-replies id a f valid (inr (long, same)) =
-    ap is_set_aside (same_frame f (reply id (Error 12)) same) ∙ not_set_aside-reply id (Error 12) (lit< tt, lit< tt)
+pub not_set_aside-replies_with : (id : ℕ) (a : Answer) (f : List ℕ) → IsAnswer a → RepliesWith id a (Frame f) → is_set_aside f ≡ false
+not_set_aside-replies_with id a f valid (inl same) = ap is_set_aside (same_frame f (reply id a) same) ∙ not_set_aside-reply id a valid
+not_set_aside-replies_with id a f valid (inr (long, same)) =
+    ap is_set_aside (same_frame f (reply id (Error ENOMEM)) same) ∙ not_set_aside-reply id (Error ENOMEM) (lit< tt, lit< tt)
 
 -- and it is one frame on a stream
-pub is_frame-replies : (id : ℕ) (a : Answer) (f : List ℕ) → IsAnswer a → Replies id a (Frame f) → IsFrame f
-is_frame-replies id a f valid (inl same) = subst IsFrame (sym (same_frame f (reply id a) same)) (is_frame-reply id a valid)
-is_frame-replies id a f valid (inr (long, same)) =
-    subst IsFrame (sym (same_frame f (reply id (Error 12)) same)) (is_frame-reply id (Error 12) (lit< tt, lit< tt))
+pub is_frame-replies_with : (id : ℕ) (a : Answer) (f : List ℕ) → IsAnswer a → RepliesWith id a (Frame f) → IsFrame f
+is_frame-replies_with id a f valid (inl same) = subst IsFrame (sym (same_frame f (reply id a) same)) (is_frame-reply id a valid)
+is_frame-replies_with id a f valid (inr (long, same)) =
+    subst IsFrame (sym (same_frame f (reply id (Error ENOMEM)) same)) (is_frame-reply id (Error ENOMEM) (lit< tt, lit< tt))
+
+-- bytes that are a reply are not set aside
+pub not_set_aside-is_reply : (f : List ℕ) → IsReply f → is_set_aside f ≡ false
+not_set_aside-is_reply f r = ap is_set_aside r.is_reply ∙ not_set_aside-reply r.id r.answer r.answer_in_range
+
+-- and they are one frame on a stream
+pub is_frame-is_reply : (f : List ℕ) → IsReply f → IsFrame f
+is_frame-is_reply f r = subst IsFrame (sym r.is_reply) (is_frame-reply r.id r.answer r.answer_in_range)

@@ -2,3 +2,4 @@ pub mod FrameLength
 pub mod PayloadLength
 pub mod FrameLaws
 pub mod Splitting
+pub mod NoticeLaws

@@ -1,6 +1,7 @@
 -- How long the payloads of answers are.
-use Rattle.std.proofs.Common.{◌≡◌, ◌≤◌, ◌-◌, ◌^◌, ℕ, length, refl, arith}
+use Rattle.std.proofs.Common.{◌≡◌, ◌≤◌, ℕ, length, refl, arith}
 use Rattle.fuse_wire.specs.declared.file_attr.FileAttr.{FileAttr}
+use Rattle.fuse_reply.specs.Sizes.{max_payload}
 use Rattle.fuse_reply.specs.Answer.{Answer, IsAnswer}
 use Rattle.fuse_reply.specs.Answer.Answer.{Error, Empty, Data, Entry, Attr}
 use Rattle.fuse_reply.specs.Attributes.{size_fields, second_fields, narrow_fields, attr_block, entry_front, entry_payload, attr_front, attr_payload}
@@ -17,7 +18,7 @@ unfolding attr_payload attr_front attr_block size_fields second_fields narrow_fi
 length-attr_payload valid attr = refl
 
 -- a frame can carry the payload of each answer
-pub payload-fits : (a : Answer) → IsAnswer a → length (payload a) ≤ 2 ^ 32 - 17
+pub payload-fits : (a : Answer) → IsAnswer a → length (payload a) ≤ max_payload
 payload-fits (Error errno) valid = omega arith
 payload-fits Empty valid = omega arith
 payload-fits (Data bytes) valid = valid.1

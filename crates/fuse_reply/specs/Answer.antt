@@ -1,7 +1,9 @@
 -- Answers to requests, as plain values.
-use Rattle.std.specs.Prelude.{ℕ, ◌<◌, ◌≤◌, ◌^◌, ◌*◌, ◌-◌, List, length, slice_index, FitsSigned}
+use Rattle.std.specs.Prelude.{ℕ, ◌<◌, ◌≤◌, ◌^◌, ◌*◌, List, length, slice_index, FitsSigned}
 use Rattle.std.specs.Int.{w128}
 use Rattle.fuse_wire.specs.declared.file_attr.FileAttr.{FileAttr}
+use Rattle.fuse_reply.specs.Sizes.{max_payload, inline_size}
+use Rattle.fuse_reply.specs.Attributes.{nanos_per_second}
 
 pub data Answer : Type 0 where
   -- an error's number
@@ -34,11 +36,15 @@ pub record IsAttr (attr : FileAttr) : Type 0 where
 
 -- a span of nanoseconds whose seconds are below 2^64
 abbrev pub IsSpan : ℕ → Type 0
-IsSpan span = span < 2 ^ 64 * 1000000000
+IsSpan span = span < 2 ^ 64 * nanos_per_second
+
+-- numbers that are bytes
+abbrev pub AreBytes : List ℕ → Type 0
+AreBytes bytes = (i : ℕ) → slice_index bytes i < 256
 
 -- bytes, as many as a frame can carry
 abbrev pub IsData : List ℕ → Type 0
-IsData bytes = ((i : ℕ) → slice_index bytes i < 256) × (length bytes ≤ 2 ^ 32 - 17)
+IsData bytes = AreBytes bytes × (length bytes ≤ max_payload)
 
 -- each number in the range of its type
 abbrev pub IsAnswer : Answer → Type 0
@@ -52,6 +58,6 @@ IsAnswer (Attr valid attr) = IsSpan valid × IsAttr attr
 abbrev pub IsLong : Answer → Type 0
 IsLong (Error errno) = ⊥
 IsLong Empty = ⊥
-IsLong (Data bytes) = 144 < length bytes
+IsLong (Data bytes) = inline_size < length bytes
 IsLong (Entry entry_valid attr_valid generation attr) = ⊥
 IsLong (Attr valid attr) = ⊥

@@ -37,20 +37,24 @@ narrow_fields atimensec mtimensec ctimensec attr =
     ++ to_le_bytes w32 (mode attr.kind attr.perm) ++ to_le_bytes w32 attr.nlink ++ to_le_bytes w32 attr.uid
     ++ to_le_bytes w32 attr.gid ++ to_le_bytes w32 attr.rdev ++ to_le_bytes w32 attr.blksize ++ replicate 4 0
 
--- `struct fuse_attr`: these three, one behind the other
+-- `struct fuse_attr`: these three, one after the other
 unfoldable pub attr_block : FileAttr → List ℕ
 attr_block attr =
     size_fields attr
     ++ second_fields (time_out attr.atime.0).0 (time_out attr.mtime.0).0 (time_out attr.ctime.0).0
     ++ narrow_fields (time_out attr.atime.0).1 (time_out attr.mtime.0).1 (time_out attr.ctime.0).1 attr
 
+-- the nanoseconds of a second
+abbrev pub nanos_per_second : ℕ
+nanos_per_second = 1000000000
+
 -- the whole seconds of a span of so many nanoseconds
 abbrev pub span_seconds : ℕ → List ℕ
-span_seconds span = to_le_bytes w64 (span / 1000000000)
+span_seconds span = to_le_bytes w64 (span / nanos_per_second)
 
 -- the nanoseconds above them
 abbrev pub span_nanos : ℕ → List ℕ
-span_nanos span = to_le_bytes w32 (span % 1000000000)
+span_nanos span = to_le_bytes w32 (span % nanos_per_second)
 
 -- nodeid8 generation8 entry_valid8 attr_valid8 entry_valid_nsec4 attr_valid_nsec4
 unfoldable pub entry_front : (entry_valid attr_valid generation nodeid : ℕ) → List ℕ

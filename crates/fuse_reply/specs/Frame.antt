@@ -1,18 +1,23 @@
 -- Frames: a header (`struct fuse_out_header` of `fuse.h`) and a payload.
-use Rattle.std.specs.Prelude.{ℕ, ◌+◌, ◌^◌, ◌++◌, ◌&&◌, List, [], map, Bool, length, nat_lt, ℤ, pos}
+use Rattle.std.specs.Prelude.{◌≡◌, ◌<◌, ℕ, ◌+◌, ◌^◌, ◌++◌, ◌&&◌, List, [], map, Bool, length, nat_lt, ℤ, pos, neg_ℤ}
 use Rattle.std.specs.Int.{w32, w64, to_le_bytes, cast_unsigned}
-use Rattle.std.specs.Prelude.{neg_ℤ}
 use Rattle.fuse_wire.specs.Numbers.{number, signed}
-use Rattle.fuse_reply.specs.Answer.{Answer}
+use Rattle.fuse_reply.specs.Sizes.{out_header_size}
+use Rattle.fuse_reply.specs.Answer.{Answer, IsAnswer}
 use Rattle.fuse_reply.specs.Answer.Answer.{Error, Empty, Data, Entry, Attr}
 use Rattle.fuse_reply.specs.Attributes.{entry_payload, attr_payload}
 
 -- len4 error4 unique8, where the length counts the header too
 abbrev pub out_header : (id : ℕ) (status : ℤ) (payload_length : ℕ) → List ℕ
-out_header id status size = to_le_bytes w32 (16 + size) ++ to_le_bytes w32 (cast_unsigned w32 status) ++ to_le_bytes w64 id
+out_header id status size =
+    to_le_bytes w32 (out_header_size + size) ++ to_le_bytes w32 (cast_unsigned w32 status) ++ to_le_bytes w64 id
 
 unfoldable pub frame : (id : ℕ) (status : ℤ) (payload : List ℕ) → List ℕ
 frame id status payload = out_header id status (length payload) ++ payload
+
+-- the frame of an id, a status and a payload, taken together
+abbrev pub frame_of : ℕ × ℤ × List ℕ → List ℕ
+frame_of parts = frame parts.0 parts.1 parts.2
 
 -- the payload of an answer
 abbrev pub payload : Answer → List ℕ
@@ -23,22 +28,30 @@ payload (Entry entry_valid attr_valid generation attr) = entry_payload entry_val
 payload (Attr valid attr) = attr_payload valid attr
 
 -- the status of an answer: zero, or an error's number below zero
-abbrev pub status : Answer → ℤ
-status (Error errno) = neg_ℤ (pos errno)
-status Empty = pos 0
-status (Data bytes) = pos 0
-status (Entry entry_valid attr_valid generation attr) = pos 0
-status (Attr valid attr) = pos 0
+abbrev pub answer_status : Answer → ℤ
+answer_status (Error errno) = neg_ℤ (pos errno)
+answer_status Empty = pos 0
+answer_status (Data bytes) = pos 0
+answer_status (Entry entry_valid attr_valid generation attr) = pos 0
+answer_status (Attr valid attr) = pos 0
 
 -- the frame that carries an answer to the request of that id
 abbrev pub reply : (id : ℕ) → Answer → List ℕ
-reply id answer = frame id (status answer) (payload answer)
+reply id answer = frame id (answer_status answer) (payload answer)
+
+-- these bytes are the reply to a request: to one of an id of 8 bytes, by an answer in range
+pub record IsReply (bytes : List ℕ) : Type 0 where
+  pub id : ℕ
+  pub answer : Answer
+  pub id_in_range : id < 2 ^ 64
+  pub answer_in_range : IsAnswer answer
+  pub is_reply : bytes ≡ reply id answer
 
 -- the frames of answers, each with the id of its request
-abbrev pub replies : List (ℕ × Answer) → List (List ℕ)
-replies = map (λ answered. reply answered.0 answered.1)
+abbrev pub reply_frames : List (ℕ × Answer) → List (List ℕ)
+reply_frames = map (λ sent. reply sent.0 sent.1)
 
--- the status of a frame: behind the length, in two's complement
+-- the status of a frame: after the length, in two's complement
 abbrev pub frame_status : List ℕ → ℤ
 frame_status f = signed w32 f 4
 

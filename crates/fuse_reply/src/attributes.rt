@@ -2,7 +2,7 @@
 ghost use Rattle.std.specs.Prelude.{◌≡◌, ◌+◌, ◌++◌, ◌/◌, ◌%◌, ◌<◌, ◌^◌, length};
 ghost use Rattle.fuse_reply.specs.Answer.{IsAttr, IsSpan, IsAnswer};
 ghost use Rattle.fuse_reply.specs.Answer.Answer.{Entry, Attr};
-ghost use Rattle.fuse_reply.specs.Attributes.{kind_bits, mode, size_fields, second_fields, narrow_fields, attr_block, entry_front, entry_payload, attr_front, attr_payload};
+ghost use Rattle.fuse_reply.specs.Attributes.{nanos_per_second, kind_bits, mode, size_fields, second_fields, narrow_fields, attr_block, entry_front, entry_payload, attr_front, attr_payload};
 
 use fuse_wire::{Duration, FileAttr, FileType, Generation, INodeNo, time_from_system_time};
 
@@ -33,8 +33,8 @@ fn mode_of(kind: FileType, perm: u16) -> u32
 
 /// The whole seconds of a span, and the nanoseconds above them.
 fn span_parts(span: &Duration) -> (u64, u32)
-    ensures seconds { result.0 ≡ span.now / 1000000000 }
-    ensures nanos { result.1 ≡ span.now % 1000000000 }
+    ensures seconds { result.0 ≡ span.now / nanos_per_second }
+    ensures nanos { result.1 ≡ span.now % nanos_per_second }
     ensures range { IsSpan span.now }
 {
     let all = span.as_nanos();

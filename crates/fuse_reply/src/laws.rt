@@ -1,19 +1,39 @@
-//! Laws of the definitions. Each function here does nothing: its contract is the law, which holds of all requests and answers.
-ghost use Rattle.std.specs.Prelude.{◌≡◌, ◌<◌, ◌≤ℤ◌, ◌^◌, ◌++◌, ◌∷◌, ℕ, List, false, length, pos, neg_ℤ};
+//! Laws of the definitions. Each function here does nothing: its contract is the law.
+ghost use Rattle.std.specs.Prelude.{◌≡◌, ◌<◌, ◌≤◌, ◌≤ℤ◌, ◌^◌, ◌++◌, ◌∷◌, ℕ, ℤ, List, true, false, length, map, pos, neg_ℤ};
 ghost use Rattle.std.specs.List.{AllByRecursion, concat};
 ghost use Rattle.fuse_wire.specs.Frames.{frame_length, frames};
 ghost use Rattle.fuse_wire.specs.Numbered.{SaysSame};
+ghost use Rattle.fuse_reply.specs.Sizes.{max_payload};
 ghost use Rattle.fuse_reply.specs.Answer.{Answer, IsAnswer};
 ghost use Rattle.fuse_reply.specs.Answer.Answer.{Error};
-ghost use Rattle.fuse_reply.specs.Frame.{frame_status, is_set_aside, replies, reply, status};
+ghost use Rattle.fuse_reply.specs.Frame.{frame, frame_of, frame_status, is_set_aside, reply, reply_frames, answer_status, IsReply};
+ghost use Rattle.fuse_reply.specs.Notice.{Notice, IsNotice, notice, notify_code};
 
-use crate::OutEnd;
+use crate::{Out, OutEnd};
 
 /// No reply is set aside, whatever its request's id is: its frame's status is the answer's, which is at most 0.
 pub fn replies_are_not_set_aside()
     ensures kept { (id : ℕ) (answer : Answer) → IsAnswer answer → is_set_aside (reply id answer) ≡ false }
-    ensures status { (id : ℕ) (answer : Answer) → IsAnswer answer → frame_status (reply id answer) ≡ status answer }
-    ensures sign { (answer : Answer) → status answer ≤ℤ pos 0 }
+    ensures status { (id : ℕ) (answer : Answer) → IsAnswer answer → frame_status (reply id answer) ≡ answer_status answer }
+    ensures sign { (answer : Answer) → answer_status answer ≤ℤ pos 0 }
+{}
+
+/// What goes out as a frame is a reply, and so it is not set aside.
+pub fn frames_that_go_out_are_replies(out: &Out)
+    ensures reply { (bytes : List ℕ) → out.now ≡ Out.Frame bytes → IsReply bytes }
+    ensures kept { (bytes : List ℕ) → out.now ≡ Out.Frame bytes → is_set_aside bytes ≡ false }
+{
+    if let Out::Frame(frame) = out {
+        frame.is_reply();
+    }
+}
+
+/// A notice is set aside, since its frame's status is its code, which is at least 1. In range it begins with its own length.
+pub fn notices_are_set_aside()
+    ensures aside { (n : Notice) → is_set_aside (notice n) ≡ true }
+    ensures status { (n : Notice) → frame_status (notice n) ≡ pos (notify_code n) }
+    ensures sign { (n : Notice) → pos 1 ≤ℤ pos (notify_code n) }
+    ensures counted { (n : Notice) → IsNotice n → frame_length (notice n) ≡ length (notice n) }
 {}
 
 /// The status of an error's frame is the error's number below zero.
@@ -21,12 +41,17 @@ pub fn an_error_is_sent_below_zero()
     ensures { (id errno : ℕ) → 0 < errno → errno < 2 ^ 31 → frame_status (reply id (Error errno)) ≡ neg_ℤ (pos errno) }
 {}
 
-/// Each reply begins with its own length. So it is the first frame of whatever stream it stands in front of, and replies
-/// on a stream, one behind the other, split into just those.
+/// Each frame begins with its own length. So it is the first frame of whatever stream it stands in front of, and frames
+/// on a stream, one after the other, split into just those. This holds of replies too.
 pub fn frames_count_themselves()
-    ensures counted { (id : ℕ) (answer : Answer) → IsAnswer answer → frame_length (reply id answer) ≡ length (reply id answer) }
-    ensures first { (id : ℕ) (answer : Answer) (behind : List ℕ) → IsAnswer answer → frames (reply id answer ++ behind) ≡ reply id answer ∷ frames behind }
-    ensures split { (answered : List (ℕ × Answer)) → AllByRecursion (λ a. IsAnswer a.1) answered → frames (concat (replies answered)) ≡ replies answered }
+    ensures counted { (id : ℕ) (status : ℤ) (payload : List ℕ) → length payload ≤ max_payload
+        → frame_length (frame id status payload) ≡ length (frame id status payload) }
+    ensures first { (id : ℕ) (status : ℤ) (payload after : List ℕ) → length payload ≤ max_payload
+        → frames (frame id status payload ++ after) ≡ frame id status payload ∷ frames after }
+    ensures split { (parts : List (ℕ × ℤ × List ℕ)) → AllByRecursion (λ p. length p.2 ≤ max_payload) parts
+        → frames (concat (map frame_of parts)) ≡ map frame_of parts }
+    ensures replies { (sent : List (ℕ × Answer)) → AllByRecursion (λ s. IsAnswer s.1) sent
+        → frames (concat (reply_frames sent)) ≡ reply_frames sent }
 {}
 
 /// What became of a message is equal where it is the same.
@@ -40,7 +65,7 @@ mod tests {
     use crate::{ReplyData, ReplyEmpty};
     use fuse_wire::{Errno, MemoryOut, RequestId, StreamSink};
 
-    /// The frame in front, as its length field has it, and what stands behind it.
+    /// The frame in front, as its length field has it, and what stands after it.
     fn split_frame(bytes: &[u8]) -> Option<(&[u8], &[u8])> {
         let [l0, l1, l2, l3, ..] = bytes else {
             return None;
@@ -52,6 +77,7 @@ mod tests {
     fn frames_on_a_stream_split_at_their_lengths(rt: HostRuntime) {
         replies_are_not_set_aside();
         an_error_is_sent_below_zero();
+        notices_are_set_aside();
         frames_count_themselves();
         let alloc = rt.alloc();
         let frames: [&[u8]; 4] = [
@@ -75,9 +101,9 @@ mod tests {
         let stream = sink.into_inner();
         let mut left = stream.bytes();
         for frame in frames {
-            let (first, behind) = split_frame(left).unwrap_or((&[], &[]));
+            let (first, after) = split_frame(left).unwrap_or((&[], &[]));
             assert_eq!(rt; first, frame);
-            left = behind;
+            left = after;
         }
         assert_eq!(rt; left.len(), 0);
     }

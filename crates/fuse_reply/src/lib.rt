@@ -2,22 +2,26 @@
 //! The layers above rely on this: what goes out is the frame of that request's id and of the answer given.
 #![tactic(auto)]
 
-mod attr;
 mod attributes;
-mod data_reply;
-mod empty;
-mod entry;
 pub mod laws;
 mod out;
 mod packed;
 mod replied;
+mod reply;
+mod reply_attr;
+mod reply_data;
+mod reply_empty;
+mod reply_entry;
+mod reply_frame;
 #[cfg(test)]
 mod tests;
 
-pub use attr::ReplyAttr;
-pub use data_reply::ReplyData;
-pub use empty::ReplyEmpty;
-pub use entry::ReplyEntry;
 pub use out::{Out, OutEnd};
 pub use packed::Packed;
 pub use replied::Replied;
+pub use reply::Reply;
+pub use reply_attr::{Attrs, ReplyAttr};
+pub use reply_data::{Bytes, ReplyData};
+pub use reply_empty::{ReplyEmpty, Statuses};
+pub use reply_entry::{Entries, ReplyEntry};
+pub use reply_frame::ReplyFrame;

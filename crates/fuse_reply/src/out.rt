@@ -2,14 +2,14 @@
 ghost use Rattle.std.specs.Prelude.{◌≡◌};
 ghost use Rattle.fuse_reply.specs.Deliver.{Delivers};
 
-use crate::Packed;
+use crate::ReplyFrame;
 use fuse_wire::{Noting, RequestId, Sending, Sink};
 
 /// What goes out for a message.
 #[derive(Debug, Drop)]
 pub enum Out {
-    /// A frame.
-    Frame(Packed),
+    /// The reply to a request.
+    Frame(ReplyFrame),
     /// A note in place of a frame: a forget's request, and the mark that its filesystem gave.
     Note(RequestId, u64),
     /// Nothing yet: the reply of the message with this number and request comes later.
@@ -44,7 +44,7 @@ impl Out {
         ensures { Delivers result self (K.told sink.old) (K.told sink.new) }
     {
         match self {
-            Out::Frame(packed) => match packed.send(sink) {
+            Out::Frame(frame) => match frame.send(sink) {
                 Sending::Sent => OutEnd::Written,
                 Sending::Absent | Sending::Failed => OutEnd::Lost,
             },

@@ -1,7 +1,8 @@
 // A whole frame.
-ghost use Rattle.std.specs.Prelude.{◌≡◌, ◌≤◌, ◌<◌, ◌+◌, ◌-◌, ◌^◌, ◌++◌, [], length, pos, IsOk, IfOk};
+ghost use Rattle.std.specs.Prelude.{◌≡◌, ◌≤◌, ◌+◌, ◌++◌, [], length, pos, IsOk, IfOk};
 ghost use Rattle.fuse_wire.specs.Numbers.{number};
 ghost use Rattle.fuse_wire.specs.Sink.{Sends};
+ghost use Rattle.fuse_reply.specs.Sizes.{out_header_size, max_payload, inline_size};
 ghost use Rattle.fuse_reply.specs.Frame.{frame, out_header};
 
 use fuse_wire::{NoMemory, RequestId, Sending, Sink};
@@ -9,34 +10,38 @@ use smallvec::SmallVec;
 use std::alloc::Global;
 use std::marker::Model;
 
+/// How many bytes a frame's header has: those of `struct fuse_out_header`.
+const OUT_HEADER_SIZE: usize = 16;
+
 /// How many payload bytes a frame holds without an allocation.
 const INLINE_SIZE: usize = 144;
 
 /// A whole frame: its header, `struct fuse_out_header`, and its payload. A contract sees its bytes.
 #[derive(Debug, Drop)]
 pub struct Packed {
-    header: [u8; 16],
+    header: [u8; OUT_HEADER_SIZE],
     payload: SmallVec<u8, INLINE_SIZE>,
 }
 
 impl Model for Packed {
     ghost use Rattle.std.specs.Prelude.{◌≡◌, ◌+◌, ◌++◌, ℕ, List, length};
     ghost use Rattle.fuse_wire.specs.Numbers.{number};
+    ghost use Rattle.fuse_reply.specs.Sizes.{out_header_size};
 
     ghost Value = { List ℕ };
 
     ghost view = { λ p. p.header ++ p.payload.items };
 
-    ghost invariant = { λ p. number p.header 0 4 ≡ 16 + length p.payload.items };
+    ghost invariant = { λ p. number p.header 0 4 ≡ out_header_size + length p.payload.items };
 }
 
 /// The header of a frame whose payload has so many bytes.
-fn header_of(id: RequestId, status: i32, payload: usize) -> [u8; 16]
-    requires { payload ≤ 2 ^ 32 - 17 }
+fn header_of(id: RequestId, status: i32, payload: usize) -> [u8; OUT_HEADER_SIZE]
+    requires { payload ≤ max_payload }
     ensures bytes { result ≡ out_header id.0 status payload }
-    ensures length { number result 0 4 ≡ 16 + payload }
+    ensures length { number result 0 4 ≡ out_header_size + payload }
 {
-    let [l0, l1, l2, l3] = (payload as u32 + 16).to_le_bytes();
+    let [l0, l1, l2, l3] = ((OUT_HEADER_SIZE + payload) as u32).to_le_bytes();
     let [s0, s1, s2, s3] = status.to_le_bytes();
     let [i0, i1, i2, i3, i4, i5, i6, i7] = id.0.to_le_bytes();
     [
@@ -52,9 +57,9 @@ impl Packed {
         status: i32,
         payload: &[u8],
     ) -> Result<Packed, NoMemory>
-        requires { length payload.now ≤ 2 ^ 32 - 17 }
+        requires { length payload.now ≤ max_payload }
         ensures ok { IfOk result (λ packed. packed ≡ frame id.0 status payload.now) }
-        ensures inline { length payload.now ≤ 144 → IsOk result }
+        ensures inline { length payload.now ≤ inline_size → IsOk result }
     {
         let copied = SmallVec::from_slice(alloc, payload)?;
         Ok(Packed::around(id, status, copied))
@@ -64,7 +69,7 @@ impl Packed {
     /// The frame of a payload that is held already.
     #[inline(always)]
     fn around(id: RequestId, status: i32, payload: SmallVec<u8, INLINE_SIZE>) -> Packed
-        requires { length payload.items ≤ 2 ^ 32 - 17 }
+        requires { length payload.items ≤ max_payload }
         ensures { result ≡ frame id.0 status payload.items }
     {
         Packed {
@@ -77,9 +82,9 @@ impl Packed {
     /// again.
     #[inline(always)]
     pub(crate) fn of_data(alloc: Global, id: RequestId, bytes: &[u8]) -> Result<Packed, NoMemory>
-        requires { length bytes.now ≤ 2 ^ 32 - 17 }
+        requires { length bytes.now ≤ max_payload }
         ensures ok { IfOk result (λ packed. packed ≡ frame id.0 (pos 0) bytes.now) }
-        ensures inline { length bytes.now ≤ 144 → IsOk result }
+        ensures inline { length bytes.now ≤ inline_size → IsOk result }
     {
         let mut payload = SmallVec::new(alloc);
         payload.reserve_exact(bytes.len())?;
@@ -98,7 +103,7 @@ impl Packed {
     /// The frame of status 0 and a payload that is held without an allocation.
     #[inline(always)]
     pub(crate) fn short(alloc: Global, id: RequestId, payload: &[u8]) -> Packed
-        requires { length payload.now ≤ 144 }
+        requires { length payload.now ≤ inline_size }
         ensures { result ≡ frame id.0 (pos 0) payload.now }
     {
         Packed::new(alloc, id, 0, payload).unwrap()

@@ -1,10 +1,10 @@
 // A reply that was spent.
 ghost use Rattle.std.specs.Prelude.{◌≡◌};
-ghost use Rattle.fuse_reply.specs.Frame.{reply};
+ghost use Rattle.fuse_reply.specs.Frame.{reply, IsReply};
 ghost use Rattle.fuse_reply.specs.Answer.{IsAnswer};
 ghost use Rattle.fuse_reply.specs.Answer.Answer.{Error};
 
-use crate::{Out, Packed};
+use crate::{Out, Packed, ReplyFrame};
 use fuse_wire::{Errno, RequestId};
 use std::alloc::Global;
 use std::marker::Model;
@@ -24,12 +24,15 @@ impl Model for Replied {
 }
 
 impl Replied {
-    /// What this reply came to.
+    /// The reply came to this frame.
     #[inline(always)]
-    pub(crate) fn new(out: Out) -> Replied
-        ensures { result ≡ out }
+    pub(crate) fn by(packed: Packed) -> Replied
+        requires { IsReply packed }
+        ensures { result ≡ Out.Frame packed }
     {
-        Replied { out }
+        Replied {
+            out: Out::Frame(ReplyFrame::new(packed)),
+        }
     }
 
     /// The request of this id failed.
@@ -38,7 +41,7 @@ impl Replied {
         ensures reply { result ≡ Out.Frame (reply id.0 (Error error)) }
         ensures answer { IsAnswer (Error error) }
     {
-        Replied::new(Out::Frame(Packed::bare(alloc, id, -error.code())))
+        Replied::by(Packed::bare(alloc, id, -error.code()))
     }
 
     /// What goes out.

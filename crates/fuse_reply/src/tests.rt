@@ -251,7 +251,12 @@ fn long_frame() -> [u8; 161] {
 fn packs_more_than_is_held_inline(rt: HostRuntime) -> Result<(), Fail> {
     let alloc = rt.alloc();
     let packed = Packed::new(alloc, ID, 0, &[7; 145])?;
-    sends_frame(&rt, alloc, Out::Frame(packed), &long_frame());
+    let mut sink = MemorySink::new(alloc, Vec::new(alloc));
+    assert_eq!(rt; packed.send(&mut sink), Sending::Sent);
+    assert_eq!(rt; sink.frames().len(), 1);
+    for frame in sink.frames() {
+        assert_eq!(rt; frame.as_slice(), long_frame().as_slice());
+    }
     Ok(())
 }
 

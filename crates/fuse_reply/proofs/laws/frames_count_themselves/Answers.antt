@@ -1,14 +1,18 @@
--- Each reply is a frame, and frames on a stream split.
-use Rattle.fuse_reply.specs.Frame.{reply}
-use Rattle.fuse_reply.proofs.FrameLaws.{is_frame-reply}
-use Rattle.fuse_reply.proofs.Splitting.{frames-append, frames-replies}
+-- Frames on a stream split, and so do replies.
+use Rattle.fuse_reply.specs.Frame.{frame}
+use Rattle.fuse_reply.proofs.FrameLaws.{is_frame-frame}
+use Rattle.fuse_reply.proofs.Splitting.{frames-append, frames-frame_of, frames-reply_frames}
 use Rattle.fuse_reply.proofs.laws.frames_count_themselves.Goals as goal
 
 pub returns-clause-counted : goal.returns-clause-counted
-returns-clause-counted c id answer valid = (is_frame-reply id answer valid).length_field
+returns-clause-counted c id status payload fits = (is_frame-frame id status payload fits).length_field
 
 pub returns-clause-first : goal.returns-clause-first
-returns-clause-first c id answer behind valid = frames-append (reply id answer) behind (is_frame-reply id answer valid)
+returns-clause-first c id status payload after fits =
+    frames-append (frame id status payload) after (is_frame-frame id status payload fits)
 
 pub returns-clause-split : goal.returns-clause-split
-returns-clause-split c answered each = frames-replies answered each
+returns-clause-split c parts each = frames-frame_of parts each
+
+pub returns-clause-replies : goal.returns-clause-replies
+returns-clause-replies c sent each = frames-reply_frames sent each

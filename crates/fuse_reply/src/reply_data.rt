@@ -1,0 +1,34 @@
+// A reply of bytes.
+ghost use Rattle.std.specs.Prelude.{◌≡◌, ◌≤◌, length};
+ghost use Rattle.fuse_reply.specs.Sizes.{max_payload, inline_size};
+ghost use Rattle.fuse_reply.specs.Frame.{reply};
+ghost use Rattle.fuse_reply.specs.Reply.{RepliesWith};
+ghost use Rattle.fuse_reply.specs.Answer.{IsAnswer};
+ghost use Rattle.fuse_reply.specs.Answer.Answer.{Data};
+ghost use Rattle.fuse_reply.specs.declared.out.Out.{Out};
+
+use crate::{Packed, Replied, Reply};
+use fuse_wire::{Errno, NoMemory};
+
+/// The kind of a reply that carries bytes.
+#[derive(Debug)]
+pub struct Bytes;
+
+/// The reply to a request that is answered by bytes.
+pub type ReplyData = Reply<Bytes>;
+
+impl Reply<Bytes> {
+    /// These are the bytes. Where they are more than 144 and no memory is to be had for them, it failed for that.
+    pub fn data(self, bytes: &[u8]) -> Replied
+        requires { length bytes.now ≤ max_payload }
+        ensures replies { RepliesWith self (Data bytes.now) result }
+        ensures answer { IsAnswer (Data bytes.now) }
+        ensures inline { length bytes.now ≤ inline_size → result ≡ Out.Frame (reply self (Data bytes.now)) }
+    {
+        let (alloc, id) = self.into_parts();
+        match Packed::of_data(alloc, id, bytes) {
+            Ok(packed) => Replied::by(packed),
+            Err(NoMemory) => Replied::failed(alloc, id, Errno::ENOMEM),
+        }
+    }
+}

@@ -1,0 +1,24 @@
+// A reply without a payload.
+ghost use Rattle.std.specs.Prelude.{◌≡◌};
+ghost use Rattle.fuse_reply.specs.Frame.{reply};
+ghost use Rattle.fuse_reply.specs.Answer.Answer.{Empty};
+ghost use Rattle.fuse_reply.specs.declared.out.Out.{Out};
+
+use crate::{Packed, Replied, Reply};
+
+/// The kind of a reply that carries a status alone.
+#[derive(Debug)]
+pub struct Statuses;
+
+/// The reply to a request that is answered by a status alone.
+pub type ReplyEmpty = Reply<Statuses>;
+
+impl Reply<Statuses> {
+    /// It is done.
+    pub fn ok(self) -> Replied
+        ensures { result ≡ Out.Frame (reply self Empty) }
+    {
+        let (alloc, id) = self.into_parts();
+        Replied::by(Packed::bare(alloc, id, 0))
+    }
+}

@@ -1,0 +1,51 @@
+// The frame of a reply.
+ghost use Rattle.std.specs.Prelude.{◌≡◌};
+ghost use Rattle.fuse_wire.specs.Sink.{Sends};
+ghost use Rattle.fuse_reply.specs.Frame.{IsReply};
+
+use crate::Packed;
+use fuse_wire::{Sending, Sink};
+use std::marker::Model;
+
+/// The frame that answers a request. A contract sees its bytes, and they are a reply to some request, always.
+#[derive(Debug, Drop)]
+pub struct ReplyFrame {
+    packed: Packed,
+}
+
+impl Model for ReplyFrame {
+    ghost use Rattle.std.specs.Prelude.{ℕ, List};
+    ghost use Rattle.fuse_reply.specs.Frame.{IsReply};
+
+    ghost Value = { List ℕ };
+
+    ghost view = { λ f. f.packed };
+
+    ghost invariant = { λ f. IsReply f.packed };
+}
+
+impl ReplyFrame {
+    /// This frame, which is a reply.
+    #[inline(always)]
+    pub(crate) fn new(packed: Packed) -> ReplyFrame
+        requires { IsReply packed }
+        ensures { result ≡ packed }
+    {
+        ReplyFrame { packed }
+    }
+
+    /// Does nothing. Its contract says what the frame is.
+    pub fn is_reply(&self)
+        ensures { IsReply self.now }
+    {
+        let _ = &self.packed;
+    }
+
+    /// Sends the frame.
+    #[inline(always)]
+    pub(crate) fn send<K: Sink>(&self, sink: &mut K) -> Sending
+        ensures { Sends result self.now (K.told sink.old) (K.told sink.new) }
+    {
+        self.packed.send(sink)
+    }
+}
