@@ -1,5 +1,6 @@
 -- Frames: what their fields read, and which of them are replies.
-use Rattle.std.proofs.Common.{◌≡◌, ◌≤◌, ◌<◌, ◌+◌, ◌-◌, ◌^◌, ◌++◌, ◌&&◌, ℕ, ℤ, pos, zero, suc, List, [], false, length, ap, sym, ◌∙◌, arith, negsuc, nat_lt, lit<, inl, inr, subst, FitsSigned}
+use Rattle.std.proofs.Common.{◌≡◌, ◌≤◌, ◌<◌, ◌+◌, ◌-◌, ◌^◌, ◌++◌, ◌&&◌, ℕ, ℤ, pos, zero, suc, List, []}
+use Rattle.std.proofs.Common.{false, length, ap, sym, ◌∙◌, arith, negsuc, nat_lt, lit<, inl, inr, subst, FitsSigned}
 use Rattle.std.proofs.Math.Bool.{and-false}
 use Rattle.std.proofs.lemmas.Bool.{le-ltb}
 use Rattle.std.proofs.lemmas.Int.{to_z-of_z}

@@ -3,3 +3,4 @@ pub mod PayloadLength
 pub mod FrameLaws
 pub mod Splitting
 pub mod NoticeLaws
+pub mod AreReplies

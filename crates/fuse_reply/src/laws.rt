@@ -1,12 +1,14 @@
 //! Laws of the definitions. Each function here does nothing: its contract is the law.
-ghost use Rattle.std.specs.Prelude.{◌≡◌, ◌<◌, ◌≤◌, ◌≤ℤ◌, ◌^◌, ◌++◌, ◌∷◌, ℕ, ℤ, List, true, false, length, map, pos, neg_ℤ};
+ghost use Rattle.std.specs.Prelude.{◌≡◌, ◌<◌, ◌≤◌, ◌≤ℤ◌, ◌^◌, ◌++◌, ◌∷◌};
+ghost use Rattle.std.specs.Prelude.{ℕ, ℤ, List, true, false, length, map, pos, neg_ℤ};
 ghost use Rattle.std.specs.List.{AllByRecursion, concat};
 ghost use Rattle.fuse_wire.specs.Frames.{frame_length, frames};
 ghost use Rattle.fuse_wire.specs.Numbered.{SaysSame};
 ghost use Rattle.fuse_reply.specs.Sizes.{max_payload};
 ghost use Rattle.fuse_reply.specs.Answer.{Answer, IsAnswer};
 ghost use Rattle.fuse_reply.specs.Answer.Answer.{Error};
-ghost use Rattle.fuse_reply.specs.Frame.{frame, frame_of, frame_status, is_set_aside, reply, reply_frames, answer_status, IsReply};
+ghost use Rattle.fuse_reply.specs.Frame.{frame, frame_of, frame_status, is_set_aside};
+ghost use Rattle.fuse_reply.specs.Frame.{answer_status, reply, reply_frames, IsReply};
 ghost use Rattle.fuse_reply.specs.Notice.{Notice, IsNotice, notice, notify_code};
 
 use crate::{Out, OutEnd};
@@ -14,7 +16,8 @@ use crate::{Out, OutEnd};
 /// No reply is set aside, whatever its request's id is: its frame's status is the answer's, which is at most 0.
 pub fn replies_are_not_set_aside()
     ensures kept { (id : ℕ) (answer : Answer) → IsAnswer answer → is_set_aside (reply id answer) ≡ false }
-    ensures status { (id : ℕ) (answer : Answer) → IsAnswer answer → frame_status (reply id answer) ≡ answer_status answer }
+    ensures status { (id : ℕ) (answer : Answer) → IsAnswer answer
+        → frame_status (reply id answer) ≡ answer_status answer }
     ensures sign { (answer : Answer) → answer_status answer ≤ℤ pos 0 }
 {}
 
@@ -28,7 +31,8 @@ pub fn frames_that_go_out_are_replies(out: &Out)
     }
 }
 
-/// A notice is set aside, since its frame's status is its code, which is at least 1. In range it begins with its own length.
+/// A notice is set aside: its frame's status is its code, which is at least 1. The frame of one in range begins with its
+/// own length.
 pub fn notices_are_set_aside()
     ensures aside { (n : Notice) → is_set_aside (notice n) ≡ true }
     ensures status { (n : Notice) → frame_status (notice n) ≡ pos (notify_code n) }

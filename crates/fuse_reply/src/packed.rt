@@ -50,7 +50,8 @@ fn header_of(id: RequestId, status: i32, payload: usize) -> [u8; OUT_HEADER_SIZE
 }
 
 impl Packed {
-    /// The frame of a request's id, a status and a payload. A payload of up to 144 bytes takes no memory.
+    /// The frame of a request's id, a status and a payload. A payload of up to 144 bytes takes no memory. An error
+    /// comes where the payload is longer and there is no memory for it.
     pub fn new(
         alloc: Global,
         id: RequestId,
@@ -78,8 +79,8 @@ impl Packed {
         }
     }
 
-    /// The frame of status 0 and these bytes, as by `new`. It stands where they are copied to, so that they are not moved
-    /// again.
+    /// The frame of status 0 and these bytes, as by `new`. It stands where they are copied to, so that they are not
+    /// moved again.
     #[inline(always)]
     pub(crate) fn of_data(alloc: Global, id: RequestId, bytes: &[u8]) -> Result<Packed, NoMemory>
         requires { length bytes.now ≤ max_payload }

@@ -11,8 +11,8 @@ use fuse_wire::{Errno, RequestId};
 use std::alloc::Global;
 use std::marker::{Model, PhantomData};
 
-/// The reply to one request. Its kind says which answers it may be given; an error is an answer of each kind. It must be
-/// spent, once. A contract sees the request's id.
+/// The reply to one request. Its kind says what it may be answered by; each kind may be answered by an error. It must
+/// be spent, once. A contract sees the request's id.
 #[derive(Debug)]
 pub struct Reply<Kind> {
     id: RequestId,

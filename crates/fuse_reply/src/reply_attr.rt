@@ -17,6 +17,7 @@ pub struct Attrs;
 pub type ReplyAttr = Reply<Attrs>;
 
 impl Reply<Attrs> {
+    #[tactic(auto, using(crate::proofs::AreReplies::attr_is_reply))]
     /// The inode has these attributes, which hold for so long.
     pub fn attr(self, ttl: &Duration, attr: &FileAttr) -> Replied
         ensures reply { result ≡ Out.Frame (reply self (Attr ttl.now attr.now)) }

@@ -18,6 +18,7 @@ pub struct Bytes;
 pub type ReplyData = Reply<Bytes>;
 
 impl Reply<Bytes> {
+    #[tactic(auto, using(crate::proofs::AreReplies::data_is_reply))]
     /// These are the bytes. Where they are more than 144 and no memory is to be had for them, it failed for that.
     pub fn data(self, bytes: &[u8]) -> Replied
         requires { length bytes.now ≤ max_payload }
