@@ -2,6 +2,7 @@
 use Rattle.std.specs.Prelude.{ℕ, ◌+◌, ◌-◌, ◌*◌, ◌/◌, ◌%◌, ◌^◌, ◌++◌, ◌==◌, List, Option, None, Some, min, max, take, nat_lt, if◌then◌else◌, replicate}
 use Rattle.std.specs.Int.{w16, w32, to_le_bytes}
 use Rattle.std.specs.Int.RustNames.{bit_and, bit_or}
+use Rattle.fuse_wire.specs.declared.consts.TheConstants.{FUSE_KERNEL_VERSION, FUSE_KERNEL_MINOR_VERSION}
 use Rattle.fuse_wire.specs.declared.newtypes.Version.{Version}
 use Rattle.fuse_config.specs.Values.{Configuration}
 
@@ -63,13 +64,21 @@ depth_of config offered = if bit_and (granted_of config offered) passthrough == 
 -- major4 minor4 max_readahead4 flags4 max_background2 congestion_threshold2 max_write4 time_gran4 max_pages2 _2 flags2 4 max_stack_depth4 _24
 abbrev pub init_layout : (max_readahead flags max_background threshold max_write time_gran max_pages flags2 depth : ℕ) → List ℕ
 init_layout max_readahead flags max_background threshold max_write time_gran max_pages flags2 depth =
-    to_le_bytes w32 7 ++ to_le_bytes w32 40 ++ to_le_bytes w32 max_readahead ++ to_le_bytes w32 flags
+    to_le_bytes w32 FUSE_KERNEL_VERSION ++ to_le_bytes w32 FUSE_KERNEL_MINOR_VERSION ++ to_le_bytes w32 max_readahead ++ to_le_bytes w32 flags
     ++ to_le_bytes w16 max_background ++ to_le_bytes w16 threshold ++ to_le_bytes w32 max_write ++ to_le_bytes w32 time_gran
     ++ to_le_bytes w16 max_pages ++ replicate 2 0 ++ to_le_bytes w32 flags2 ++ to_le_bytes w32 depth ++ replicate 24 0
 
+-- how many of these bytes a kernel takes that speaks a minor version below 23 (`FUSE_COMPAT_22_INIT_OUT_SIZE` of `fuse.h`)
+abbrev pub compat_22_init_out_size : ℕ
+compat_22_init_out_size = 24
+
+-- how many there are
+abbrev pub init_out_size : ℕ
+init_out_size = 64
+
 -- how many of these bytes a kernel of that minor version takes
 abbrev pub init_payload_length : ℕ → ℕ
-init_payload_length minor = if nat_lt minor 23 then 24 else 64
+init_payload_length minor = if nat_lt minor 23 then compat_22_init_out_size else init_out_size
 
 -- the payload of the INIT reply
 unfoldable pub init_payload : Configuration → (offered minor page : ℕ) → List ℕ
@@ -81,4 +90,4 @@ init_payload config offered minor page =
 
 -- the reply to a kernel of a later major version: the version that is spoken, and zeros
 abbrev pub version_payload : List ℕ
-version_payload = to_le_bytes w32 7 ++ to_le_bytes w32 40 ++ replicate 56 0
+version_payload = to_le_bytes w32 FUSE_KERNEL_VERSION ++ to_le_bytes w32 FUSE_KERNEL_MINOR_VERSION ++ replicate 56 0

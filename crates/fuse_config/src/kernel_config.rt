@@ -1,9 +1,11 @@
 // What INIT negotiates.
 ghost use Rattle.std.specs.Prelude.{◌≡◌, ◌≤◌, ◌<◌, length, take};
 ghost use Rattle.std.specs.Int.RustNames.{bit_and};
-ghost use Rattle.fuse_config.specs.Configuration.{start, known_without_ext, threshold_of, max_pages_of, granted_of, init_layout, init_payload, init_payload_length, version_payload};
+ghost use Rattle.fuse_config.specs.Configuration.{start, known_without_ext, threshold_of, max_pages_of, granted_of};
+ghost use Rattle.fuse_config.specs.Configuration.{init_layout, init_payload, init_payload_length, version_payload};
 
 use bitflags::Flags;
+use fuse_wire::consts::{FUSE_KERNEL_MINOR_VERSION, FUSE_KERNEL_VERSION};
 use fuse_wire::{Duration, InitFlags, Version};
 use std::marker::Model;
 
@@ -15,6 +17,12 @@ const DEFAULT_MAX_WRITE: u32 = 16777216;
 
 /// The first minor version whose INIT reply has all its fields.
 const LONG_REPLY_MINOR: u32 = 23;
+
+/// How many bytes the payload of an INIT reply has: those of `struct fuse_init_out`.
+const INIT_OUT_SIZE: usize = 64;
+
+/// How many of them an earlier minor version takes: `FUSE_COMPAT_22_INIT_OUT_SIZE`.
+const COMPAT_22_INIT_OUT_SIZE: usize = 24;
 
 /// What the kernel offers, and what the filesystem wants of it. A contract sees the record of its values.
 #[derive(Debug, Drop)]
@@ -116,7 +124,12 @@ impl KernelConfig {
     /// The payload of the INIT reply to a kernel that offered these capabilities and speaks this minor version, where a
     /// page has so many bytes. The number is how many bytes of it are sent. (`struct fuse_init_out` of `fuse.h`.)
     #[tactic(auto, unfolding(crate::specs::Configuration::init_payload))]
-    pub fn init_reply(&self, capabilities: InitFlags, minor: u32, page: u32) -> ([u8; 64], usize)
+    pub fn init_reply(
+        &self,
+        capabilities: InitFlags,
+        minor: u32,
+        page: u32,
+    ) -> ([u8; INIT_OUT_SIZE], usize)
         requires minor { 6 ≤ minor }
         requires page { 0 < page }
         ensures payload { take result.1 result.0 ≡ init_payload self.now capabilities.0 minor page }
@@ -140,7 +153,12 @@ impl KernelConfig {
             flags2,
             max_stack_depth: depth,
         });
-        (payload, if minor < LONG_REPLY_MINOR { 24 } else { 64 })
+        let length = if minor < LONG_REPLY_MINOR {
+            COMPAT_22_INIT_OUT_SIZE
+        } else {
+            INIT_OUT_SIZE
+        };
+        (payload, length)
     }
 
     /// What is granted of the capabilities offered: what was requested, and the word that there are more.
@@ -153,7 +171,7 @@ impl KernelConfig {
     }
 }
 
-/// The fields of the INIT reply behind the version.
+/// The fields of the INIT reply after the version.
 #[derive(Drop)]
 struct InitReply {
     max_readahead: u32,
@@ -168,7 +186,7 @@ struct InitReply {
 }
 
 /// The whole payload of the INIT reply.
-fn init_bytes(reply: &InitReply) -> [u8; 64]
+fn init_bytes(reply: &InitReply) -> [u8; INIT_OUT_SIZE]
     ensures { result ≡ init_layout (reply.now.max_readahead) reply.now.flags reply.now.max_background
         reply.now.congestion_threshold reply.now.max_write reply.now.time_gran reply.now.max_pages reply.now.flags2
         reply.now.max_stack_depth }
@@ -182,19 +200,21 @@ fn init_bytes(reply: &InitReply) -> [u8; 64]
     let [p0, p1] = reply.max_pages.to_le_bytes();
     let [h0, h1, h2, h3] = reply.flags2.to_le_bytes();
     let [d0, d1, d2, d3] = reply.max_stack_depth.to_le_bytes();
+    let major = FUSE_KERNEL_VERSION as u8;
+    let minor = FUSE_KERNEL_MINOR_VERSION as u8;
     [
-        7, 0, 0, 0, 40, 0, 0, 0, r0, r1, r2, r3, f0, f1, f2, f3, b0, b1, t0, t1, w0, w1, w2, w3,
-        g0, g1, g2, g3, p0, p1, 0, 0, h0, h1, h2, h3, d0, d1, d2, d3, 0, 0, 0, 0, 0, 0, 0, 0, 0, 0,
-        0, 0, 0, 0, 0, 0, 0, 0, 0, 0, 0, 0, 0, 0,
+        major, 0, 0, 0, minor, 0, 0, 0, r0, r1, r2, r3, f0, f1, f2, f3, b0, b1, t0, t1, w0, w1, w2,
+        w3, g0, g1, g2, g3, p0, p1, 0, 0, h0, h1, h2, h3, d0, d1, d2, d3, 0, 0, 0, 0, 0, 0, 0, 0,
+        0, 0, 0, 0, 0, 0, 0, 0, 0, 0, 0, 0, 0, 0, 0, 0,
     ]
 }
 
 /// The payload of the reply to a kernel that speaks a later major version: the version spoken here, and zeros.
-pub fn version_reply() -> [u8; 64]
+pub fn version_reply() -> [u8; INIT_OUT_SIZE]
     ensures { result ≡ version_payload }
 {
-    let mut payload = [0; 64];
-    payload[0] = 7;
-    payload[4] = 40;
+    let mut payload = [0; INIT_OUT_SIZE];
+    payload[0] = FUSE_KERNEL_VERSION as u8;
+    payload[4] = FUSE_KERNEL_MINOR_VERSION as u8;
     payload
 }
