@@ -95,8 +95,10 @@ mod tests {
         let read = ReplyData::new(alloc, RequestId(3)).data(&[16, 0, 0]);
         let lowest = ReplyEmpty::new(alloc, RequestId(4)).error(Errno::from_i32(0x7fff_ffff));
         let mut sink = StreamSink::new(MemoryOut::new(alloc, 1000, Vec::new(alloc)));
+        let denied = denied.into_out();
+        frames_that_go_out_are_replies(&denied);
         let ends = [
-            denied.into_out().send(&mut sink),
+            denied.send(&mut sink),
             missing.into_out().send(&mut sink),
             read.into_out().send(&mut sink),
             lowest.into_out().send(&mut sink),

@@ -22,6 +22,6 @@ pub use replied::Replied;
 pub use reply::Reply;
 pub use reply_attr::{Attrs, ReplyAttr};
 pub use reply_data::{Bytes, ReplyData};
-pub use reply_empty::{ReplyEmpty, Statuses};
+pub use reply_empty::{Nothing, ReplyEmpty};
 pub use reply_entry::{Entries, ReplyEntry};
 pub use reply_frame::ReplyFrame;

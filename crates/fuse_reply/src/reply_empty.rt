@@ -6,14 +6,14 @@ ghost use Rattle.fuse_reply.specs.declared.out.Out.{Out};
 
 use crate::{Packed, Replied, Reply};
 
-/// The kind of a reply that carries a status alone.
+/// The kind of a reply that carries nothing but its status.
 #[derive(Debug)]
-pub struct Statuses;
+pub struct Nothing;
 
 /// The reply to a request that is answered by a status alone.
-pub type ReplyEmpty = Reply<Statuses>;
+pub type ReplyEmpty = Reply<Nothing>;
 
-impl Reply<Statuses> {
+impl Reply<Nothing> {
     /// It is done.
     pub fn ok(self) -> Replied
         ensures { result ≡ Out.Frame (reply self Empty) }

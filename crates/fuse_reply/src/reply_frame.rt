@@ -35,7 +35,7 @@ impl ReplyFrame {
     }
 
     /// Does nothing. Its contract says what the frame is.
-    pub fn is_reply(&self)
+    pub(crate) fn is_reply(&self)
         ensures { IsReply self.now }
     {
         let _ = &self.packed;
