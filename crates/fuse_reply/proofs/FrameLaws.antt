@@ -1,4 +1,4 @@
--- Frames: what their fields read, and which of them are replies.
+-- Frames: what their fields read, and which of them are set aside.
 use Rattle.std.proofs.Common.{◌≡◌, ◌≤◌, ◌<◌, ◌+◌, ◌-◌, ◌^◌, ◌++◌, ◌&&◌, ℕ, ℤ, pos, zero, suc, List, []}
 use Rattle.std.proofs.Common.{false, length, ap, sym, ◌∙◌, arith, negsuc, nat_lt, lit<, inl, inr, subst, FitsSigned}
 use Rattle.std.proofs.Math.Bool.{and-false}
@@ -49,7 +49,7 @@ pub frame_status-frame : (id : ℕ) (status : ℤ) (p : List ℕ) → FitsSigned
 frame_status-frame id status p fits =
     ap (cast_signed w32) (number-frame_status id status p (Fits-of_z fits).fits) ∙ to_z-of_z w32 status fits
 
--- a frame whose status is zero is a reply
+-- a frame whose status is zero is not set aside
 pub not_set_aside-frame_zero : (id : ℕ) (p : List ℕ) → is_set_aside (frame id (pos 0) p) ≡ false
 not_set_aside-frame_zero id p = ap (λ n. nat_lt 0 n && nat_lt n (2 ^ 31)) (number-frame_status id (pos 0) p (omega arith))
 

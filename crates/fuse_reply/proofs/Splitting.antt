@@ -59,22 +59,23 @@ frames-append frame rest is_frame =
     frames_in-first (length (frame ++ rest)) frame rest is_frame (omega (arith, header, total))
 
 -- each of them is a frame
-each_frame : (parts : List (ℕ × ℤ × List ℕ)) → AllByRecursion (λ p. length p.2 ≤ max_payload) parts
+each_frame : (parts : List (ℕ × ℤ × List ℕ)) → AllByRecursion (λ part. length part.2 ≤ max_payload) parts
     → AllByRecursion IsFrame (map frame_of parts)
-each_frame [] each = tt
-each_frame (p ∷ parts) each = (is_frame-frame p.0 p.1 p.2 each.0, each_frame parts each.1)
+each_frame [] short = tt
+each_frame (part ∷ parts) short = (is_frame-frame part.0 part.1 part.2 short.0, each_frame parts short.1)
 
 -- frames on a stream split into just those
-pub frames-frame_of : (parts : List (ℕ × ℤ × List ℕ)) → AllByRecursion (λ p. length p.2 ≤ max_payload) parts
+pub frames-frame_of : (parts : List (ℕ × ℤ × List ℕ)) → AllByRecursion (λ part. length part.2 ≤ max_payload) parts
     → frames (concat (map frame_of parts)) ≡ map frame_of parts
-frames-frame_of parts each = frames-concat (map frame_of parts) (each_frame parts each)
+frames-frame_of parts short = frames-concat (map frame_of parts) (each_frame parts short)
 
 -- each reply is a frame
-each_reply_frame : (sent : List (ℕ × Answer)) → AllByRecursion (λ s. IsAnswer s.1) sent → AllByRecursion IsFrame (reply_frames sent)
-each_reply_frame [] each = tt
-each_reply_frame (s ∷ sent) each = (is_frame-reply s.0 s.1 each.0, each_reply_frame sent each.1)
+each_reply_frame : (answers : List (ℕ × Answer)) → AllByRecursion (λ (id, answer). IsAnswer answer) answers
+    → AllByRecursion IsFrame (reply_frames answers)
+each_reply_frame [] in_range = tt
+each_reply_frame (a ∷ answers) in_range = (is_frame-reply a.0 a.1 in_range.0, each_reply_frame answers in_range.1)
 
 -- replies on a stream split into just those
-pub frames-reply_frames : (sent : List (ℕ × Answer)) → AllByRecursion (λ s. IsAnswer s.1) sent
-    → frames (concat (reply_frames sent)) ≡ reply_frames sent
-frames-reply_frames sent each = frames-concat (reply_frames sent) (each_reply_frame sent each)
+pub frames-reply_frames : (answers : List (ℕ × Answer)) → AllByRecursion (λ (id, answer). IsAnswer answer) answers
+    → frames (concat (reply_frames answers)) ≡ reply_frames answers
+frames-reply_frames answers in_range = frames-concat (reply_frames answers) (each_reply_frame answers in_range)

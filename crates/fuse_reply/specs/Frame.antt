@@ -49,7 +49,7 @@ pub record IsReply (bytes : List ℕ) : Type 0 where
 
 -- the frames of answers, each with the id of its request
 abbrev pub reply_frames : List (ℕ × Answer) → List (List ℕ)
-reply_frames = map (λ sent. reply sent.0 sent.1)
+reply_frames = map (λ (id, answer). reply id answer)
 
 -- the status of a frame: after the length, in two's complement
 abbrev pub frame_status : List ℕ → ℤ

@@ -2,7 +2,7 @@
 ghost use Rattle.std.specs.Prelude.{◌≡◌, ◌<◌, ◌≤◌, ◌≤ℤ◌, ◌^◌, ◌++◌, ◌∷◌};
 ghost use Rattle.std.specs.Prelude.{ℕ, ℤ, List, true, false, length, map, pos, neg_ℤ};
 ghost use Rattle.std.specs.List.{AllByRecursion, concat};
-ghost use Rattle.fuse_wire.specs.Frames.{frame_length, frames};
+ghost use Rattle.fuse_wire.specs.Frames.{frame_length, frames, IsFrame};
 ghost use Rattle.fuse_wire.specs.Numbered.{SaysSame};
 ghost use Rattle.fuse_reply.specs.Sizes.{max_payload};
 ghost use Rattle.fuse_reply.specs.Answer.{Answer, IsAnswer};
@@ -21,18 +21,19 @@ pub fn replies_are_not_set_aside()
     ensures sign { (answer : Answer) → answer_status answer ≤ℤ pos 0 }
 {}
 
-/// What goes out as a frame is a reply, and so it is not set aside.
+/// What goes out as a frame is a reply. So it is not set aside, and it is one whole frame.
 pub fn frames_that_go_out_are_replies(out: &Out)
     ensures reply { (bytes : List ℕ) → out.now ≡ Out.Frame bytes → IsReply bytes }
     ensures kept { (bytes : List ℕ) → out.now ≡ Out.Frame bytes → is_set_aside bytes ≡ false }
+    ensures whole { (bytes : List ℕ) → out.now ≡ Out.Frame bytes → IsFrame bytes }
 {
     if let Out::Frame(frame) = out {
         frame.is_reply();
     }
 }
 
-/// A notice is set aside: its frame's status is its code, which is at least 1. The frame of one in range begins with its
-/// own length.
+/// A notice is set aside: its frame's status is its code, which is at least 1. The frame of one in range begins with
+/// its own length.
 pub fn notices_are_set_aside()
     ensures aside { (n : Notice) → is_set_aside (notice n) ≡ true }
     ensures status { (n : Notice) → frame_status (notice n) ≡ pos (notify_code n) }
@@ -52,10 +53,10 @@ pub fn frames_count_themselves()
         → frame_length (frame id status payload) ≡ length (frame id status payload) }
     ensures first { (id : ℕ) (status : ℤ) (payload after : List ℕ) → length payload ≤ max_payload
         → frames (frame id status payload ++ after) ≡ frame id status payload ∷ frames after }
-    ensures split { (parts : List (ℕ × ℤ × List ℕ)) → AllByRecursion (λ p. length p.2 ≤ max_payload) parts
+    ensures split { (parts : List (ℕ × ℤ × List ℕ)) → AllByRecursion (λ part. length part.2 ≤ max_payload) parts
         → frames (concat (map frame_of parts)) ≡ map frame_of parts }
-    ensures replies { (sent : List (ℕ × Answer)) → AllByRecursion (λ s. IsAnswer s.1) sent
-        → frames (concat (reply_frames sent)) ≡ reply_frames sent }
+    ensures replies { (answers : List (ℕ × Answer)) → AllByRecursion (λ (id, answer). IsAnswer answer) answers
+        → frames (concat (reply_frames answers)) ≡ reply_frames answers }
 {}
 
 /// What became of a message is equal where it is the same.

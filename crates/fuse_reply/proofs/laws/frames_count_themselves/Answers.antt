@@ -12,7 +12,7 @@ returns-clause-first c id status payload after fits =
     frames-append (frame id status payload) after (is_frame-frame id status payload fits)
 
 pub returns-clause-split : goal.returns-clause-split
-returns-clause-split c parts each = frames-frame_of parts each
+returns-clause-split c parts short = frames-frame_of parts short
 
 pub returns-clause-replies : goal.returns-clause-replies
-returns-clause-replies c sent each = frames-reply_frames sent each
+returns-clause-replies c answers in_range = frames-reply_frames answers in_range
