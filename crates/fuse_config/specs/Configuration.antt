@@ -68,17 +68,21 @@ init_layout max_readahead flags max_background threshold max_write time_gran max
     ++ to_le_bytes w16 max_background ++ to_le_bytes w16 threshold ++ to_le_bytes w32 max_write ++ to_le_bytes w32 time_gran
     ++ to_le_bytes w16 max_pages ++ replicate 2 0 ++ to_le_bytes w32 flags2 ++ to_le_bytes w32 depth ++ replicate 24 0
 
--- how many of these bytes a kernel takes that speaks a minor version below 23 (`FUSE_COMPAT_22_INIT_OUT_SIZE` of `fuse.h`)
-abbrev pub compat_22_init_out_size : ℕ
-compat_22_init_out_size = 24
-
--- how many there are
+-- how many bytes these are
 abbrev pub init_out_size : ℕ
 init_out_size = 64
 
+-- how many of them an earlier minor version takes (`FUSE_COMPAT_22_INIT_OUT_SIZE` of `fuse.h`)
+abbrev pub compat_22_init_out_size : ℕ
+compat_22_init_out_size = 24
+
+-- the first minor version that takes them all
+abbrev pub long_reply_minor : ℕ
+long_reply_minor = 23
+
 -- how many of these bytes a kernel of that minor version takes
 abbrev pub init_payload_length : ℕ → ℕ
-init_payload_length minor = if nat_lt minor 23 then compat_22_init_out_size else init_out_size
+init_payload_length minor = if nat_lt minor long_reply_minor then compat_22_init_out_size else init_out_size
 
 -- the payload of the INIT reply
 unfoldable pub init_payload : Configuration → (offered minor page : ℕ) → List ℕ
