@@ -7,7 +7,7 @@ use Rattle.fuse_reply.specs.Attributes.{entry_payload, attr_payload}
 use Rattle.fuse_reply.specs.Frame.{frame, reply, IsReply}
 
 -- by any answer
-answer_is_reply : (f : List ℕ) (id : ℕ) (a : Answer) → f ≡ reply id a → id < 2 ^ 64 → IsAnswer a → IsReply f
+pub answer_is_reply : (f : List ℕ) (id : ℕ) (a : Answer) → f ≡ reply id a → id < 2 ^ 64 → IsAnswer a → IsReply f
 answer_is_reply f id a same id_in_range in_range =
     record { id = id; answer = a; id_in_range = id_in_range; answer_in_range = in_range; is_reply = same }
 
