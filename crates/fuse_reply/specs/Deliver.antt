@@ -1,5 +1,6 @@
 -- What becomes of what goes out.
-use Rattle.std.specs.Prelude.{◌≡◌, [], ◌∷◌}
+use Rattle.std.specs.Prelude.{◌≡◌, [], ◌∷◌, false}
+use Rattle.fuse_reply.specs.Frame.{is_set_aside}
 use Rattle.fuse_wire.specs.Sink.{SinkState, Appends, Refuses}
 use Rattle.fuse_reply.specs.declared.out.Out.{Out}
 use Rattle.fuse_reply.specs.declared.out.Out.TheVariants.{Frame, Note, Deferred}
@@ -20,3 +21,9 @@ Delivers Marked (Deferred seq id) before after = after ≡ before
 Delivers Written (Deferred seq id) before after = ⊥
 Delivers Noted (Deferred seq id) before after = ⊥
 Delivers Lost (Deferred seq id) before after = ⊥
+
+-- its frame, where it is one, is not set aside
+abbrev pub NoNotice : Out → Type 0
+NoNotice (Frame f) = is_set_aside f ≡ false
+NoNotice (Note id mark) = Unit {0}
+NoNotice (Deferred seq id) = Unit {0}

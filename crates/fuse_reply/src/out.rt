@@ -1,6 +1,6 @@
 // What goes out for a message.
 ghost use Rattle.std.specs.Prelude.{◌≡◌};
-ghost use Rattle.fuse_reply.specs.Deliver.{Delivers};
+ghost use Rattle.fuse_reply.specs.Deliver.{Delivers, NoNotice};
 
 use crate::ReplyFrame;
 use fuse_wire::{Noting, RequestId, Sending, Sink};
@@ -38,10 +38,11 @@ impl Out {
         Out::Note(id, mark)
     }
 
-    /// Hands it to a sink, once.
+    /// Hands it to a sink, once. A frame that goes out so is a reply, and no notice.
     #[inline(always)]
     pub fn send<K: Sink>(self, sink: &mut K) -> OutEnd
-        ensures { Delivers result self (K.told sink.old) (K.told sink.new) }
+        ensures delivers { Delivers result self (K.told sink.old) (K.told sink.new) }
+        ensures reply { NoNotice self }
     {
         match self {
             Out::Frame(frame) => match frame.send(sink) {

@@ -1,7 +1,7 @@
 // The frame of a reply.
-ghost use Rattle.std.specs.Prelude.{◌≡◌};
+ghost use Rattle.std.specs.Prelude.{◌≡◌, false};
 ghost use Rattle.fuse_wire.specs.Sink.{Sends};
-ghost use Rattle.fuse_reply.specs.Frame.{IsReply};
+ghost use Rattle.fuse_reply.specs.Frame.{IsReply, is_set_aside};
 
 use crate::Packed;
 use fuse_wire::{Sending, Sink};
@@ -41,10 +41,11 @@ impl ReplyFrame {
         let _ = &self.packed;
     }
 
-    /// Sends the frame.
+    /// Sends the frame, which is not set aside.
     #[inline(always)]
     pub(crate) fn send<K: Sink>(&self, sink: &mut K) -> Sending
-        ensures { Sends result self.now (K.told sink.old) (K.told sink.new) }
+        ensures sends { Sends result self.now (K.told sink.old) (K.told sink.new) }
+        ensures kept { is_set_aside self.now ≡ false }
     {
         self.packed.send(sink)
     }
