@@ -24,7 +24,8 @@ pub fn rules_are_equal_where_they_are_the_same()
 
 /// No capability is granted that was not offered.
 pub fn grants_only_what_was_offered()
-    ensures { (config : Configuration) (offered : ℕ) → bit_and (granted_of config offered) offered ≡ granted_of config offered }
+    ensures { (config : Configuration) (offered : ℕ) →
+        bit_and (granted_of config offered) offered ≡ granted_of config offered }
 {}
 
 /// The kernel calls the filesystem congested where as many requests wait as may wait, or before.
