@@ -5,26 +5,25 @@ use Rattle.fuse_request.specs.declared.request.Request.{Request}
 use Rattle.fuse_reply.specs.Answer.{Answer, IsAnswer}
 use Rattle.fuse_reply.specs.Answer.Answer.{Error}
 use Rattle.fuse_reply.specs.Frame.{reply}
-use Rattle.fuse_reply.specs.Reply.{Replies}
+use Rattle.fuse_reply.specs.Reply.{RepliesWith}
 use Rattle.fuse_reply.specs.declared.out.Out.{Out}
 use Rattle.fuse_reply.specs.declared.out.Out.TheVariants.{Frame}
-use Rattle.fuse_session.specs.Promise.{Answers}
+use Rattle.fuse_session.specs.Promise.{MayAnswer}
 use Rattle.fuse_session.specs.Owed.{Answered, IsOfKind}
 
 -- the reply came to this answer, which the promise allows
-pub Answered-replies : {F : Type 0} (may_answer : Answers F) (fs : F) (request : Request) (c : Call) (id : ℕ) (out : Out) (a : Answer)
-    → IsOfKind c a → IsAnswer a → may_answer fs request c a → Replies id a out → Answered may_answer fs request c id out
-Answered-replies may_answer fs request c id out a kind whole allowed replies =
-    (a, record { kind = kind; whole = whole; allowed = allowed }, replies)
+pub Answered-replies : {F : Type 0} {may_answer : MayAnswer F} {fs : F} {request : Request} {c : Call} {id : ℕ} {out : Out} (a : Answer)
+    → IsOfKind c a → IsAnswer a → may_answer fs request c a → RepliesWith id a out → Answered may_answer fs request c id out
+Answered-replies a kind whole allowed replies =
+    record { answer = a; allowed = record { kind = kind; whole = whole; allowed = allowed }; replies = replies }
 
 -- the reply is the frame of this answer
-pub Answered-frame : {F : Type 0} (may_answer : Answers F) (fs : F) (request : Request) (c : Call) (id : ℕ) (out : Out) (a : Answer)
+pub Answered-frame : {F : Type 0} {may_answer : MayAnswer F} {fs : F} {request : Request} {c : Call} {id : ℕ} {out : Out} (a : Answer)
     → IsOfKind c a → IsAnswer a → may_answer fs request c a → out ≡ Frame (reply id a) → Answered may_answer fs request c id out
-Answered-frame may_answer fs request c id out a kind whole allowed is =
-    Answered-replies may_answer fs request c id out a kind whole allowed (inl is)
+Answered-frame a kind whole allowed is = Answered-replies a kind whole allowed (inl is)
 
 -- the reply is the frame of this error
-pub Answered-error : {F : Type 0} (may_answer : Answers F) (fs : F) (request : Request) (c : Call) (id : ℕ) (out : Out) (errno : ℕ)
-    → 0 < errno → errno < 2 ^ 31 → may_answer fs request c (Error errno) → out ≡ Frame (reply id (Error errno)) → Answered may_answer fs request c id out
-Answered-error may_answer fs request c id out errno positive small allowed is =
-    Answered-frame may_answer fs request c id out (Error errno) tt (positive, small) allowed is
+pub Answered-error : {F : Type 0} {may_answer : MayAnswer F} {fs : F} {request : Request} {c : Call} {id : ℕ} {out : Out} (errno : ℕ)
+    → 0 < errno → errno < 2 ^ 31 → may_answer fs request c (Error errno) → out ≡ Frame (reply id (Error errno))
+    → Answered may_answer fs request c id out
+Answered-error errno positive small allowed is = Answered-frame (Error errno) tt (positive, small) allowed is

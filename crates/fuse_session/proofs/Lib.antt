@@ -1,12 +1,12 @@
-pub mod Taking
-pub mod Moving
-pub mod Order
-pub mod RunSteps
-pub mod ShakeSteps
-pub mod Dispatching
+mod Lists
+mod Taking
+mod Moving
+mod Order
+mod Serving
+mod Judging
 pub mod Answering
-pub mod Whole
-pub mod CauseLaws
-pub mod Flat
-pub mod TotalLaws
-pub mod CompleteLaws
+mod LoopSteps
+mod HandshakeSteps
+mod Exchanging
+mod Headlining
+mod Completing

@@ -1,33 +1,48 @@
 -- What stretches of a session move, one after another.
-use Rattle.std.proofs.Common.{◌≡◌, ◌≤◌, ◌<◌, ◌+◌, ◌++◌, ℕ, List, [], ◌∷◌, ◌∙◌, ap, arith, length, length-append}
+use Rattle.std.proofs.Common.{◌≡◌, ◌≤◌, ◌<◌, ◌+◌, ◌++◌, ℕ, List, [], ◌∷◌, ◌∙◌, ap}
+use Rattle.std.proofs.Common.{arith, length, length-append, subst, sym, refl, Bool, false, not, cond}
 use Rattle.fuse_wire.specs.Faults.{counted, last_count}
-use Rattle.fuse_wire.specs.Sink.{SinkState, Note, Refuses}
+use Rattle.fuse_wire.specs.Sink.{SinkState, Note, Refuses, Appends}
 use Rattle.fuse_wire.specs.declared.newtypes.RequestId.{RequestId}
 use Rattle.fuse_wire.proofs.Devices.{Appends-none, Appends-then}
+use Rattle.fuse_reply.specs.Frame.{is_set_aside}
 use Rattle.fuse_reply.specs.declared.out.Out.TheVariants.{Frame, Note as Noting}
 use Rattle.fuse_reply.specs.declared.out.OutEnd.{OutEnd}
 use Rattle.fuse_reply.specs.declared.out.OutEnd.TheVariants.{Written, Noted, Lost, Marked}
 use Rattle.fuse_reply.specs.Deliver.{Delivers}
-use Rattle.fuse_session.specs.Moves.{Moves, Hands, tally, counting}
+use Rattle.fuse_session.specs.Progress.{Progress, ChannelState, Moves, SinkUntouched, DeliversOnce, NoticeOrReply, tally, counting, replies}
 use Rattle.fuse_session.specs.declared.transcript.Transcript.{Transcript}
+use Rattle.fuse_session.proofs.Lists.{All-append, filter-both}
 
 -- equal counts make equal transcripts
 tally-same : (r f n l r' f' n' l' : ℕ) → r ≡ r' → f ≡ f' → n ≡ n' → l ≡ l' → tally r f n l ≡ tally r' f' n' l'
 tally-same r f n l r' f' n' l' a b c d = cc
 
+-- what is appended to the same sink
+none-appended : {s t : SinkState} → t ≡ s → Appends [] [] s t
+none-appended {s} same = subst (λ (x : SinkState). Appends [] [] s x) (sym same) (Appends-none s)
+
 -- nothing moved
-pub Moves-none : (s : SinkState) (t : Transcript) → Moves 0 [] [] 0 s s t t
-Moves-none s t = record {
-  appended = Appends-none s;
-  cause = λ below. omega arith;
-  counts = λ r f n l is. is ∙ tally-same r f n l (r + 0) (f + 0) (n + 0) (l + 0) (omega arith) (omega arith) (omega arith) (omega arith);
+pub Moves-none : {p q : Progress} → SinkUntouched p q → Moves 0 [] [] 0 p q
+Moves-none {p} {q} same = record {
+  appended = [];
+  written = none-appended same.sink;
+  replied = refl;
+  set_aside = tt;
+  cause = λ below. omega (arith, ap (λ (s : SinkState). s.faults) same.sink);
+  counts = λ r f n l is.
+      same.counts ∙ (is ∙ tally-same r f n l (r + 0) (f + 0) (n + 0) (l + 0) (omega arith) (omega arith) (omega arith) (omega arith));
 }
 
 -- one message was taken
-pub Moves-received : (s : SinkState) (t t' : Transcript) → t' ≡ record t { received = counted t.received 1 } → Moves 1 [] [] 0 s s t t'
-Moves-received s t t' e = record {
-  appended = Appends-none s;
-  cause = λ below. omega arith;
+pub Moves-received : (p q : Progress) → q.sink ≡ p.sink → q.counts ≡ record p.counts { received = counted p.counts.received 1 }
+    → Moves 1 [] [] 0 p q
+Moves-received p q same e = record {
+  appended = [];
+  written = none-appended same;
+  replied = refl;
+  set_aside = tt;
+  cause = λ below. omega (arith, ap (λ (s : SinkState). s.faults) same);
   counts = λ r f n l is. e ∙ (ap (λ (u : Transcript). record u { received = counted u.received 1 }) is ∙ more r f n l);
 } where
   more : (r f n l : ℕ) → record (tally r f n l) { received = counted (tally r f n l).received 1 } ≡ tally (r + 1) (f + 0) (n + 0) (l + 0)
@@ -38,24 +53,29 @@ Moves-received s t t' e = record {
       let d : l + 0 ≡ l = omega arith in cc
 
 -- one stretch, and then another
-pub Moves-then : (p q : ℕ) (fs gs : List (List ℕ)) (ns ms : List Note) (j k : ℕ) (a b c : SinkState) (t u v : Transcript) →
-    Moves p fs ns j a b t u → Moves q gs ms k b c u v → Moves (p + q) (fs ++ gs) (ns ++ ms) (j + k) a c t v
-Moves-then p q fs gs ns ms j k a b c t u v first second = record {
-  appended = Appends-then fs gs ns ms a b c first.appended second.appended;
+pub Moves-then : {i k j l : ℕ} {fs gs : List (List ℕ)} {ns ms : List Note} {p q r : Progress}
+    → Moves i fs ns j p q → Moves k gs ms l q r → Moves (i + k) (fs ++ gs) (ns ++ ms) (j + l) p r
+Moves-then {i} {k} {j} {l} {fs} {gs} {ns} {ms} {p} {q} {r} first second = record {
+  appended = first.appended ++ second.appended;
+  written = Appends-then first.appended second.appended ns ms p.sink q.sink r.sink first.written second.written;
+  replied = filter-both (λ (f : List ℕ). not (is_set_aside f)) first.appended second.appended
+      ∙ (ap (λ (x : List (List ℕ)). x ++ replies second.appended) first.replied ∙ ap (λ (x : List (List ℕ)). fs ++ x) second.replied);
+  set_aside = All-append NoticeOrReply first.appended second.appended first.set_aside second.set_aside;
   cause = λ below.
-      let later : k + b.faults ≤ c.faults = second.cause below in
-      let mid : b.faults < last_count = omega arith in
-      let sooner : j + a.faults ≤ b.faults = first.cause mid in omega arith;
-  counts = λ r f n l is.
-      second.counts (r + p) (f + length fs) (n + length ns) (l + j) (first.counts r f n l is)
+      let later : l + q.sink.faults ≤ r.sink.faults = second.cause below in
+      let rises : q.sink.faults ≤ r.sink.faults = second.written.faults in
+      let mid : q.sink.faults < last_count = omega arith in
+      let sooner : j + p.sink.faults ≤ q.sink.faults = first.cause mid in omega arith;
+  counts = λ a b c d is.
+      second.counts (a + i) (b + length fs) (c + length ns) (d + j) (first.counts a b c d is)
       ∙ tally-same _ _ _ _ _ _ _ _ (omega arith)
       (omega (arith, length-append fs gs)) (omega (arith, length-append ns ms)) (omega arith);
 }
 
 -- frames and notes were handed to the sink, which took them or lost one
-pub data Handed (fs : List (List ℕ)) (ns : List Note) (a b : SinkState) (t u : Transcript) : Type 0 where
-  took : Moves 0 fs ns 0 a b t u → Handed fs ns a b t u
-  lost : Moves 0 [] [] 1 a b t u → Handed fs ns a b t u
+pub data Handed (fs : List (List ℕ)) (ns : List Note) (p q : Progress) : Type 0 where
+  took : Moves 0 fs ns 0 p q → Handed fs ns p q
+  lost : Moves 0 [] [] 1 p q → Handed fs ns p q
 
 one_frame : (r f n l : ℕ) → record (tally r f n l) { frames = counted (tally r f n l).frames 1 } ≡ tally (r + 0) (f + 1) (n + 0) (l + 0)
 one_frame r f n l =
@@ -79,35 +99,57 @@ one_lost r f n l =
     let d : f + 0 ≡ f = omega arith in cc
 
 -- what was refused was lost
-lost-refused : (fs : List (List ℕ)) (ns : List Note) (a b : SinkState) (t u : Transcript) → Refuses a b → u ≡ counting Lost t → Handed fs ns a b t u
-lost-refused fs ns a b t u d e = lost (record {
-  appended = d.0;
+lost-refused : {fs : List (List ℕ)} {ns : List Note} (p q : Progress) → Refuses p.sink q.sink → q.counts ≡ counting Lost p.counts → Handed fs ns p q
+lost-refused p q d e = lost (record {
+  appended = [];
+  written = d.0;
+  replied = refl;
+  set_aside = tt;
   cause = λ below. omega (arith, d.1 below);
   counts = λ r g n l is. e ∙ (ap (λ (w : Transcript). record w { lost = counted w.lost 1 }) is ∙ one_lost r g n l);
 })
 
+-- a reply alone is what is not set aside
+replies-one : (f : List ℕ) → is_set_aside f ≡ false → replies (f ∷ []) ≡ f ∷ []
+replies-one f reply = ap (λ (b : Bool). cond (not b) (f ∷ []) []) reply
+
 -- a frame was handed to the sink
-pub Handed-frame : (f : List ℕ) (a b : SinkState) (t u : Transcript) → Hands (Frame f) a b t u → Handed (f ∷ []) [] a b t u
-Handed-frame f a b t u hands = by_end hands.end hands.delivered hands.counts where
-  by_end : (end : OutEnd) → Delivers end (Frame f) a b → u ≡ counting end t → Handed (f ∷ []) [] a b t u
+pub Handed-frame : {f : List ℕ} {a b : ChannelState} → DeliversOnce (Frame f) a b → Handed (f ∷ []) [] a.progress b.progress
+Handed-frame {f} {a} {b} hands = by_end hands.end hands.delivered hands.counts where
+  by_end : (end : OutEnd) → Delivers end (Frame f) a.progress.sink b.progress.sink → b.progress.counts ≡ counting end a.progress.counts
+      → Handed (f ∷ []) [] a.progress b.progress
   by_end Written appended e = took (record {
-    appended = appended;
+    appended = f ∷ [];
+    written = appended;
+    replied = replies-one f hands.reply;
+    set_aside = ((λ aside. absurd (let reply = hands.reply in let no : ⊥ = cc in no)), tt);
     cause = λ below. omega (arith, appended.faults);
     counts = λ r g n l is. e ∙ (ap (λ (w : Transcript). record w { frames = counted w.frames 1 }) is ∙ one_frame r g n l);
   })
   by_end Noted d e = absurd d
-  by_end Lost d e = lost-refused (f ∷ []) [] a b t u d e
+  by_end Lost d e = lost-refused a.progress b.progress d e
   by_end Marked d e = absurd d
 
 -- a note was handed to the sink
-pub Handed-note : (id : RequestId) (mark : ℕ) (a b : SinkState) (t u : Transcript) → Hands (Noting id mark) a b t u → Handed [] ((id.0, mark) ∷ []) a b t u
-Handed-note id mark a b t u hands = by_end hands.end hands.delivered hands.counts where
-  by_end : (end : OutEnd) → Delivers end (Noting id mark) a b → u ≡ counting end t → Handed [] ((id.0, mark) ∷ []) a b t u
+pub Handed-note : {id : RequestId} {mark : ℕ} {a b : ChannelState} → DeliversOnce (Noting id mark) a b
+    → Handed [] ((id.0, mark) ∷ []) a.progress b.progress
+Handed-note {id} {mark} {a} {b} hands = by_end hands.end hands.delivered hands.counts where
+  by_end : (end : OutEnd) → Delivers end (Noting id mark) a.progress.sink b.progress.sink → b.progress.counts ≡ counting end a.progress.counts
+      → Handed [] ((id.0, mark) ∷ []) a.progress b.progress
   by_end Written d e = absurd d
   by_end Noted appended e = took (record {
-    appended = appended;
+    appended = [];
+    written = appended;
+    replied = refl;
+    set_aside = tt;
     cause = λ below. omega (arith, appended.faults);
     counts = λ r g n l is. e ∙ (ap (λ (w : Transcript). record w { notes = counted w.notes 1 }) is ∙ one_note r g n l);
   })
-  by_end Lost d e = lost-refused [] ((id.0, mark) ∷ []) a b t u d e
+  by_end Lost d e = lost-refused a.progress b.progress d e
   by_end Marked d e = absurd d
+
+-- one stretch, and then another, by the turns that they took
+pub moves-then : {j l : ℕ} {fs gs : List (List ℕ)} {ns ms : List Note} {p q r : Progress} (xs ys : List (List ℕ))
+    → Moves (length xs) fs ns j p q → Moves (length ys) gs ms l q r → Moves (length (xs ++ ys)) (fs ++ gs) (ns ++ ms) (j + l) p r
+moves-then {j} {l} {fs} {gs} {ns} {ms} {p} {q} {r} xs ys first second =
+    subst (λ (n : ℕ). Moves n (fs ++ gs) (ns ++ ms) (j + l) p r) (sym (length-append xs ys)) (Moves-then first second)

@@ -29,7 +29,7 @@ InOrder-same owed broken place place' ms fs fs' ns ns' j j' a b c d order =
     (subst (λ (f : List (List ℕ)). InOrder owed broken place' ms f ns j) b
     (subst (λ (p : ℕ). InOrder owed broken p ms fs ns j) a order)))
 
--- the place behind a message and more
+-- the place after a message and more
 next : (owed : Owing) (broken : List ℕ → Type 0) (place : ℕ) (m : List ℕ) (ms ms' gs : List (List ℕ)) (ns' : List Note) (k : ℕ)
     → InOrder owed broken (place + length (m ∷ ms)) ms' gs ns' k → InOrder owed broken (suc place + length ms) ms' gs ns' k
 next owed broken place m ms ms' gs ns' k later =

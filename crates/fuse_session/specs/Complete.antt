@@ -5,35 +5,38 @@ use Rattle.fuse_wire.specs.Source.{SourceState, message}
 use Rattle.fuse_config.specs.Values.{Configuration}
 use Rattle.fuse_args.specs.declared.fixed.InitArguments.{InitArguments}
 use Rattle.fuse_request.specs.Header.{header, body}
-use Rattle.fuse_request.specs.Operation.{Op, operation}
-use Rattle.fuse_request.specs.Operation.Op.{Init, Destroy}
+use Rattle.fuse_request.specs.Operation.{operation}
+use Rattle.fuse_request.specs.Operation.Op.{Init}
 use Rattle.fuse_request.specs.declared.any_request.Header.{Header}
 use Rattle.fuse_request.specs.declared.request.Request.{Request}
-use Rattle.fuse_session.specs.Promise.{Inits}
+use Rattle.fuse_session.specs.Incoming.{incoming}
+use Rattle.fuse_session.specs.Incoming.Incoming.{Destroy, Request as IsRequest}
+use Rattle.fuse_session.specs.Promise.{MayInit}
 
--- its header is good, and it decodes to this operation
-pub record Asks (m : List ℕ) (op : Op) : Type 0 where
+-- its header is good, and it decodes to this INIT
+pub record IsInit (m : List ℕ) (init : InitArguments) : Type 0 where
   pub head : Header
   pub good : header m ≡ Ok head
-  pub decodes : operation head.opcode (body m) ≡ Ok op
+  pub decodes : operation head.opcode (body m) ≡ Ok (Init init)
 
--- the headers are good up to the first DESTROY, behind which may stand anything
+-- the headers are good up to the first DESTROY, after which may stand anything
 abbrev pub GoodHeaders : List (List ℕ) → Type 0
 GoodHeaders [] = Unit {0}
-GoodHeaders (m ∷ ms) = Asks m Destroy ⊎ ((head : Header) × (header m ≡ Ok head) × GoodHeaders ms)
+GoodHeaders (m ∷ ms) = (incoming m ≡ Destroy) ⊎ ((incoming m ≡ IsRequest) × GoodHeaders ms)
 
--- some INITs of a major version above 7, or none; one of version 7.6 to 7.x; and behind it good headers up to the first DESTROY
+-- some INITs of a major version above 7, or none; one of version 7.6 to 7.x; and after it good headers up to the first DESTROY
 abbrev pub OpensWell : List (List ℕ) → Type 0
 OpensWell [] = ⊥
-OpensWell (m ∷ ms) = (init : InitArguments) × Asks m (Init init)
+OpensWell (m ∷ ms) = (init : InitArguments) × IsInit m init
     × (((7 < init.major) × OpensWell ms) ⊎ ((init.major ≡ 7) × (6 ≤ init.minor) × GoodHeaders ms))
 
 -- `init` may refuse no INIT
-abbrev pub AcceptsAll : {F : Type 0} → Inits F → F → Type 0
-AcceptsAll {F} may_init fs = (request : Request) (config0 config : Configuration) (e : ℕ) (fs1 : F) → ¬ (may_init fs request config0 (Err e) fs1 config)
+abbrev pub AcceptsAll : {F : Type 0} → MayInit F → F → Type 0
+AcceptsAll {F} may_init fs =
+    (request : Request) (config0 config : Configuration) (e : ℕ) (fs1 : F) → ¬ (may_init fs request config0 (Err e) fs1 config)
 
 -- The source tells messages that open well, and did not fail; some thread is to serve; and `init` refuses no INIT.
-pub record NothingAmiss {F : Type 0} (may_init : Inits F) (threads : Option ℕ) (fs : F) (before after : SourceState) : Type 0 where
+pub record SessionWell {F : Type 0} (may_init : MayInit F) (threads : Option ℕ) (fs : F) (before after : SourceState) : Type 0 where
   pub turns : List (List ℕ)
   pub told : before.turns ≡ Some turns
   pub opens_well : OpensWell (map message turns)

@@ -1,33 +1,30 @@
 -- What a filesystem says of its own answers, over plain data.
-use Rattle.std.specs.Prelude.{ℕ, Result}
+use Rattle.std.specs.Prelude.{ℕ, Bool, Result}
 use Rattle.fuse_config.specs.Values.{Configuration}
 use Rattle.fuse_reply.specs.Answer.{Answer}
 use Rattle.fuse_request.specs.Call.{Call}
 use Rattle.fuse_request.specs.declared.request.Request.{Request}
 
--- `init` may leave this filesystem and configuration, and give this result
-abbrev pub Inits : Type 0 → Type 1
-Inits F = F → Request → Configuration → Result (Unit {0}) ℕ → F → Configuration → Type 0
+-- `init` may give this result to a request, and leave this filesystem and configuration
+abbrev pub MayInit : Type 0 → Type 1
+MayInit F = F → Request → Configuration → Result (Unit {0}) ℕ → F → Configuration → Type 0
 
--- a call may have this answer
-abbrev pub Answers : Type 0 → Type 1
-Answers F = F → Request → Call → Answer → Type 0
+-- a call of a request may have this answer
+abbrev pub MayAnswer : Type 0 → Type 1
+MayAnswer F = F → Request → Call → Answer → Type 0
 
--- a forget may have this mark
-abbrev pub Notes : Type 0 → Type 1
-Notes F = F → Request → Call → (mark : ℕ) → Type 0
+-- a forget of a request may have this mark
+abbrev pub MayNote : Type 0 → Type 1
+MayNote F = F → Request → Call → (mark : ℕ) → Type 0
 
 -- `destroy` may leave this filesystem
-abbrev pub Destroys : Type 0 → Type 1
-Destroys F = F → F → Type 0
+abbrev pub MayDestroy : Type 0 → Type 1
+MayDestroy F = F → F → Type 0
 
 pub record Promise (F : Type 0) : Type 1 where
-  pub may_init : Inits F
-  pub may_answer : Answers F
-  pub may_note : Notes F
-  pub may_destroy : Destroys F
-
--- the promise of these four
-abbrev pub promises : {F : Type 0} → Inits F → Answers F → Notes F → Destroys F → Promise F
-promises may_init may_answer may_note may_destroy =
-    record { may_init = may_init; may_answer = may_answer; may_note = may_note; may_destroy = may_destroy }
+  pub may_init : MayInit F
+  pub may_answer : MayAnswer F
+  pub may_note : MayNote F
+  pub may_destroy : MayDestroy F
+  -- whether a reply may come after its method has returned
+  pub defers : Bool

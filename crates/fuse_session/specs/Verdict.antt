@@ -1,5 +1,6 @@
--- What the product itself fixes about a message behind the handshake, before any filesystem is asked.
+-- What the product itself fixes about a message after the handshake, before any filesystem is asked.
 use Rattle.std.specs.Prelude.{◌==◌, ◌||◌, ℕ, Bool, true, false, List, [], ◌∷◌, Option, None, Some, Result, Ok, Err, if◌then◌else◌}
+use Rattle.fuse_wire.specs.ErrorNumbers.{EIO, EACCES, ENOSYS}
 use Rattle.fuse_wire.specs.Numbers.{number}
 use Rattle.fuse_config.specs.declared.session_acl.SessionACL.{SessionACL}
 use Rattle.fuse_config.specs.declared.session_acl.SessionACL.TheVariants.{All, RootAndOwner, Owner}
@@ -7,19 +8,23 @@ use Rattle.fuse_request.specs.declared.error.RequestError.{RequestError}
 use Rattle.fuse_request.specs.declared.any_request.Header.{Header}
 use Rattle.fuse_request.specs.Header.{header, body}
 use Rattle.fuse_request.specs.Call.{Call, call}
-use Rattle.fuse_request.specs.Call.Call.{Lookup, Forget, GetAttr, Read as ReadCall}
+use Rattle.fuse_request.specs.Call.Call.{Lookup as LookupCall, Forget as ForgetCall, GetAttr as GetAttrCall, Read as ReadCall}
 use Rattle.fuse_request.specs.Fields.{file_offset, signed_offset, has_bit}
+use Rattle.fuse_request.specs.Opcode.{FUSE_FORGET, FUSE_READ, FUSE_WRITE, FUSE_RELEASE, FUSE_FSYNC, FUSE_INIT}
+use Rattle.fuse_request.specs.Opcode.{FUSE_READDIR, FUSE_RELEASEDIR, FUSE_FSYNCDIR, FUSE_DESTROY, FUSE_BATCH_FORGET, FUSE_READDIRPLUS}
 use Rattle.fuse_request.specs.Operation.{Op, operation}
-use Rattle.fuse_request.specs.Operation.Op.{Init, Destroy, Read, Write, Interrupt, NotifyReply, CuseInit, IoCtl, FAllocate, CopyFileRange}
+use Rattle.fuse_request.specs.Operation.Op.{Lookup, Forget, GetAttr, Init, Read, Write}
+use Rattle.fuse_request.specs.Operation.Op.{Interrupt, NotifyReply, CuseInit, IoCtl, FAllocate, CopyFileRange}
 
 -- the id of the request
 abbrev pub id_of : List ℕ → ℕ
 id_of m = number m 8 8
 
--- INIT and DESTROY pass whoever sends them, and so does what goes by an open file or gives up an inode: FORGET, READ, WRITE, RELEASE, FSYNC,
--- READDIR, RELEASEDIR, FSYNCDIR, BATCH_FORGET, READDIRPLUS
+-- INIT and DESTROY pass whoever sends them, and so does what goes by an open file or gives up an inode
 abbrev pub passing : List ℕ
-passing = 26 ∷ 38 ∷ 2 ∷ 15 ∷ 16 ∷ 18 ∷ 20 ∷ 28 ∷ 29 ∷ 30 ∷ 42 ∷ 44 ∷ []
+passing =
+    FUSE_INIT ∷ FUSE_DESTROY ∷ FUSE_FORGET ∷ FUSE_READ ∷ FUSE_WRITE ∷ FUSE_RELEASE ∷ FUSE_FSYNC ∷ FUSE_READDIR ∷ FUSE_RELEASEDIR
+    ∷ FUSE_FSYNCDIR ∷ FUSE_BATCH_FORGET ∷ FUSE_READDIRPLUS ∷ []
 
 abbrev pub is_among : ℕ → List ℕ → Bool
 is_among x [] = false
@@ -52,83 +57,66 @@ pub data Verdict : Type 0 where
 
 -- it leaves a note, and has no reply
 abbrev pub is_forget : Call → Bool
-is_forget (Forget ino nlookup) = true
+is_forget (ForgetCall ino nlookup) = true
 is_forget c = false
 
 -- a filesystem has a method for it
 abbrev pub has_method : Call → Bool
-has_method (Lookup parent name) = true
-has_method (GetAttr ino fh) = true
+has_method (LookupCall parent name) = true
+has_method (GetAttrCall ino fh) = true
 has_method (ReadCall ino fh offset size flags lock_owner) = true
 has_method c = false
 
 -- a call without a method is ENOSYS
 abbrev pub calling : Option Call → Verdict
-calling None = Fixed 38
-calling (Some c) = if is_forget c then Forgets c else if has_method c then Calls c else Fixed 38
+calling None = Fixed ENOSYS
+calling (Some c) = if is_forget c then Forgets c else if has_method c then Calls c else Fixed ENOSYS
 
--- why the session itself refuses an operation
-pub data Refusal : Type 0 where
-  -- INIT comes once
-  AnotherInit : Refusal
-  -- no filesystem is asked this
-  Unserved : Refusal
-  -- no file has such an offset or length
-  OutOfFile : Refusal
+-- an offset or a length that no file has is its error, EINVAL
+abbrev pub in_file : Result ℕ ℕ → Verdict → Verdict
+in_file (Ok offset) v = v
+in_file (Err errno) v = Fixed errno
 
-abbrev pub errno_of : Refusal → ℕ
-errno_of AnotherInit = 5
-errno_of Unserved = 38
-errno_of OutOfFile = 22
-
--- an offset or a length that no file has
-abbrev pub out_of_file : Result ℕ ℕ → Option Refusal
-out_of_file (Ok offset) = None
-out_of_file (Err errno) = Some OutOfFile
-
-abbrev pub either : Option Refusal → Option Refusal → Option Refusal
-either None second = second
-either (Some refusal) second = Some refusal
-
--- EIO for another INIT; ENOSYS for INTERRUPT, NOTIFY_REPLY and CUSE_INIT, and for an IOCTL that is not restricted (`FUSE_IOCTL_UNRESTRICTED`, bit 1);
--- EINVAL for an offset or a length that is in no file
-abbrev pub refused : Op → Option Refusal
-refused (Init init) = Some AnotherInit
-refused (Interrupt unique) = Some Unserved
-refused NotifyReply = Some Unserved
-refused CuseInit = Some Unserved
-refused (IoCtl ioctl in_bytes) = if has_bit 1 ioctl.flags then Some Unserved else None
-refused (Read read) = out_of_file (file_offset read.offset)
-refused (Write write written) = out_of_file (signed_offset write.offset)
-refused (FAllocate fallocate) = either (out_of_file (file_offset fallocate.offset)) (out_of_file (file_offset fallocate.length))
-refused (CopyFileRange range) = either (out_of_file (signed_offset range.off_in)) (out_of_file (signed_offset range.off_out))
-refused op = None
-
--- what is not refused goes to the filesystem
-abbrev pub unless : Option Refusal → Verdict → Verdict
-unless None v = v
-unless (Some refusal) v = Fixed (errno_of refusal)
-
--- an operation on a node whose user is served
+-- an operation of a user who is served: EIO for another INIT; ENOSYS for INTERRUPT, NOTIFY_REPLY and CUSE_INIT, and for an IOCTL
+-- that is not restricted (`FUSE_IOCTL_UNRESTRICTED`, bit 1); EINVAL for an offset or a length that is in no file; and all else
+-- goes to the filesystem
 abbrev pub served : (node : ℕ) → Op → Verdict
-served node op = unless (refused op) (calling (call node op))
+served node (Init init) = Fixed EIO
+served node (Interrupt unique) = Fixed ENOSYS
+served node NotifyReply = Fixed ENOSYS
+served node CuseInit = Fixed ENOSYS
+served node (IoCtl ioctl in_bytes) = if has_bit 1 ioctl.flags then Fixed ENOSYS else calling (call node (IoCtl ioctl in_bytes))
+served node (Read read) = in_file (file_offset read.offset) (calling (call node (Read read)))
+served node (Write write written) = in_file (signed_offset write.offset) (calling (call node (Write write written)))
+served node (FAllocate range) =
+    in_file (file_offset range.offset) (in_file (file_offset range.length) (calling (call node (FAllocate range))))
+served node (CopyFileRange range) =
+    in_file (signed_offset range.off_in) (in_file (signed_offset range.off_out) (calling (call node (CopyFileRange range))))
+served node op = calling (call node op)
 
--- it ends the run
-abbrev pub is_destroy : Op → Bool
-is_destroy Destroy = true
-is_destroy op = false
+-- no filesystem is asked this yet, whoever asks it
+abbrev pub is_unserved : Op → Bool
+is_unserved (Lookup name) = false
+is_unserved (Forget nlookup) = false
+is_unserved (GetAttr getattr) = false
+is_unserved (Read read) = false
+is_unserved op = true
 
--- ENOSYS where it does not decode, and EACCES where its user is not served
-abbrev pub asked : SessionACL → ℕ → Header → Result Op RequestError → Verdict
-asked acl owner h (Err e) = Fixed 38
-asked acl owner h (Ok op) =
-    if is_destroy op then Ends
-    else if admitted acl owner h.uid h.opcode then served h.nodeid.0 op
-    else Fixed 13
+-- the operation that is served, or the error of a request that is not: ENOSYS where it does not decode, EACCES where its user is
+-- not served
+abbrev pub admitted_operation : SessionACL → (owner : ℕ) → Header → Result Op RequestError → Result Op ℕ
+admitted_operation acl owner h (Err e) = Err ENOSYS
+admitted_operation acl owner h (Ok op) = if admitted acl owner h.uid h.opcode then Ok op else Err EACCES
 
-abbrev pub judged : SessionACL → ℕ → Result Header RequestError → List ℕ → Verdict
-judged acl owner (Err e) rest = Broken e
-judged acl owner (Ok h) rest = asked acl owner h (operation h.opcode rest)
+abbrev pub serving : (node : ℕ) → Result Op ℕ → Verdict
+serving node (Err errno) = Fixed errno
+serving node (Ok op) = served node op
 
-abbrev pub verdict : SessionACL → ℕ → List ℕ → Verdict
-verdict acl owner m = judged acl owner (header m) (body m)
+-- DESTROY ends the run
+abbrev pub verdict_by : SessionACL → (owner : ℕ) → Result Header RequestError → (rest : List ℕ) → Verdict
+verdict_by acl owner (Err e) rest = Broken e
+verdict_by acl owner (Ok h) rest = if h.opcode == FUSE_DESTROY then Ends
+    else serving h.nodeid.0 (admitted_operation acl owner h (operation h.opcode rest))
+
+abbrev pub verdict : SessionACL → (owner : ℕ) → List ℕ → Verdict
+verdict acl owner m = verdict_by acl owner (header m) (body m)

@@ -1,57 +1,104 @@
-// What comes from the source and what goes to the sink, counted.
-ghost use Rattle.std.specs.Prelude.{◌≡◌, length};
-ghost use Rattle.fuse_session.specs.Moves.{TakesNext, Hands};
+// What a session speaks through: its source, its sink and its buffer, and the counts of what went through them.
+ghost use Rattle.std.specs.Prelude.{◌≡◌, ◌≤◌, length, take};
+ghost use Rattle.fuse_session.specs.Progress.{DeliversOnce, TakesNext, nothing_yet, progress};
 
 use crate::Transcript;
+use crate::taken::Taken;
 use fuse_reply::{Out, OutEnd};
 use fuse_wire::consts::BUFFER_SIZE;
 use fuse_wire::{Received, Sink, Source};
+use std::marker::Model;
 use std::sync::Wait;
 
-/// What came next.
-#[derive(Clone, Copy)]
-pub(crate) enum Taken {
-    /// A message, of so many bytes in front of the buffer.
-    Message(usize),
-    /// Nothing, since none is left.
-    Gone,
-    /// Nothing, since the source failed.
-    Failed,
+/// The source and the sink of a session, the receive buffer, and the counts. A contract sees what the devices tell.
+pub(crate) struct Channel<S: Source, K: Sink> {
+    source: S,
+    sink: K,
+    buffer: Vec<u8>,
+    transcript: Transcript,
 }
 
-/// Takes the next message, trying again where nothing came.
-pub(crate) fn take_message<R: Wait, S: Source>(
-    rt: &R,
-    source: &mut S,
-    buffer: &mut [u8],
-    transcript: &mut Transcript,
-) -> Taken
-    requires { length buffer.old ≡ BUFFER_SIZE }
-    ensures { TakesNext result (S.told source.old) (S.told source.new) transcript.old transcript.new buffer.new }
-{
-    for _ in rt.forever() {
-        match source.receive(buffer) {
-            Received::Retry => {}
-            Received::Gone => return Taken::Gone,
-            Received::Failed => return Taken::Failed,
-            Received::Message(count) => {
-                transcript.received = transcript.received.saturating_add(1);
-                return Taken::Message(count);
-            }
+impl<S: Source, K: Sink> Model for Channel<S, K> {
+    ghost use Rattle.std.specs.Prelude.{◌≡◌, length};
+    ghost use Rattle.fuse_wire.specs.declared.consts.TheConstants.{BUFFER_SIZE};
+    ghost use Rattle.fuse_session.specs.Progress.{ChannelState, progress};
+
+    ghost Value = { ChannelState };
+
+    ghost view = { λ c. record {
+      progress = progress (S.told c.source) (K.told c.sink) c.transcript;
+      buffer = c.buffer.items;
+    } };
+
+    ghost invariant = { λ c. length c.buffer.items ≡ BUFFER_SIZE };
+}
+
+impl<S: Source, K: Sink> Channel<S, K> {
+    /// A channel through which nothing went yet.
+    pub(crate) fn new(source: S, sink: K, buffer: Vec<u8>) -> Channel<S, K>
+        requires { length buffer.items ≡ BUFFER_SIZE }
+        ensures { result.progress ≡ progress (S.told source) (K.told sink) nothing_yet }
+    {
+        Channel {
+            source,
+            sink,
+            buffer,
+            transcript: Transcript::new(),
         }
     }
-    unreachable!()
-}
 
-/// Hands something to the sink, and counts what became of it.
-#[inline(always)]
-pub(crate) fn deliver<K: Sink>(out: Out, sink: &mut K, transcript: &mut Transcript)
-    ensures { Hands out (K.told sink.old) (K.told sink.new) transcript.old transcript.new }
-{
-    match out.send(sink) {
-        OutEnd::Written => transcript.frames = transcript.frames.saturating_add(1),
-        OutEnd::Noted => transcript.notes = transcript.notes.saturating_add(1),
-        OutEnd::Lost => transcript.lost = transcript.lost.saturating_add(1),
-        OutEnd::Marked => {}
+    /// The source, the sink and the counts.
+    pub(crate) fn into_parts(self) -> (S, K, Transcript)
+        ensures { self.progress ≡ progress (S.told result.0) (K.told result.1) result.2 }
+    {
+        let Channel {
+            source,
+            sink,
+            buffer: _,
+            transcript,
+        } = self;
+        (source, sink, transcript)
+    }
+
+    /// The message of so many bytes that was taken last.
+    pub(crate) fn message(&self, count: usize) -> &[u8]
+        requires { count ≤ BUFFER_SIZE }
+        ensures { result.now ≡ take count self.now.buffer }
+    {
+        &self.buffer[..count]
+    }
+
+    /// Takes the next message, trying again where nothing came.
+    #[inline(always)]
+    pub(crate) fn take_message<R: Wait>(&mut self, rt: &R) -> Taken
+        ensures { TakesNext result self.old self.new }
+    {
+        for _ in rt.forever() {
+            match self.source.receive(&mut self.buffer) {
+                Received::Retry => {}
+                Received::Gone => return Taken::Gone,
+                Received::Failed => return Taken::Failed,
+                Received::Message(count) => {
+                    self.transcript.received = self.transcript.received.saturating_add(1);
+                    return Taken::Message(count);
+                }
+            }
+        }
+        unreachable!()
+    }
+
+    /// Hands something to the sink, and counts what became of it.
+    #[inline(always)]
+    pub(crate) fn deliver(&mut self, out: Out)
+        ensures { DeliversOnce out self.old self.new }
+    {
+        match out.send(&mut self.sink) {
+            OutEnd::Written => {
+                self.transcript.frames = self.transcript.frames.saturating_add(1);
+            }
+            OutEnd::Noted => self.transcript.notes = self.transcript.notes.saturating_add(1),
+            OutEnd::Lost => self.transcript.lost = self.transcript.lost.saturating_add(1),
+            OutEnd::Marked => {}
+        }
     }
 }

@@ -1,19 +1,23 @@
 // A filesystem for tests, which counts its calls, and sessions of it.
+ghost use Rattle.std.specs.Prelude.{◌<◌, false, refl};
+
 use crate::{Ended, Filesystem, SessionError, Transcript, mount};
 use fuse_config::{Config, KernelConfig};
 use fuse_reply::{Replied, ReplyAttr, ReplyData, ReplyEntry};
 use fuse_request::Request;
+use fuse_wire::consts::MAX_WRITE_SIZE;
 use fuse_wire::{Errno, FileHandle, INodeNo, LockOwner, OpenFlags, Sink, Source};
 use std::sync::Wait;
 use std::sync::atomic::{AtomicU64, Ordering};
 
-/// What a read gives: more than a frame holds without memory.
+/// What a read gives where no other contents are said: more than a frame holds without memory.
 pub(crate) const CONTENTS: [u8; 200] = [0x2a; 200];
 
 /// A filesystem that accepts every kernel, and counts its calls and how often it was destroyed. It knows no name and no
-/// attributes, and reads 200 bytes everywhere. Its promise allows everything.
+/// attributes, and reads the same contents from every offset. Its promise allows everything.
 #[derive(Drop)]
 pub(crate) struct Counting {
+    contents: Option<Vec<u8>>,
     calls: AtomicU64,
     destroyed: u64,
 }
@@ -27,20 +31,35 @@ pub(crate) struct Course {
     pub(crate) destroyed: u64,
 }
 
-/// Serves a filesystem that counts, in a session of root. The source and the sink come back.
+/// Serves a filesystem that counts, in a session of root with pages of 4096 bytes. The source and the sink come back.
 pub(crate) fn run<R: Wait + AllocGlobal, S: Source, K: Sink + Send>(
     rt: &R,
     source: S,
     sink: K,
     config: &Config,
 ) -> (Course, S, K) {
+    run_with(rt, Counting::new(None), source, sink, 0, 4096, config)
+}
+
+/// Serves this filesystem in a session of this owner, with pages of this size.
+pub(crate) fn run_with<R: Wait + AllocGlobal, S: Source, K: Sink + Send>(
+    rt: &R,
+    filesystem: Counting,
+    source: S,
+    sink: K,
+    owner: u32,
+    page_size: u32,
+    config: &Config,
+) -> (Course, S, K)
+    requires { 0 < page_size }
+{
     let Ended {
         filesystem,
         source,
         sink,
         outcome,
         transcript,
-    } = mount(rt, Counting::new(), source, sink, 0, 4096, config);
+    } = mount(rt, filesystem, source, sink, owner, page_size, config);
     let course = Course {
         outcome,
         transcript,
@@ -51,9 +70,10 @@ pub(crate) fn run<R: Wait + AllocGlobal, S: Source, K: Sink + Send>(
 }
 
 impl Counting {
-    /// It was not called yet.
-    fn new() -> Counting {
+    /// It was not called yet. These are its contents, or else `CONTENTS`.
+    pub(crate) fn new(contents: Option<Vec<u8>>) -> Counting {
         Counting {
+            contents,
             calls: AtomicU64::new(0),
             destroyed: 0,
         }
@@ -65,13 +85,17 @@ impl Counting {
 }
 
 impl Filesystem for Counting {
-    ghost may_init = { λ before request config result after config'. Unit {0} };
+    ghost promise = { record {
+      may_init = λ before request config result after config'. Unit {0};
+      may_answer = λ fs request call answer. Unit {0};
+      may_note = λ fs request call mark. Unit {0};
+      may_destroy = λ before after. Unit {0};
+      defers = false;
+    } };
 
-    ghost may_answer = { λ fs request call answer. Unit {0} };
+    const DEFERS: bool = false;
 
-    ghost may_note = { λ fs request call mark. Unit {0} };
-
-    ghost may_destroy = { λ before after. Unit {0} };
+    ghost DEFERS = { false };
 
     fn init(&mut self, _request: &Request, _config: &mut KernelConfig) -> Result<(), Errno> {
         Ok(())
@@ -110,16 +134,23 @@ impl Filesystem for Counting {
         _ino: INodeNo,
         _fh: FileHandle,
         _offset: u64,
-        _size: u32,
+        size: u32,
         _flags: OpenFlags,
         _lock_owner: Option<LockOwner>,
         reply: ReplyData,
     ) -> Replied {
         self.count();
-        reply.data(&CONTENTS)
+        let contents = match &self.contents {
+            Some(contents) => contents.as_slice(),
+            None => CONTENTS.as_slice(),
+        };
+        let count = contents.len().min(size as usize).min(MAX_WRITE_SIZE);
+        reply.data(&contents[..count])
     }
 
     fn destroy(&mut self) {
         self.destroyed = self.destroyed.saturating_add(1);
     }
+
+    ghost deferral = { refl };
 }

@@ -2,38 +2,21 @@
 ghost use Rattle.std.specs.Prelude.{None};
 
 use crate::counting::{Course, run};
-use crate::tests::{ACCEPTED, Counts, INIT_7_8, forget, lookup, refusal, serves_source, source_of};
+use crate::test_messages::{
+    ACCEPTED, ENOENT, INIT_7_8, Next, error_reply, forget, lookup, source_of, turns_of,
+};
+use crate::tests::{Counts, serves_source};
 use crate::{SessionError, Transcript};
 use fuse_config::Config;
-use fuse_wire::{Items, MemorySink, MemorySource, Noting, RequestId, Sending, Sink, Turn};
-use std::alloc::{AllocError, Global};
+use fuse_wire::{
+    MemorySink, MemorySource, Noting, Received, RequestId, Sending, Sink, Source, receive_buffer,
+};
 use std::process::Abort;
 use std::sync::Wait;
 use std::test::Fail;
 
-/// What the source gives next: these bytes, a turn with nothing, or a fault.
-#[derive(Clone, Copy)]
-enum Next<'a> {
-    Bytes(&'a [u8]),
-    Nothing,
-    Fault,
-}
-
-/// A source of these turns.
-fn turns_of(alloc: Global, turns: &[Next<'_>]) -> Result<MemorySource, AllocError> {
-    let mut given = Vec::new(alloc);
-    for turn in turns {
-        given.push(match turn {
-            Next::Bytes(bytes) => Turn::Message(Items::from_vec(bytes.to_vec(alloc)?)),
-            Next::Nothing => Turn::Retry,
-            Next::Fault => Turn::Fail,
-        })?;
-    }
-    Ok(MemorySource::new(given))
-}
-
 /// Serves these turns, in a session with this outcome, which takes so many messages, of which all but INIT call the
-/// filesystem, sends these frames, and loses so many.
+/// filesystem, sends these frames, and loses so many. The source comes back.
 fn serves<R: Wait + AllocGlobal + Abort>(
     rt: &R,
     turns: &[Next<'_>],
@@ -42,7 +25,7 @@ fn serves<R: Wait + AllocGlobal + Abort>(
     frames: &[&[u8]],
     lost: u64,
     outcome: Result<(), SessionError>,
-) -> Result<(), Fail> {
+) -> Result<MemorySource, Fail> {
     let source = turns_of(rt.alloc(), turns)?;
     let counts = Counts {
         received,
@@ -50,7 +33,20 @@ fn serves<R: Wait + AllocGlobal + Abort>(
         calls: received.saturating_sub(1),
         notes: &[],
     };
-    serves_source(rt, &Config::new(), source, sink, frames, outcome, counts);
+    Ok(serves_source(rt, &Config::new(), source, sink, frames, outcome, counts))
+}
+
+/// The source still holds this message, and no other.
+fn still_holds<R: AllocGlobal + Abort>(
+    rt: &R,
+    mut source: MemorySource,
+    message: &[u8],
+) -> Result<(), Fail> {
+    let mut buffer = receive_buffer(rt.alloc())?;
+    let received = source.receive(&mut buffer);
+    assert_eq!(rt; received, Received::Message(message.len()));
+    assert!(rt; buffer.as_slice().starts_with(message));
+    assert_eq!(rt; source.receive(&mut buffer), Received::Gone);
     Ok(())
 }
 
@@ -62,7 +58,8 @@ fn a_source_may_fail(rt: HostRuntime) -> Result<(), Fail> {
     let message = lookup(2, 0);
     let turns = [Bytes(&INIT_7_8), Nothing, Fault, Bytes(&message)];
     let sink = MemorySink::new(alloc, Vec::new(alloc));
-    serves(&rt, &turns, sink, 1, &[&ACCEPTED], 0, failed)
+    let source = serves(&rt, &turns, sink, 1, &[&ACCEPTED], 0, failed)?;
+    still_holds(&rt, source, &message)
 }
 
 #[test]
@@ -71,7 +68,8 @@ fn a_source_may_fail_at_once(rt: HostRuntime) -> Result<(), Fail> {
     let failed = Err(SessionError::Receive);
     let turns = [Next::Fault, Next::Bytes(&INIT_7_8)];
     let sink = MemorySink::new(alloc, Vec::new(alloc));
-    serves(&rt, &turns, sink, 0, &[], 0, failed)
+    let source = serves(&rt, &turns, sink, 0, &[], 0, failed)?;
+    still_holds(&rt, source, &INIT_7_8)
 }
 
 #[test]
@@ -87,9 +85,10 @@ fn a_source_may_give_nothing(rt: HostRuntime) -> Result<(), Fail> {
         Bytes(&message),
         Nothing,
     ];
-    let answer = refusal(2, 0xfe);
+    let answer = error_reply(2, ENOENT);
     let sink = MemorySink::new(alloc, Vec::new(alloc));
-    serves(&rt, &turns, sink, 2, &[&ACCEPTED, &answer], 0, Ok(()))
+    let _source = serves(&rt, &turns, sink, 2, &[&ACCEPTED, &answer], 0, Ok(()))?;
+    Ok(())
 }
 
 #[test]
@@ -102,12 +101,12 @@ fn a_sink_may_refuse(rt: HostRuntime) -> Result<(), Fail> {
         Next::Bytes(&first),
         Next::Bytes(&second),
     ];
-    let answer = refusal(3, 0xfe);
+    let answer = error_reply(3, ENOENT);
     for fault in [Sending::Failed, Sending::Absent] {
         let mut faults = Vec::new(alloc);
         faults.push((2, fault))?;
         let sink = MemorySink::new(alloc, faults);
-        serves(&rt, &turns, sink, 3, &[&ACCEPTED, &answer], 1, Ok(()))?;
+        let _source = serves(&rt, &turns, sink, 3, &[&ACCEPTED, &answer], 1, Ok(()))?;
     }
     Ok(())
 }
@@ -120,7 +119,12 @@ struct RefusingOnce {
 }
 
 impl Sink for RefusingOnce {
-    ghost told = { λ s. record { frames = None; notes = None; faults = s.faults; origin = record { bytes = None; faults = 0 } } };
+    ghost told = { λ s. record {
+      frames = None;
+      notes = None;
+      faults = s.faults;
+      origin = record { bytes = None; faults = 0 };
+    } };
 
     fn send(&mut self, header: &[u8; 16], payload: &[u8]) -> Sending {
         match self.inner.send(header, payload) {

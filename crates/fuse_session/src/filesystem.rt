@@ -1,43 +1,48 @@
 // What a filesystem is.
-ghost use Rattle.std.specs.Prelude.{◌≡◌, ℕ, Result};
-ghost use Rattle.fuse_config.specs.Values.{Configuration};
-ghost use Rattle.fuse_reply.specs.Answer.{Answer};
+ghost use Rattle.std.specs.Prelude.{◌≡◌, Bool};
 ghost use Rattle.fuse_request.specs.Call.{Call, handle_number, owner_number};
 ghost use Rattle.fuse_session.specs.Owed.{Answered};
-ghost use Rattle.fuse_request.specs.declared.request.Request.{Request as Asker};
+ghost use Rattle.fuse_session.specs.Promise.{Promise};
 
 use fuse_config::KernelConfig;
 use fuse_reply::{Replied, ReplyAttr, ReplyData, ReplyEntry};
 use fuse_request::Request;
 use fuse_wire::{Errno, FileHandle, INodeNo, LockOwner, OpenFlags};
 
-/// A filesystem. Its ghost members are its promise: what it may do and answer, over plain data.
+/// A filesystem, as a session serves it. The session calls `init` at most once and before any request, then a method
+/// for each request that its verdict sends here, and `destroy` last. A method that is to answer is handed the reply,
+/// made for that request alone, and gives back what it spent the reply into.
 pub trait Filesystem: Send + Sync {
-    /// `init` may give this result to a request, and leave this filesystem and configuration.
-    ghost may_init: { Self → Asker → Configuration → Result (Unit {0}) ℕ → Self → Configuration → Type 0 };
+    /// What it may do and answer, over plain data. What is proved of a session speaks of its filesystem by this alone.
+    ghost promise: { Promise Self };
 
-    /// A call of a request may have this answer.
-    ghost may_answer: { Self → Asker → Call → Answer → Type 0 };
+    /// Whether a reply may be given after its method has returned. No reply can do so yet, and a session asks for
+    /// false.
+    const DEFERS: bool;
 
-    /// A forget of a request may have this mark.
-    ghost may_note: { Self → Asker → Call → ℕ → Type 0 };
+    /// That constant, as a contract names it.
+    ghost DEFERS: { Bool };
 
-    /// `destroy` may leave this filesystem.
-    ghost may_destroy: { Self → Self → Type 0 };
-
-    /// A kernel offers to speak. An error refuses it, and is its reply.
+    /// The kernel opens the connection: INIT, of a version from 7.6 to 7.x. `config` has what it offers and the values
+    /// that the reply gets, which may be set here. Ok accepts the kernel. An error refuses it: the error is the reply,
+    /// and the session ends with `SessionError::Init`.
     fn init(&mut self, request: &Request, config: &mut KernelConfig) -> Result<(), Errno>
-        ensures { may_init self.old request.now config.old result self.new config.new };
+        ensures { promise.may_init self.old request.now config.old result self.new config.new };
 
-    /// Which inode the name means in this directory. The answer counts as a lookup of it.
+    /// LOOKUP: which inode the name means in the directory `parent`. The kernel asks before it does anything else with
+    /// a name. The answer is the inode with its attributes, and how long the kernel may rely on both; the error for a
+    /// name that is not there is ENOENT. Each answer counts as one lookup of that inode, until `forget` gives it back.
     fn lookup(&self, request: &Request, parent: INodeNo, name: &[u8], reply: ReplyEntry) -> Replied
-        ensures { Answered may_answer self.now request.now (Call.Lookup parent.0 name.now) reply result };
+        ensures { Answered promise.may_answer self.now request.now (Call.Lookup parent.0 name.now) reply result };
 
-    /// So many lookups of this inode are given back. There is no reply; the result is the mark that is noted.
+    /// FORGET: the kernel gives back `nlookup` lookups of this inode. Once all are given back it does not name the
+    /// inode again before another lookup; at the end of a session some may never be given back. There is no reply: the
+    /// result is the mark that the sink notes beside the request's id.
     fn forget(&self, request: &Request, ino: INodeNo, nlookup: u64) -> u64
-        ensures { may_note self.now request.now (Call.Forget ino.0 nlookup) result };
+        ensures { promise.may_note self.now request.now (Call.Forget ino.0 nlookup) result };
 
-    /// What the attributes of this inode are, of the open file where there is one.
+    /// GETATTR: what the attributes of this inode are. `fh` is the open file by which the kernel asks, if it asks by
+    /// one. The answer is the attributes, and how long the kernel may rely on them.
     fn getattr(
         &self,
         request: &Request,
@@ -45,9 +50,13 @@ pub trait Filesystem: Send + Sync {
         fh: Option<FileHandle>,
         reply: ReplyAttr,
     ) -> Replied
-        ensures { Answered may_answer self.now request.now (Call.GetAttr ino.0 (handle_number fh)) reply result };
+        ensures { Answered promise.may_answer self.now request.now
+            (Call.GetAttr ino.0 (handle_number fh)) reply result };
 
-    /// The bytes of an open file from this offset on, at most so many. Fewer are the end of the file.
+    /// READ: the bytes of an open file from `offset` on, `size` of them. `offset` and `size` are in bytes, and
+    /// `offset` is at most `i64::MAX`. Fewer bytes than `size` are the end of the file, and none are past it. `fh` is
+    /// the number that the file was opened with, `flags` are those that it is open with (`O_SYNC` and the like), and
+    /// `lock_owner` is who holds the locks of the read, where the kernel says it.
     fn read(
         &self,
         request: &Request,
@@ -59,9 +68,14 @@ pub trait Filesystem: Send + Sync {
         lock_owner: Option<LockOwner>,
         reply: ReplyData,
     ) -> Replied
-        ensures { Answered may_answer self.now request.now (Call.Read ino.0 fh.0 offset size flags.0 (owner_number lock_owner)) reply result };
+        ensures { Answered promise.may_answer self.now request.now
+            (Call.Read ino.0 fh.0 offset size flags.0 (owner_number lock_owner)) reply result };
 
-    /// The session is over. It is called once.
+    /// The session is over. It is called once and last on each end of a session, but for the want of memory at its
+    /// start, where nothing is called.
     fn destroy(&mut self)
-        ensures { may_destroy self.old self.new };
+        ensures { promise.may_destroy self.old self.new };
+
+    /// The promise says the same of deferral as the constant.
+    ghost deferral: { promise.defers ≡ DEFERS };
 }

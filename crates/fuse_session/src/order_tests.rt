@@ -2,8 +2,9 @@
 ghost use Rattle.std.specs.Prelude.{None};
 
 use crate::counting::run;
-use crate::tests::{INIT_7_8, source_of};
+use crate::test_messages::{INIT_7_8, NO_OPCODE, forget, lookup, message, source_of};
 use fuse_config::Config;
+use fuse_request::opcode::{FUSE_DESTROY, FUSE_STATFS};
 use fuse_wire::{MemorySource, Noting, Received, RequestId, Sending, Sink, Source};
 use std::sync::atomic::{AtomicU64, Ordering};
 use std::test::Fail;
@@ -44,7 +45,12 @@ struct Answering<'a> {
 }
 
 impl Sink for Answering<'_> {
-    ghost told = { λ s. record { frames = None; notes = None; faults = 0; origin = record { bytes = None; faults = 0 } } };
+    ghost told = { λ s. record {
+      frames = None;
+      notes = None;
+      faults = 0;
+      origin = record { bytes = None; faults = 0 };
+    } };
 
     fn send(&mut self, _header: &[u8; 16], _payload: &[u8]) -> Sending {
         self.answered.fetch_add(1, Ordering::SeqCst);
@@ -57,29 +63,18 @@ impl Sink for Answering<'_> {
     }
 }
 
-/// A message of node 1, with an id and this opcode and last byte.
-fn message(opcode: u8, id: u8) -> [u8; 48] {
-    let mut bytes = [0; 48];
-    bytes[0] = 48;
-    bytes[4] = opcode;
-    bytes[8] = id;
-    bytes[16] = 1;
-    bytes
-}
-
 #[test]
 fn each_message_is_answered_before_the_next_is_taken(rt: HostRuntime) -> Result<(), Fail> {
     let mut later = INIT_7_8;
     later[40] = 8;
-    // INIT of version 8.8 and of 7.8, LOOKUP, FORGET, an opcode that names no operation, STATFS, and DESTROY
     let messages: [&[u8]; 7] = [
         &later,
         &INIT_7_8,
-        &message(1, 2),
-        &message(2, 3),
-        &message(7, 4),
-        &message(17, 5),
-        &message(38, 6),
+        &lookup(2, 0),
+        &forget(3, 0),
+        &message(NO_OPCODE, 4, 1, 0),
+        &message(FUSE_STATFS, 5, 1, 0),
+        &message(FUSE_DESTROY, 6, 1, 0),
     ];
     let answered = AtomicU64::new(0);
     let source = Awaiting {
@@ -91,11 +86,9 @@ fn each_message_is_answered_before_the_next_is_taken(rt: HostRuntime) -> Result<
     let sink = Answering {
         answered: &answered,
     };
-    let (course, _, _) = run(&rt, source, sink, &Config::new());
+    let (course, source, _) = run(&rt, source, sink, &Config::new());
     let answered = answered.load(Ordering::SeqCst);
-    assert_eq!(rt;
-        (course.outcome, course.transcript.received, answered),
-        (Ok(()), 7, 7)
-    );
+    assert_eq!(rt; (course.outcome, source.faults), (Ok(()), 0));
+    assert_eq!(rt; (course.transcript.received, answered), (7, 7));
     Ok(())
 }

@@ -1,140 +1,93 @@
 // Serving a filesystem, from the first message to the last.
-ghost use Rattle.std.specs.Prelude.{◌≡◌, ◌≢◌, ◌≤◌, ◌<◌, ◌⊎◌, Ok, Err, length, IfOk};
-ghost use Rattle.fuse_session.specs.Counts.{nothing_yet};
-ghost use Rattle.fuse_session.specs.Causes.{Caused};
-ghost use Rattle.fuse_session.specs.Complete.{NothingAmiss};
-ghost use Rattle.fuse_session.specs.Totals.{Totals, LostAtMost};
-ghost use Rattle.fuse_session.specs.Converses.{Runs, Converses, Session};
-ghost use Rattle.fuse_session.specs.Owed.{Owed};
-ghost use Rattle.fuse_session.specs.Promise.{promises};
+ghost use Rattle.std.specs.Prelude.{◌≡◌, ◌≢◌, ◌<◌, ◌⊎◌, Ok, Err, false, length};
+ghost use Rattle.fuse_session.specs.Progress.{nothing_yet, progress};
+ghost use Rattle.fuse_session.specs.Complete.{SessionWell};
+ghost use Rattle.fuse_session.specs.Exchange.{Exchange, Mounted, setup, setup_of};
 ghost use Rattle.fuse_session.specs.Headline.{Headline, Lossless};
+ghost use Rattle.fuse_session.specs.SessionEnd.{run_outcome};
 
-use crate::handshake::handshake;
-use crate::serving::{End, run_inline};
-use crate::verdict::Access;
+use crate::access::AccessRule;
+use crate::channel::Channel;
+use crate::dispatch::Service;
+use crate::event_loop::{End, run_inline};
+use crate::handshake::{HandshakeOutcome, handshake};
 use crate::{Filesystem, InvalidData, SessionError, Transcript};
 use fuse_config::Config;
 use fuse_wire::consts::BUFFER_SIZE;
-use fuse_wire::{Sink, Source};
-use std::alloc::{AllocError, Global};
+use fuse_wire::{Sink, Source, receive_buffer};
 use std::sync::Wait;
 
 /// How a session ended. It hands back all that the session was given.
 #[derive(Debug)]
 pub struct Ended<FS, S, K> {
-    /// The filesystem, behind its `destroy` unless no memory was to be had.
+    /// The filesystem, after its `destroy` unless no memory was to be had.
     pub filesystem: FS,
-    /// The source.
+    /// The source, with the messages that were not taken.
     pub source: S,
-    /// The sink.
+    /// The sink, with the frames and notes that it took.
     pub sink: K,
-    /// Ok where the source ended, or the kernel sent DESTROY.
+    /// Ok where the source ended after the handshake, or the kernel sent DESTROY. Else why it ended early.
     pub outcome: Result<(), SessionError>,
     /// What the session did, in numbers.
     pub transcript: Transcript,
 }
 
-/// What a session is run with.
-#[derive(Clone, Copy)]
-struct Settings {
-    page_size: u32,
-    access: Access,
-    n_threads: Option<usize>,
-}
-
-/// A receive buffer.
-fn receive_buffer(alloc: Global, size: usize) -> Result<Vec<u8>, AllocError>
-    ensures { IfOk result (λ buffer. length buffer.items ≡ size) }
-{
-    vec![in alloc; 0; size]
-}
-
-/// The run behind an accepted handshake.
-fn run<R: Wait + AllocGlobal, FS: Filesystem, S: Source, K: Sink>(
-    rt: &R,
-    filesystem: &FS,
-    settings: Settings,
-    source: &mut S,
-    sink: &mut K,
-    buffer: &mut [u8],
-    transcript: &mut Transcript,
-) -> Result<(), SessionError>
-    requires { length buffer.old ≡ BUFFER_SIZE }
-    ensures { Runs (Owed (promises FS.may_init FS.may_answer FS.may_note FS.may_destroy) filesystem.now settings.access.acl settings.access.owner) settings.n_threads settings.access.acl settings.access.owner result (S.told source.old) (S.told source.new) (K.told sink.old) (K.told sink.new) transcript.old transcript.new }
-{
-    match settings.n_threads {
-        Some(0) => Err(SessionError::Threads),
-        _ => match run_inline(
-            rt,
-            filesystem,
-            settings.access,
-            source,
-            sink,
-            buffer,
-            transcript,
-        ) {
-            End::Gone => Ok(()),
-            End::Destroyed => Ok(()),
+impl End {
+    /// The outcome of a session whose run ended so.
+    fn outcome(self) -> Result<(), SessionError>
+        ensures { result ≡ run_outcome self }
+    {
+        match self {
+            End::Gone | End::Destroyed => Ok(()),
             End::Broken(error) => Err(SessionError::InvalidData(InvalidData::Header(error))),
             End::Failed => Err(SessionError::Receive),
-        },
+        }
     }
 }
 
-/// The handshake, and where it is accepted the run behind it.
-fn converse<R: Wait + AllocGlobal, FS: Filesystem, S: Source, K: Sink>(
+/// The handshake, and where it is accepted and some thread is to serve the run after it.
+fn exchange<R: Wait + AllocGlobal, FS: Filesystem, S: Source, K: Sink>(
     rt: &R,
-    filesystem: &mut FS,
-    settings: Settings,
-    source: &mut S,
-    sink: &mut K,
-    buffer: &mut [u8],
-    transcript: &mut Transcript,
+    service: &mut Service<FS>,
+    page_size: u32,
+    n_threads: Option<usize>,
+    channel: &mut Channel<S, K>,
 ) -> Result<(), SessionError>
-    requires page { 0 < settings.page_size }
-    requires buffer { length buffer.old ≡ BUFFER_SIZE }
-    ensures { Converses (promises FS.may_init FS.may_answer FS.may_note FS.may_destroy) settings.page_size settings.n_threads settings.access.acl settings.access.owner filesystem.old filesystem.new
-        result (S.told source.old) (S.told source.new) (K.told sink.old) (K.told sink.new) transcript.old transcript.new }
+    requires { 0 < page_size }
+    ensures rule { service.new.rule ≡ service.old.rule }
+    ensures exchange { Exchange
+        (setup_of FS.promise page_size n_threads service.old.rule.acl service.old.rule.owner)
+        service.old.filesystem service.new.filesystem result channel.old.progress channel.new.progress }
 {
-    match handshake(
-        rt,
-        filesystem,
-        settings.page_size,
-        source,
-        sink,
-        buffer,
-        transcript,
-    ) {
-        Ok(()) => run(rt, filesystem, settings, source, sink, buffer, transcript),
-        Err(error) => Err(error),
+    match handshake(rt, &mut service.filesystem, page_size, channel) {
+        HandshakeOutcome::Accepted if n_threads == Some(0) => Err(SessionError::Threads),
+        HandshakeOutcome::Accepted => run_inline(rt, service, channel).outcome(),
+        HandshakeOutcome::Gone => Err(SessionError::NotConnected),
+        HandshakeOutcome::Refused(error) => Err(SessionError::of_handshake(error)),
+        HandshakeOutcome::Failed => Err(SessionError::Receive),
     }
 }
 
-/// A session over buffers that were taken before.
-fn serve_session<R: Wait + AllocGlobal, FS: Filesystem, S: Source, K: Sink>(
+/// A session over a buffer that was taken before.
+fn serve<R: Wait + AllocGlobal, FS: Filesystem, S: Source, K: Sink>(
     rt: &R,
-    mut filesystem: FS,
-    mut source: S,
-    mut sink: K,
-    settings: Settings,
-    buffer: &mut [u8],
+    mut service: Service<FS>,
+    mut channel: Channel<S, K>,
+    page_size: u32,
+    n_threads: Option<usize>,
 ) -> Ended<FS, S, K>
-    requires page { 0 < settings.page_size }
-    requires buffer { length buffer.old ≡ BUFFER_SIZE }
-    ensures { Session (promises FS.may_init FS.may_answer FS.may_note FS.may_destroy) settings.page_size settings.n_threads settings.access.acl settings.access.owner filesystem result.filesystem
-        result.outcome (S.told source) (S.told result.source) (K.told sink) (K.told result.sink) result.transcript }
+    requires { 0 < page_size }
+    ensures { Mounted (setup_of FS.promise page_size n_threads service.rule.acl service.rule.owner)
+        service.filesystem result.filesystem result.outcome
+        channel.progress (progress (S.told result.source) (K.told result.sink) result.transcript) }
 {
-    let mut transcript = Transcript::new();
-    let outcome = converse(
-        rt,
-        &mut filesystem,
-        settings,
-        &mut source,
-        &mut sink,
-        buffer,
-        &mut transcript,
-    );
+    let outcome = exchange(rt, &mut service, page_size, n_threads, &mut channel);
+    let Service {
+        mut filesystem,
+        rule: _,
+    } = service;
     filesystem.destroy();
+    let (source, sink, transcript) = channel.into_parts();
     Ended {
         filesystem,
         source,
@@ -145,8 +98,11 @@ fn serve_session<R: Wait + AllocGlobal, FS: Filesystem, S: Source, K: Sink>(
 }
 
 /// Serves a filesystem: the handshake with the kernel, then each message, until the source ends or the kernel sends
-/// DESTROY. The receive buffer is the only memory that it takes itself, and it is taken before the first message is. `owner`
-/// is the user whose session it is, and `page_size` is in bytes. `destroy` is called once, unless no memory was to be had.
+/// DESTROY. Each message is answered before the next is taken. `owner` is the user whose session it is, and `config`
+/// says whose requests are served. `page_size` is in bytes, and not 0: the kernel is told how many pages a request may
+/// span. The receive buffer is the only memory that it takes itself, before the first message; without it the outcome
+/// is `Memory`. `destroy` is called once, unless no memory was to be had. A frame or a note that the sink refuses is
+/// counted as lost, and not sent again.
 pub fn mount<R: Wait + AllocGlobal, FS: Filesystem, S: Source, K: Sink + Send>(
     rt: &R,
     filesystem: FS,
@@ -156,55 +112,48 @@ pub fn mount<R: Wait + AllocGlobal, FS: Filesystem, S: Source, K: Sink + Send>(
     page_size: u32,
     config: &Config,
 ) -> Ended<FS, S, K>
-    requires { 0 < page_size }
+    requires page { 0 < page_size }
+    // No reply comes after its method has returned.
+    requires prompt { FS.DEFERS ≡ false }
 
     // One reply for each message: see `Headline`.
     ensures headline { result.outcome ≡ Ok tt → Lossless (K.told sink) (K.told result.sink) result.transcript →
-        Headline (promises FS.may_init FS.may_answer FS.may_note FS.may_destroy) page_size config.now.acl owner filesystem (S.told source) (S.told result.source) (K.told sink) (K.told result.sink) }
+        Headline FS.promise page_size config.now.acl owner filesystem (S.told source) (S.told result.source)
+        (K.told sink) (K.told result.sink) }
 
-    // What was taken, sent and lost on every end, with its cause, and that `destroy` was called once.
+    // What was taken, sent, lost and counted on every end, why it ended so, and that `destroy` was called once.
     ensures session { result.outcome ≢ Err SessionError.Memory →
-        Session (promises FS.may_init FS.may_answer FS.may_note FS.may_destroy) page_size config.now.n_threads config.now.acl owner filesystem result.filesystem
-        result.outcome (S.told source) (S.told result.source) (K.told sink) (K.told result.sink) result.transcript }
-
-    // Why it ended so: the messages taken, the filesystem's promise, the number of threads, or the source's count.
-    ensures cause { result.outcome ≢ Err SessionError.Memory →
-        Caused (promises FS.may_init FS.may_answer FS.may_note FS.may_destroy) page_size config.now.n_threads config.now.acl owner filesystem
-        result.outcome (S.told source) (S.told result.source) }
+        Mounted (setup FS.promise page_size config.now owner) filesystem result.filesystem result.outcome
+        (progress (S.told source) (K.told sink) nothing_yet)
+        (progress (S.told result.source) (K.told result.sink) result.transcript) }
 
     // It ends well where nothing is amiss, or else for want of memory.
-    ensures complete { NothingAmiss FS.may_init config.now.n_threads filesystem (S.told source) (S.told result.source) →
+    ensures complete { SessionWell FS.promise.may_init config.now.n_threads filesystem
+        (S.told source) (S.told result.source) →
         (result.outcome ≡ Ok tt) ⊎ (result.outcome ≡ Err SessionError.Memory) }
-
-    // The numbers of what was taken and sent.
-    ensures counts { Totals result.outcome (S.told source) (S.told result.source) (K.told sink) (K.told result.sink) result.transcript }
-
-    // No more was lost than the sink counted.
-    ensures lost { LostAtMost (K.told sink) (K.told result.sink) result.transcript }
-
-    // Nothing goes unrecorded.
-    ensures unrecorded { result.transcript.unrecorded ≡ 0 }
 
     // Want of memory leaves all as it was.
     ensures memory { result.outcome ≡ Err SessionError.Memory →
-        (result.filesystem ≡ filesystem) × (result.source ≡ source) × (result.sink ≡ sink) × (result.transcript ≡ nothing_yet) }
+        (result.filesystem ≡ filesystem) × (result.source ≡ source) × (result.sink ≡ sink)
+        × (result.transcript ≡ nothing_yet) }
 {
-    let settings = Settings {
-        page_size,
-        access: Access {
-            acl: config.acl,
-            owner,
-        },
-        n_threads: config.n_threads,
+    let buffer = match receive_buffer(rt.alloc()) {
+        Ok(buffer) => buffer,
+        Err(_) => {
+            return Ended {
+                filesystem,
+                source,
+                sink,
+                outcome: Err(SessionError::Memory),
+                transcript: Transcript::new(),
+            };
+        }
     };
-    match receive_buffer(rt.alloc(), BUFFER_SIZE) {
-        Ok(mut buffer) => serve_session(rt, filesystem, source, sink, settings, &mut buffer),
-        Err(_) => Ended {
-            filesystem,
-            source,
-            sink,
-            outcome: Err(SessionError::Memory),
-            transcript: Transcript::new(),
-        },
-    }
+    let rule = AccessRule {
+        acl: config.acl,
+        owner,
+    };
+    let service = Service { filesystem, rule };
+    let channel = Channel::new(source, sink, buffer);
+    serve(rt, service, channel, page_size, config.n_threads)
 }

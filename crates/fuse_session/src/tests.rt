@@ -1,42 +1,22 @@
 // Whole sessions, from memory to memory.
 
-use crate::counting::{CONTENTS, Course, run};
+use crate::counting::{CONTENTS, Counting, Course, run, run_with};
+use crate::test_messages::{
+    ACCEPTED, EACCES, EINVAL, EIO, ENOENT, ENOSYS, EPROTO, INIT_7_8, NO_OPCODE, endless_lookup,
+    error_reply, forget, getattr, init, lookup, message, read, short_forget, source_of,
+};
 use crate::{InvalidData, SessionError, Transcript};
 use fuse_config::{Config, SessionACL};
 use fuse_request::RequestError;
-use fuse_wire::{Items, MemorySink, MemorySource, RequestId, Turn, Version};
+use fuse_request::opcode::{FUSE_DESTROY, FUSE_LOOKUP};
+use fuse_wire::{MemorySink, MemorySource, RequestId, Version};
 use std::alloc::{AllocError, Global};
 use std::process::Abort;
 use std::sync::Wait;
 use std::test::Fail;
 
-/// INIT of version 7.8, of 104 bytes.
-pub(crate) const INIT_7_8: [u8; 104] = [
-    0x68, 0, 0, 0, 0x1a, 0, 0, 0, 0x0d, 0xf0, 0xad, 0xba, 0xef, 0xbe, 0xad, 0xde, 0x88, 0x77, 0x66,
-    0x55, 0x44, 0x33, 0x22, 0x11, 0x0d, 0xd0, 1, 0xc0, 0xfe, 0xca, 1, 0xc0, 0x5e, 0xba, 0xde, 0xc0,
-    0, 0, 0, 0, 7, 0, 0, 0, 8, 0, 0, 0, 0, 0x10, 0, 0, 0, 0, 0, 0, 0, 0, 0, 0, 0, 0, 0, 0, 0, 0, 0,
-    0, 0, 0, 0, 0, 0, 0, 0, 0, 0, 0, 0, 0, 0, 0, 0, 0, 0, 0, 0, 0, 0, 0, 0, 0, 0, 0, 0, 0, 0, 0, 0,
-    0, 0, 0, 0, 0,
-];
-
-/// The reply that accepts it.
-pub(crate) const ACCEPTED: [u8; 40] = [
-    0x28, 0, 0, 0, 0, 0, 0, 0, 0x0d, 0xf0, 0xad, 0xba, 0xef, 0xbe, 0xad, 0xde, 7, 0, 0, 0, 0x28, 0,
-    0, 0, 0, 0x10, 0, 0, 0, 0, 0, 0, 0x10, 0, 0x0c, 0, 0, 0, 0, 1,
-];
-
-/// A source of these messages.
-pub(crate) fn source_of(alloc: Global, messages: &[&[u8]]) -> Result<MemorySource, AllocError> {
-    let mut turns = Vec::new(alloc);
-    for message in messages {
-        let mut bytes = Vec::new(alloc);
-        bytes.extend_from_slice(message)?;
-        turns.push(Turn::Message(Items::from_vec(bytes)))?;
-    }
-    Ok(MemorySource::new(turns))
-}
-
-/// How many messages a session takes, how many frames and notes it loses, how often it calls its filesystem, and what it notes.
+/// How many messages a session takes, how many frames and notes it loses, how often it calls its filesystem, and what
+/// it notes.
 #[derive(Clone, Copy)]
 pub(crate) struct Counts<'a> {
     pub(crate) received: u64,
@@ -45,8 +25,8 @@ pub(crate) struct Counts<'a> {
     pub(crate) notes: &'a [(RequestId, u64)],
 }
 
-/// Serves this source in a session with this outcome and these counts, of which the sink takes these frames and the notes, and
-/// no other.
+/// Serves this source in a session with this outcome and these counts, of which the sink takes these frames and the
+/// notes, and no other. The source comes back.
 pub(crate) fn serves_source<R: Wait + AllocGlobal + Abort>(
     rt: &R,
     config: &Config,
@@ -55,8 +35,8 @@ pub(crate) fn serves_source<R: Wait + AllocGlobal + Abort>(
     frames: &[&[u8]],
     outcome: Result<(), SessionError>,
     counts: Counts<'_>,
-) {
-    let (course, _, sink) = run(rt, source, sink, config);
+) -> MemorySource {
+    let (course, source, sink) = run(rt, source, sink, config);
     let expected = Course {
         outcome,
         transcript: Transcript {
@@ -77,6 +57,7 @@ pub(crate) fn serves_source<R: Wait + AllocGlobal + Abort>(
     for (sent, frame) in sink.frames().iter().zip(frames) {
         assert_eq!(rt; sent.as_slice(), *frame);
     }
+    source
 }
 
 /// Serves the first of these messages in a session that sends these frames, with this outcome and these counts.
@@ -91,12 +72,12 @@ fn serves_calls<R: Wait + AllocGlobal + Abort>(
     let alloc = rt.alloc();
     let source = source_of(alloc, messages)?;
     let sink = MemorySink::new(alloc, Vec::new(alloc));
-    serves_source(rt, config, source, sink, frames, outcome, counts);
+    let _source = serves_source(rt, config, source, sink, frames, outcome, counts);
     Ok(())
 }
 
-/// Serves the first of these messages, so many, in a session with this outcome, which sends these frames and no note, and
-/// calls the filesystem for none.
+/// Serves the first of these messages, so many, in a session with this outcome, which sends these frames and no note,
+/// and calls the filesystem for none.
 fn serves<R: Wait + AllocGlobal + Abort>(
     rt: &R,
     config: &Config,
@@ -112,36 +93,6 @@ fn serves<R: Wait + AllocGlobal + Abort>(
         notes: &[],
     };
     serves_calls(rt, config, messages, frames, outcome, counts)
-}
-
-/// A message with no arguments.
-fn message(opcode: u8, id: u8, node: u8, uid: u8) -> [u8; 40] {
-    let mut bytes = [0; 40];
-    bytes[0] = 40;
-    bytes[4] = opcode;
-    bytes[8] = id;
-    bytes[16] = node;
-    bytes[24] = uid;
-    bytes
-}
-
-/// INIT of this version, with the id 1.
-fn init(major: u8, minor: u8) -> [u8; 104] {
-    let mut bytes = [0; 104];
-    bytes[0] = 104;
-    bytes[4] = 26;
-    bytes[8] = 1;
-    bytes[40] = major;
-    bytes[44] = minor;
-    bytes[49] = 0x10;
-    bytes
-}
-
-/// The reply to this id with this status, of which the lowest byte is given.
-pub(crate) fn refusal(id: u8, status: u8) -> [u8; 16] {
-    [
-        16, 0, 0, 0, status, 0xff, 0xff, 0xff, id, 0, 0, 0, 0, 0, 0, 0,
-    ]
 }
 
 /// A faulty header.
@@ -196,7 +147,14 @@ fn agrees_on_a_version(rt: HostRuntime) -> Result<(), Fail> {
         &[&offer, &ACCEPTED],
         Ok(()),
     )?;
-    serves(&rt, &config, &[&init(7, 5)], 1, &[&refusal(1, 0xb9)], old)
+    serves(
+        &rt,
+        &config,
+        &[&init(7, 5)],
+        1,
+        &[&error_reply(1, EPROTO)],
+        old,
+    )
 }
 
 #[test]
@@ -204,15 +162,22 @@ fn awaits_init(rt: HostRuntime) -> Result<(), Fail> {
     let config = Config::new();
     let unknown = InvalidData::Operation(RequestError::UnknownOperation(7));
     let unknown = Err(SessionError::InvalidData(unknown));
-    let destroy = Err(SessionError::InvalidData(InvalidData::NotInit(38)));
-    let early = Err(SessionError::InvalidData(InvalidData::NotInit(1)));
-    let refused = refusal(2, 0xfb);
+    let destroy = Err(SessionError::InvalidData(InvalidData::NotInit(FUSE_DESTROY)));
+    let early = Err(SessionError::InvalidData(InvalidData::NotInit(FUSE_LOOKUP)));
+    let refused = error_reply(2, EIO);
     serves(&rt, &config, &[], 0, &[], Err(SessionError::NotConnected))?;
-    serves(&rt, &config, &[&message(7, 2, 1, 0)], 1, &[], unknown)?;
     serves(
         &rt,
         &config,
-        &[&message(38, 2, 0, 0)],
+        &[&message(NO_OPCODE, 2, 1, 0)],
+        1,
+        &[],
+        unknown,
+    )?;
+    serves(
+        &rt,
+        &config,
+        &[&message(FUSE_DESTROY, 2, 0, 0)],
         1,
         &[&refused],
         destroy,
@@ -221,14 +186,10 @@ fn awaits_init(rt: HostRuntime) -> Result<(), Fail> {
 }
 
 #[test]
-fn serves_behind_init(rt: HostRuntime) -> Result<(), Fail> {
+fn serves_after_init(rt: HostRuntime) -> Result<(), Fail> {
     let config = Config::new();
-    let unknown = message(7, 2, 1, 5);
-    let destroy = message(38, 2, 0, 0);
-    let mut late = [0; 42];
-    late[..40].copy_from_slice(&message(1, 3, 1, 0));
-    late[0] = 42;
-    late[40] = 0x78;
+    let unknown = message(NO_OPCODE, 2, 1, 5);
+    let destroy = message(FUSE_DESTROY, 2, 0, 0);
     let done = [16, 0, 0, 0, 0, 0, 0, 0, 2, 0, 0, 0, 0, 0, 0, 0];
     let idle = Config {
         acl: SessionACL::Owner,
@@ -240,51 +201,18 @@ fn serves_behind_init(rt: HostRuntime) -> Result<(), Fail> {
         &config,
         &[&INIT_7_8, &unknown],
         2,
-        &[&ACCEPTED, &refusal(2, 0xda)],
+        &[&ACCEPTED, &error_reply(2, ENOSYS)],
         Ok(()),
     )?;
     serves(
         &rt,
         &config,
-        &[&INIT_7_8, &destroy, &late],
+        &[&INIT_7_8, &destroy, &lookup(3, 0)],
         2,
         &[&ACCEPTED, &done],
         Ok(()),
     )?;
     serves(&rt, &idle, &[&INIT_7_8], 1, &[&ACCEPTED], no_threads)
-}
-
-/// Puts a header, of which the length is made right, and a body into a message.
-fn fill(message: &mut [u8], head: &[u8], body: &[u8]) {
-    let length = message.len().min(255) as u8;
-    for (place, byte) in message.iter_mut().zip(head.iter().chain(body)) {
-        *place = *byte;
-    }
-    if let Some(first) = message.first_mut() {
-        *first = length;
-    }
-}
-
-/// A LOOKUP of the name `none`.
-pub(crate) fn lookup(id: u8, uid: u8) -> [u8; 45] {
-    let mut bytes = [0; 45];
-    fill(&mut bytes, &message(1, id, 1, uid), b"none\0");
-    bytes
-}
-
-/// A READ with this last byte of its offset.
-fn read(id: u8, uid: u8, last: u8) -> [u8; 80] {
-    let mut bytes = [0; 80];
-    fill(&mut bytes, &message(15, id, 2, uid), &[]);
-    bytes[55] = last;
-    bytes
-}
-
-/// A FORGET of one lookup.
-pub(crate) fn forget(id: u8, uid: u8) -> [u8; 48] {
-    let mut bytes = [0; 48];
-    fill(&mut bytes, &message(2, id, 2, uid), &[1]);
-    bytes
 }
 
 /// The reply of a read to this id.
@@ -297,10 +225,6 @@ fn contents_for(id: u8) -> [u8; 216] {
 
 #[test]
 fn calls_the_filesystem_once_for_each_message(rt: HostRuntime) -> Result<(), Fail> {
-    let mut getattr = [0; 56];
-    fill(&mut getattr, &message(3, 3, 2, 0), &[]);
-    let mut short_forget = [0; 47];
-    fill(&mut short_forget, &message(2, 6, 2, 0), &[1]);
     serves_calls(
         &rt,
         &Config::new(),
@@ -308,18 +232,18 @@ fn calls_the_filesystem_once_for_each_message(rt: HostRuntime) -> Result<(), Fai
             &INIT_7_8,
             &lookup(2, 0),
             &lookup(2, 0),
-            &getattr,
-            &read(4, 0, 0),
+            &getattr(3, 0),
+            &read(4, 0, 0, 4096),
             &forget(5, 0),
-            &short_forget,
+            &short_forget(6, 0),
         ],
         &[
             &ACCEPTED,
-            &refusal(2, 0xfe),
-            &refusal(2, 0xfe),
-            &refusal(3, 0xfb),
+            &error_reply(2, ENOENT),
+            &error_reply(2, ENOENT),
+            &error_reply(3, EIO),
             &contents_for(4),
-            &refusal(6, 0xda),
+            &error_reply(6, ENOSYS),
         ],
         Ok(()),
         Counts {
@@ -337,27 +261,25 @@ fn refuses_before_the_filesystem_is_called(rt: HostRuntime) -> Result<(), Fail> 
         acl: SessionACL::Owner,
         n_threads: Some(1),
     };
-    let mut no_name = [0; 44];
-    fill(&mut no_name, &message(1, 3, 1, 5), b"none");
     serves_calls(
         &rt,
         &owner,
         &[
             &INIT_7_8,
             &lookup(2, 5),
-            &no_name,
+            &endless_lookup(3, 5),
             &forget(4, 5),
-            &read(5, 5, 0x80),
-            &read(7, 5, 0x7f),
+            &read(5, 5, 0x80, 4096),
+            &read(7, 5, 0x7f, 4096),
             &init(7, 8),
         ],
         &[
             &ACCEPTED,
-            &refusal(2, 0xf3),
-            &refusal(3, 0xda),
-            &refusal(5, 0xea),
+            &error_reply(2, EACCES),
+            &error_reply(3, ENOSYS),
+            &error_reply(5, EINVAL),
             &contents_for(7),
-            &refusal(1, 0xfb),
+            &error_reply(1, EIO),
         ],
         Ok(()),
         Counts {
@@ -367,4 +289,53 @@ fn refuses_before_the_filesystem_is_called(rt: HostRuntime) -> Result<(), Fail> 
             notes: &[(RequestId(4), 3)],
         },
     )
+}
+
+#[test]
+fn serves_any_owner_pages_and_threads(rt: HostRuntime) -> Result<(), Fail> {
+    let alloc = rt.alloc();
+    let rows = [
+        (0, 1, None),
+        (1000, 4096, Some(1)),
+        (u32::MAX, 65536, Some(64)),
+        (1, u32::MAX, Some(usize::MAX)),
+    ];
+    for (owner, page_size, n_threads) in &rows {
+        let config = Config {
+            acl: SessionACL::RootAndOwner,
+            n_threads: *n_threads,
+        };
+        let source = source_of(alloc, &[&INIT_7_8])?;
+        let sink = MemorySink::new(alloc, Vec::new(alloc));
+        let fresh = Counting::new(None);
+        let (course, _, sink) = run_with(&rt, fresh, source, sink, *owner, *page_size, &config);
+        assert_eq!(rt; (course.outcome, sink.frames().len()), (Ok(()), 1));
+    }
+    Ok(())
+}
+
+/// Reads a file of so many bytes at once: the frame has this header and all of them.
+fn reads_whole<R: Wait + AllocGlobal + Abort>(
+    rt: &R,
+    size: u32,
+    header: &[u8; 16],
+) -> Result<(), Fail> {
+    let alloc = rt.alloc();
+    let contents = vec![in alloc; 0x2a; size as usize]?;
+    let source = source_of(alloc, &[&INIT_7_8, &read(2, 0, 0, size)])?;
+    let sink = MemorySink::new(alloc, Vec::new(alloc));
+    let full = Counting::new(Some(contents.clone()?));
+    let (course, _, sink) = run_with(rt, full, source, sink, 0, 4096, &Config::new());
+    assert_eq!(rt; course.outcome, Ok(()));
+    let frame = sink.frames().last().ok_or("no frame")?.as_slice();
+    assert_eq!(rt; frame.len(), contents.len().saturating_add(16));
+    assert!(rt; frame.starts_with(header));
+    assert!(rt; frame.ends_with(&contents));
+    Ok(())
+}
+
+#[test]
+fn reads_two_mebibytes_whole(rt: HostRuntime) -> Result<(), Fail> {
+    let header = [16, 0, 0x20, 0, 0, 0, 0, 0, 2, 0, 0, 0, 0, 0, 0, 0];
+    reads_whole(&rt, 0x20_0000, &header)
 }

@@ -1,10 +1,10 @@
 // What a session did, in numbers.
 ghost use Rattle.std.specs.Prelude.{◌≡◌};
 
-/// What a session did, in numbers. Each stays at its last value.
+/// What a session did, in numbers. Each is a count that stays at `u64::MAX` once it is there.
 #[derive(Clone, Copy, Debug, PartialEq, Eq, Default)]
 pub struct Transcript {
-    /// The messages taken.
+    /// The messages taken, those of the handshake too.
     pub received: u64,
     /// The reply frames that the sink took.
     pub frames: u64,
@@ -12,12 +12,12 @@ pub struct Transcript {
     pub notes: u64,
     /// The reply frames and notes that the sink did not take.
     pub lost: u64,
-    /// The marks and late frames that could not be kept.
+    /// The marks of replies to come and the late frames that could not be kept. No reply comes late yet, so it is 0.
     pub unrecorded: u64,
 }
 
 impl Transcript {
-    ghost use Rattle.fuse_session.specs.Counts.{nothing_yet};
+    ghost use Rattle.fuse_session.specs.Progress.{nothing_yet};
 
     /// Nothing was done yet.
     pub(crate) fn new() -> Transcript

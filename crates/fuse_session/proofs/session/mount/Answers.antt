@@ -1,27 +1,25 @@
-use Rattle.std.proofs.Common.{inl}
-use Rattle.fuse_session.proofs.CauseLaws.{Caused-from_session}
-use Rattle.fuse_session.proofs.CompleteLaws.{Ok-from_session}
-use Rattle.fuse_session.proofs.TotalLaws.{Totals-none, Totals-from_session, LostAtMost-from_totals, unrecorded-none}
-use Rattle.fuse_session.proofs.Whole.{Headline-from_session}
+-- The promises of a whole session, from its record.
+use Rattle.std.proofs.Common.{Ok, inl, refl, subst}
+use Rattle.fuse_session.specs.Exchange.{Outcome, Exchange, setup}
+use Rattle.fuse_session.specs.Progress.{Progress, nothing_yet, progress}
+use Rattle.fuse_session.proofs.Headlining.{Headline-from_exchange}
+use Rattle.fuse_session.proofs.Completing.{Ok-from_exchange}
 use Rattle.fuse_session.proofs.session.mount.Goals as goal
 
-pub returns-in-Ok-clause-headline : goal.returns-in-Ok-clause-headline
-returns-in-Ok-clause-headline g c = λ ok lossless. Headline-from_session _ _ _ _ _ _ _ _ _ _ _ _ _ c.serve_session.ensures ok lossless
+pub returns-clause-headline : goal.returns-clause-headline
+returns-clause-headline g c ok lossless =
+    let s = setup g.FS.Filesystem.promise c.args.page_size c.args.config.now c.args.owner in
+    let after = progress (g.S.Source.told c.serve.result.source) (g.K.Sink.told c.serve.result.sink) c.serve.result.transcript in
+    Headline-from_exchange {setup = s} {p = progress (g.S.Source.told c.args.source) (g.K.Sink.told c.args.sink) nothing_yet} {q = after}
+    (subst (λ (p : Progress). Exchange s c.args.filesystem c.serve.ensures.fs1 (Ok tt) p after) c.new-channel.ensures
+    (subst (λ (o : Outcome). Exchange s c.args.filesystem c.serve.ensures.fs1 o c.new-channel.result.progress after) ok c.serve.ensures.exchange))
+    refl lossless
 
-pub returns-in-Ok-clause-cause : goal.returns-in-Ok-clause-cause
-returns-in-Ok-clause-cause g c = λ _. Caused-from_session _ _ _ _ _ _ _ _ _ _ _ _ _ c.serve_session.ensures
-
-pub returns-in-Ok-clause-counts : goal.returns-in-Ok-clause-counts
-returns-in-Ok-clause-counts g c = Totals-from_session _ _ _ _ _ _ _ _ _ _ _ _ _ c.serve_session.ensures
-
-pub returns-in-Ok-clause-lost : goal.returns-in-Ok-clause-lost
-returns-in-Ok-clause-lost g c = LostAtMost-from_totals _ _ _ _ _ _ (Totals-from_session _ _ _ _ _ _ _ _ _ _ _ _ _ c.serve_session.ensures)
-
-pub returns-in-Ok-clause-unrecorded : goal.returns-in-Ok-clause-unrecorded
-returns-in-Ok-clause-unrecorded g c = unrecorded-none _ _ _ _ _ _ (Totals-from_session _ _ _ _ _ _ _ _ _ _ _ _ _ c.serve_session.ensures)
-
-pub returns-in-Err-clause-counts : goal.returns-in-Err-clause-counts
-returns-in-Err-clause-counts g c = Totals-none _ _ _ _ c.new.ensures
-
-pub returns-in-Ok-clause-complete : goal.returns-in-Ok-clause-complete
-returns-in-Ok-clause-complete g c = λ well. inl (Ok-from_session _ _ _ _ _ _ _ _ _ _ _ _ _ c.serve_session.ensures well)
+pub returns-clause-complete : goal.returns-clause-complete
+returns-clause-complete g c well =
+    let s = setup g.FS.Filesystem.promise c.args.page_size c.args.config.now c.args.owner in
+    let after = progress (g.S.Source.told c.serve.result.source) (g.K.Sink.told c.serve.result.sink) c.serve.result.transcript in
+    inl (Ok-from_exchange {setup = s} {p = progress (g.S.Source.told c.args.source) (g.K.Sink.told c.args.sink) nothing_yet} {q = after}
+    c.serve.result.outcome
+    (subst (λ (p : Progress). Exchange s c.args.filesystem c.serve.ensures.fs1 c.serve.result.outcome p after) c.new-channel.ensures
+    c.serve.ensures.exchange) well)

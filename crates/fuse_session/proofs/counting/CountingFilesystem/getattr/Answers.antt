@@ -3,4 +3,4 @@ use Rattle.fuse_session.proofs.Answering.{Answered-error}
 use Rattle.fuse_session.proofs.counting.CountingFilesystem.getattr.Goals as goal
 
 pub returns : goal.returns
-returns c = Answered-error _ _ _ _ _ _ 5 (lit< tt) (lit< tt) tt c.unanswered.ensures
+returns c = Answered-error 5 (lit< tt) (lit< tt) tt c.unanswered.ensures

@@ -3,4 +3,4 @@ use Rattle.fuse_session.proofs.Answering.{Answered-error}
 use Rattle.fuse_session.proofs.counting.CountingFilesystem.lookup.Goals as goal
 
 pub returns : goal.returns
-returns c = Answered-error _ _ _ _ _ _ 2 (lit< tt) (lit< tt) tt c.error.ensures.reply
+returns c = Answered-error 2 (lit< tt) (lit< tt) tt c.error.ensures.reply

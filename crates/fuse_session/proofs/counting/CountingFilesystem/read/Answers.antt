@@ -3,4 +3,4 @@ use Rattle.fuse_session.proofs.Answering.{Answered-replies}
 use Rattle.fuse_session.proofs.counting.CountingFilesystem.read.Goals as goal
 
 pub returns : goal.returns
-returns c = Answered-replies _ _ _ _ _ _ (Data _) tt c.data.ensures.answer tt c.data.ensures.replies
+returns c = Answered-replies (Data _) tt c.data.ensures.answer tt c.data.ensures.replies

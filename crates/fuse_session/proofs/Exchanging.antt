@@ -1,0 +1,149 @@
+-- A whole session from its two parts: the handshake, and the run after it.
+use Rattle.std.proofs.Common.{◌≡◌, ◌≢◌, ◌+◌, ◌++◌, ℕ, List, [], ◌∷◌, sym, ◌∙◌, ap, subst}
+use Rattle.std.proofs.Common.{arith, refl, map, Option, Some, Err, inl, inr, append-nil}
+use Rattle.std.proofs.lemmas.List.{map-append}
+use Rattle.fuse_wire.specs.Source.{Takes, message, NothingLeft, Failed as SourceFailed}
+use Rattle.fuse_wire.proofs.Devices.{Takes-then}
+use Rattle.fuse_session.specs.Incoming.{Incoming, EndsAfter, EndsWell, AllGoOn, incoming}
+use Rattle.fuse_session.specs.Incoming.Incoming.{Destroy}
+use Rattle.fuse_session.specs.Owed.{Owed}
+use Rattle.fuse_session.specs.Handshake.{HandshakeEnd, MayRefuse}
+use Rattle.fuse_session.specs.Handshake.HandshakeEnd.{Accepted}
+use Rattle.fuse_session.specs.HandshakeStep.{HandshakeRun}
+use Rattle.fuse_session.specs.EventLoop.{Run, RunEnds}
+use Rattle.fuse_session.specs.Exchange.{Setup, Outcome, Served, EndedBy, Exchange}
+use Rattle.fuse_session.specs.SessionEnd.{handshake_error, run_outcome}
+use Rattle.fuse_session.specs.Progress.{Progress}
+use Rattle.fuse_session.specs.declared.error.SessionError.TheVariants.{NotConnected, Threads, Receive}
+use Rattle.fuse_session.specs.declared.event_loop.End.{End}
+use Rattle.fuse_session.specs.declared.event_loop.End.TheVariants.{Gone, Destroyed, Broken, Failed}
+use Rattle.fuse_session.specs.declared.greeting.HandshakeError.{HandshakeError}
+use Rattle.fuse_session.specs.declared.greeting.HandshakeError.TheVariants as refusal
+use Rattle.fuse_session.specs.declared.handshake.HandshakeOutcome.{HandshakeOutcome}
+use Rattle.fuse_session.specs.declared.handshake.HandshakeOutcome.TheVariants as outcome
+use Rattle.fuse_session.proofs.Taking.{Begins-after, Failed-after}
+use Rattle.fuse_session.proofs.Moving.{moves-then}
+
+-- messages after which the run goes on, and then others
+pub EndsWell-after : (xs ys : List (List ℕ)) (none_left : Type 0) → AllGoOn xs → EndsWell ys none_left → EndsWell (xs ++ ys) none_left
+EndsWell-after [] ys none_left go ends = ends
+EndsWell-after (x ∷ xs) ys none_left go ends =
+    subst (λ (i : Incoming). EndsAfter i (xs ++ ys) (EndsWell (xs ++ ys) none_left)) (sym go.0) (EndsWell-after xs ys none_left go.1 ends)
+
+-- where no message is left the last may be any request
+pub EndsWell-all : (xs : List (List ℕ)) (none_left : Type 0) → AllGoOn xs → none_left → EndsWell xs none_left
+EndsWell-all xs none_left go none = subst (λ (ms : List (List ℕ)). EndsWell ms none_left) (append-nil xs) (EndsWell-after xs [] none_left go none)
+
+-- DESTROY alone
+EndsWell-last : (last : List ℕ) (none_left : Type 0) → incoming last ≡ Destroy → EndsWell (last ∷ []) none_left
+EndsWell-last last none_left is = subst (λ (i : Incoming). EndsAfter i [] (EndsWell [] none_left)) (sym is) refl
+
+-- a session that was no more than its handshake
+alone : {F : Type 0} {setup : Setup F} {fs fs1 : F} {found : HandshakeOutcome} {p q : Progress} (result : Outcome)
+    (shook : HandshakeRun setup.promise.may_init setup.page found fs fs1 p q) → (result ≢ Err Receive → Takes shook.turns p.source q.source)
+    → EndedBy result (MayRefuse setup.promise.may_init fs) setup.threads shook.end [] [] (NothingLeft q.source) (SourceFailed p.source q.source)
+    → Exchange setup fs fs1 result p q
+alone {F} {setup} {fs} {fs1} {found} {p} {q} result shook takes ends = record {
+  turns = shook.turns;
+  sent = shook.sent;
+  notes = [];
+  lost = shook.lost;
+  dialogue = record {
+    hs = map message shook.turns;
+    answered = [];
+    refused = [];
+    handshake_replies = shook.replies;
+    handshake_sent = shook.sent;
+    later_sent = [];
+    end = shook.end;
+    lost_first = shook.lost;
+    lost_later = 0;
+    heard = sym (append-nil (map message shook.turns));
+    handshake = shook.handshake;
+    left_out = shook.left_out;
+    in_order = (refl, refl, refl);
+    said = sym (append-nil shook.sent);
+    missed = omega arith;
+    ended = ends;
+  };
+  begins = shook.begins;
+  taken = takes;
+  moved = shook.moved;
+}
+
+-- the handshake was accepted, but no thread was to serve
+pub Exchange-unserved : {F : Type 0} {setup : Setup F} {fs fs1 : F} {p q : Progress} → setup.threads ≡ Some 0
+    → HandshakeRun setup.promise.may_init setup.page outcome.Accepted fs fs1 p q → Exchange setup fs fs1 (Err Threads) p q
+Exchange-unserved none shook = alone (Err Threads) shook (λ _. shook.taken (λ is. cc)) ((shook.ended, refl, refl), none)
+
+-- no message was left in the handshake
+pub Exchange-gone : {F : Type 0} {setup : Setup F} {fs fs1 : F} {p q : Progress}
+    → HandshakeRun setup.promise.may_init setup.page outcome.Gone fs fs1 p q → Exchange setup fs fs1 (Err NotConnected) p q
+Exchange-gone shook = alone (Err NotConnected) shook (λ _. shook.taken (λ is. cc)) ((shook.ended.0, refl, refl), shook.ended.1)
+
+-- the source failed in the handshake
+pub Exchange-failed : {F : Type 0} {setup : Setup F} {fs fs1 : F} {p q : Progress}
+    → HandshakeRun setup.promise.may_init setup.page outcome.Failed fs fs1 p q → Exchange setup fs fs1 (Err Receive) p q
+Exchange-failed shook = alone (Err Receive) shook (λ other. absurd (other refl)) (shook.ended.1, inl (shook.ended.0, refl, refl))
+
+-- a message was refused in the handshake
+pub Exchange-refused : {F : Type 0} {setup : Setup F} {fs fs1 : F} {p q : Progress} (e : HandshakeError)
+    → HandshakeRun setup.promise.may_init setup.page (outcome.Refused e) fs fs1 p q → Exchange setup fs fs1 (Err (handshake_error e)) p q
+Exchange-refused (refusal.InvalidData d) shook =
+    alone (Err (handshake_error (refusal.InvalidData d))) shook (λ _. shook.taken (λ is. cc)) (inl (shook.ended.0, refl, refl))
+Exchange-refused (refusal.Unsupported v) shook =
+    alone (Err (handshake_error (refusal.Unsupported v))) shook (λ _. shook.taken (λ is. cc)) (shook.ended.0, refl, refl)
+Exchange-refused (refusal.Init n) shook =
+    alone (Err (handshake_error (refusal.Init n))) shook (λ _. shook.taken (λ is. cc)) ((shook.ended.0, refl, refl), shook.ended.1)
+
+-- why a session ended whose run ended so
+ended-run : (end : End) (refuses : ℕ → Type 0) (threads : Option ℕ) (shook : HandshakeEnd) (answered refused : List (List ℕ))
+    (none_left failed failed' : Type 0)
+    → Served threads shook → (failed → failed') → RunEnds end answered refused none_left failed
+    → EndedBy (run_outcome end) refuses threads shook answered refused none_left failed'
+ended-run Gone refuses threads shook answered refused none_left failed failed' served longer e =
+    (served, e.0, EndsWell-all answered none_left e.1 e.2)
+ended-run Destroyed refuses threads shook answered refused none_left failed failed' served longer e = (
+  served,
+  e.0,
+  subst (λ (ms : List (List ℕ)). EndsWell ms none_left) (sym e.1.2)
+      (EndsWell-after e.1.0 (e.1.1 ∷ []) none_left e.1.3 (EndsWell-last e.1.1 none_left e.1.4)),
+)
+ended-run (Broken r) refuses threads shook answered refused none_left failed failed' served longer e = inr (served, e.1, (r, refl, e.0))
+ended-run Failed refuses threads shook answered refused none_left failed failed' served longer e = (longer e.2, inr (served, e.1, e.0))
+
+-- a session with a run after its handshake
+pub Exchange-ran : {F : Type 0} {setup : Setup F} {fs fs1 : F} {end : End} {p q r : Progress} → setup.threads ≢ Some 0
+    → HandshakeRun setup.promise.may_init setup.page outcome.Accepted fs fs1 p q
+    → Run (Owed setup.promise fs1 setup.acl setup.owner) 0 end q r → Exchange setup fs fs1 (run_outcome end) p r
+Exchange-ran {F} {setup} {fs} {fs1} {end} {p} {q} {r} some shook run = record {
+  turns = shook.turns ++ run.turns;
+  sent = shook.sent ++ run.sent;
+  notes = run.notes;
+  lost = shook.lost + run.lost;
+  dialogue = record {
+    hs = map message shook.turns;
+    answered = run.answered;
+    refused = run.refused;
+    handshake_replies = shook.replies;
+    handshake_sent = shook.sent;
+    later_sent = run.sent;
+    end = shook.end;
+    lost_first = shook.lost;
+    lost_later = run.lost;
+    heard = map-append message shook.turns run.turns ∙ ap (λ (ms : List (List ℕ)). map message shook.turns ++ ms) run.heard;
+    handshake = shook.handshake;
+    left_out = shook.left_out;
+    in_order = run.order;
+    said = refl;
+    missed = refl;
+    ended = ended-run end (MayRefuse setup.promise.may_init fs) setup.threads shook.end run.answered run.refused
+        (NothingLeft r.source) (SourceFailed q.source r.source)
+        (SourceFailed p.source r.source) (shook.ended, some) (Failed-after p.source q.source r.source took.faults) run.ended;
+  };
+  begins = Begins-after shook.turns run.turns p.source q.source took run.begins;
+  taken = λ other. Takes-then shook.turns run.turns p.source q.source r.source took (run.taken (λ is. other (ap run_outcome is)));
+  moved = moves-then shook.turns run.turns shook.moved run.moved;
+} where
+  took : Takes shook.turns p.source q.source
+  took = shook.taken (λ is. cc)

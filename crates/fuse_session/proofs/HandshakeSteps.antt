@@ -1,0 +1,290 @@
+-- Messages of a handshake, one after another.
+use Rattle.std.proofs.Common.{◌≡◌, ◌≢◌, ◌+◌, ◌++◌, ℕ, suc, List, [], ◌∷◌, sym, ◌∙◌, ap, subst, arith, refl, length, length-append, map}
+use Rattle.std.proofs.Common.{take, append_assoc, Option, Result, Ok, Err, inl, inr, pos}
+use Rattle.std.proofs.lemmas.List.{map-append}
+use Rattle.fuse_wire.specs.Source.{SourceState, Takes, message, NothingLeft, Failed as SourceFailed}
+use Rattle.fuse_wire.specs.declared.newtypes.RequestId.{RequestId}
+use Rattle.fuse_wire.proofs.Devices.{Takes-none, Takes-then}
+use Rattle.fuse_config.specs.Configuration.{start, init_payload, version_payload}
+use Rattle.fuse_request.specs.declared.request.Request.{Request}
+use Rattle.fuse_reply.specs.declared.out.Out.{Out}
+use Rattle.fuse_reply.specs.declared.out.Out.TheVariants.{Frame}
+use Rattle.fuse_reply.specs.Answer.Answer.{Error}
+use Rattle.fuse_reply.specs.Frame.{reply, frame}
+use Rattle.fuse_session.specs.Promise.{MayInit}
+use Rattle.fuse_session.specs.Handshake.{greeting, Greets, Negotiates, HandshakeEnd, Handshake, LeavesOut, MayRefuse}
+use Rattle.fuse_session.specs.Handshake.HandshakeEnd.{Open, Accepted, Failed}
+use Rattle.fuse_session.specs.HandshakeStep.{HandshakeRun, HandshakeOn, HandshakeEnds, RefusedBy, Negotiated, NegotiatedBy}
+use Rattle.fuse_session.specs.Progress.{Progress, ChannelState, TakesNext, Moves, DeliversOnce, SinkUntouched}
+use Rattle.fuse_session.specs.declared.taken.Taken.TheVariants.{Message, Gone as NoneLeft, Failed as NoneCame}
+use Rattle.fuse_session.specs.declared.greeting.Greeting.{Greeting}
+use Rattle.fuse_session.specs.declared.greeting.Greeting.TheVariants.{Silent, Newer, Offered}
+use Rattle.fuse_session.specs.declared.greeting.Offer.{Offer}
+use Rattle.fuse_session.specs.declared.greeting.HandshakeError.{HandshakeError}
+use Rattle.fuse_session.specs.declared.greeting.HandshakeError.TheVariants.{InvalidData, Init}
+use Rattle.fuse_session.specs.declared.error.InvalidData.{InvalidData as Invalid}
+use Rattle.fuse_session.specs.declared.handshake.HandshakeOutcome.{HandshakeOutcome}
+use Rattle.fuse_session.specs.declared.handshake.HandshakeOutcome.TheVariants as outcome
+use Rattle.fuse_session.proofs.Taking.{Begins-none, Begins-from_takes, Begins-after, Failed-after}
+use Rattle.fuse_session.proofs.Moving.{Moves-none, Moves-received, Moves-then, moves-then, Handed-frame, took, lost}
+
+-- frames without those that were lost, and then others
+pub LeavesOut-append : (j k : ℕ) (fs gs ws vs : List (List ℕ)) → LeavesOut j fs ws → LeavesOut k gs vs → LeavesOut (j + k) (fs ++ gs) (ws ++ vs)
+LeavesOut-append j k [] gs ws vs first second =
+    subst (λ (w : List (List ℕ)). LeavesOut (j + k) gs w) (sym (ap (λ (x : List (List ℕ)). x ++ vs) first.0))
+    (subst (λ (n : ℕ). LeavesOut n gs vs) (let none : j ≡ 0 = first.1 in omega arith) second)
+LeavesOut-append j k (f ∷ fs) gs ws vs (inl p) second =
+    inl (p.0 ++ vs, ap (λ (x : List (List ℕ)). x ++ vs) p.1, LeavesOut-append j k fs gs p.0 vs p.2 second)
+LeavesOut-append j k (f ∷ fs) gs ws vs (inr p) second =
+    inr (p.0 + k, (let e : j ≡ suc p.0 = p.1 in omega arith), LeavesOut-append p.0 k fs gs ws vs p.2 second)
+
+-- no message came
+none : {F : Type 0} {may_init : MayInit F} {page : ℕ} {fs : F} {found : HandshakeOutcome} {p q : Progress}
+    → SinkUntouched p q → (found ≢ outcome.Failed → Takes [] p.source q.source)
+    → HandshakeEnds found Open (MayRefuse may_init fs) (NothingLeft q.source) (SourceFailed p.source q.source) → HandshakeRun may_init page found fs fs p q
+none {F} {may_init} {page} {fs} {found} {p} {q} same takes ends = record {
+  turns = [];
+  replies = [];
+  sent = [];
+  lost = 0;
+  end = Open;
+  handshake = (refl, refl, refl);
+  left_out = (refl, refl);
+  moved = Moves-none same;
+  begins = Begins-none p.source;
+  taken = takes;
+  ended = ends;
+}
+
+pub HandshakeRun-gone : {F : Type 0} {may_init : MayInit F} {page : ℕ} {fs : F} (a b : ChannelState)
+    → TakesNext NoneLeft a b → HandshakeRun may_init page outcome.Gone fs fs a.progress b.progress
+HandshakeRun-gone a b next = none next.2 (λ _. next.0) (refl, next.1)
+
+pub HandshakeRun-failed : {F : Type 0} {may_init : MayInit F} {page : ℕ} {fs : F} (a b : ChannelState)
+    → TakesNext NoneCame a b → HandshakeRun may_init page outcome.Failed fs fs a.progress b.progress
+HandshakeRun-failed a b next = none next.1 (λ other. absurd (other refl)) (refl, next.0)
+
+-- one message alone, by what it comes to
+one-message : {F : Type 0} (may_init : MayInit F) (page : ℕ) (fs fs1 : F) (m : List ℕ) (g : Greeting) (frames : List (List ℕ)) (end : HandshakeEnd)
+    → g ≡ greeting m → Greets may_init page fs g [] frames fs1 end (λ rest. Handshake may_init page fs [] rest fs1 end)
+    → Handshake may_init page fs (m ∷ []) frames fs1 end
+one-message may_init page fs fs1 m g frames end is greets =
+    subst (λ (g : Greeting). Greets may_init page fs g [] frames fs1 end (λ rest. Handshake may_init page fs [] rest fs1 end)) is greets
+
+-- a message ended the handshake without a frame
+pub HandshakeRun-silent : {F : Type 0} (may_init : MayInit F) (page : ℕ) (fs : F) (d : Invalid) (n : ℕ) (a b : ChannelState)
+    → TakesNext (Message n) a b → Silent d ≡ greeting (take n b.buffer)
+    → HandshakeRun may_init page (outcome.Refused (InvalidData d)) fs fs a.progress b.progress
+HandshakeRun-silent may_init page fs d n a b next is = record {
+  turns = next.0.turn ∷ [];
+  replies = [];
+  sent = [];
+  lost = 0;
+  end = Failed (InvalidData d);
+  handshake = one-message may_init page fs fs (message next.0.turn) (Silent d) [] (Failed (InvalidData d))
+      (is ∙ ap greeting next.0.bytes) (refl, refl, refl, refl);
+  left_out = (refl, refl);
+  moved = Moves-received a.progress b.progress next.1 next.2;
+  begins = Begins-from_takes (next.0.turn ∷ []) a.progress.source b.progress.source next.0.taken;
+  taken = λ _. next.0.taken;
+  ended = (refl, tt);
+}
+
+-- a message was taken and its frame handed to the sink, which may have lost it
+record Replied (f turn : List ℕ) (p q : Progress) : Type 0 where
+  sent : List (List ℕ)
+  lost : ℕ
+  left_out : LeavesOut lost (f ∷ []) sent
+  moved : Moves 1 sent [] lost p q
+  taken : Takes (turn ∷ []) p.source q.source
+
+replied : {f : List ℕ} (n : ℕ) (a b c : ChannelState) (next : TakesNext (Message n) a b) → DeliversOnce (Frame f) b c
+    → Replied f next.0.turn a.progress c.progress
+replied {f} n a b c next hands =
+    elim (Handed-frame hands) as (λ _. Replied f next.0.turn a.progress c.progress) [
+      | took moved ↦ record {
+        sent = f ∷ [];
+        lost = 0;
+        left_out = inl ([], refl, (refl, refl));
+        moved = Moves-then (Moves-received a.progress b.progress next.1 next.2) moved;
+        taken = taken;
+      }
+      | lost moved ↦ record {
+        sent = [];
+        lost = 1;
+        left_out = inr (0, refl, (refl, refl));
+        moved = Moves-then (Moves-received a.progress b.progress next.1 next.2) moved;
+        taken = taken;
+      }
+    ]
+  where
+    taken : Takes (next.0.turn ∷ []) a.progress.source c.progress.source
+    taken = subst (λ (s : SourceState). Takes (next.0.turn ∷ []) a.progress.source s) (sym hands.source) next.0.taken
+
+-- a message ended the handshake with a frame
+closes : {F : Type 0} {may_init : MayInit F} {page : ℕ} {fs fs1 : F} {found : HandshakeOutcome} (end : HandshakeEnd) (f : List ℕ) (n : ℕ) (a b c : ChannelState)
+    (next : TakesNext (Message n) a b) → DeliversOnce (Frame f) b c
+    → Handshake may_init page fs (message next.0.turn ∷ []) (f ∷ []) fs1 end
+    → HandshakeEnds found end (MayRefuse may_init fs) (NothingLeft c.progress.source) (SourceFailed a.progress.source c.progress.source)
+    → HandshakeRun may_init page found fs fs1 a.progress c.progress
+closes end f n a b c next hands handshake ends =
+    let r : Replied f next.0.turn a.progress c.progress = replied n a b c next hands in
+    record {
+      turns = next.0.turn ∷ [];
+      replies = f ∷ [];
+      sent = r.sent;
+      lost = r.lost;
+      end = end;
+      handshake = handshake;
+      left_out = r.left_out;
+      moved = r.moved;
+      begins = Begins-from_takes (next.0.turn ∷ []) a.progress.source c.progress.source r.taken;
+      taken = λ _. r.taken;
+      ended = ends;
+    }
+
+-- a message ended the handshake with the reply of an error
+pub HandshakeRun-refused : {F : Type 0} (may_init : MayInit F) (page : ℕ) (fs : F) (g : Greeting) (id : RequestId) (errno : ℕ) (e : HandshakeError)
+    (n : ℕ) (a b c : ChannelState)
+    → TakesNext (Message n) a b → g ≡ greeting (take n b.buffer) → DeliversOnce (Frame (reply id.0 (Error errno))) b c
+    → Greets may_init page fs g [] (reply id.0 (Error errno) ∷ []) fs (Failed e) (λ rest. Handshake may_init page fs [] rest fs (Failed e))
+    → RefusedBy (MayRefuse may_init fs) e
+    → HandshakeRun may_init page (outcome.Refused e) fs fs a.progress c.progress
+HandshakeRun-refused may_init page fs g id errno e n a b c next is hands greets refused =
+    closes (Failed e) (reply id.0 (Error errno)) n a b c next hands
+    (one-message may_init page fs fs (message next.0.turn) g (reply id.0 (Error errno) ∷ []) (Failed e)
+    (is ∙ ap greeting next.0.bytes) greets)
+    (refl, refused)
+
+-- how what `init` answered ends the handshake
+abbrev pub accepted_outcome : Result (Unit {0}) HandshakeError → HandshakeOutcome
+accepted_outcome (Ok u) = outcome.Accepted
+accepted_outcome (Err e) = outcome.Refused e
+
+-- what `init` answered ended the handshake
+pub HandshakeRun-offered : {F : Type 0} (may_init : MayInit F) (page : ℕ) (fs fs1 : F) (request : Request) (offer : Offer) (out : Out)
+    (accepted : Result (Unit {0}) HandshakeError) (n : ℕ) (a b c : ChannelState)
+    → TakesNext (Message n) a b → Offered request offer ≡ greeting (take n b.buffer)
+    → Negotiated may_init page fs fs1 request offer out accepted → DeliversOnce out b c
+    → HandshakeRun may_init page (accepted_outcome accepted) fs fs1 a.progress c.progress
+HandshakeRun-offered {F} may_init page fs fs1 request offer out accepted n a b c next is negotiated hands =
+    by_result negotiated.result negotiated.allowed negotiated.answered
+  where
+    m : List ℕ
+    m = message next.0.turn
+
+    handshake : (f : List ℕ) (end : HandshakeEnd) → Negotiates may_init page fs request offer (f ∷ []) fs1 end
+        → Handshake may_init page fs (m ∷ []) (f ∷ []) fs1 end
+    handshake f end negotiates =
+        one-message may_init page fs fs1 m (Offered request offer) (f ∷ []) end (is ∙ ap greeting next.0.bytes) (refl, negotiates)
+
+    by_result : (r : Result (Unit {0}) ℕ)
+        → may_init fs request (start offer.capabilities.0 offer.max_readahead offer.version) r fs1 negotiated.config
+        → NegotiatedBy request.unique.0 offer page negotiated.config r out accepted
+        → HandshakeRun may_init page (accepted_outcome accepted) fs fs1 a.progress c.progress
+    by_result (Err errno) allowed answered =
+        subst (λ (x : Result (Unit {0}) HandshakeError). HandshakeRun may_init page (accepted_outcome x) fs fs1 a.progress c.progress) (sym answered.1)
+        (closes (Failed (Init errno)) (reply request.unique.0 (Error errno)) n a b c next
+        (subst (λ (o : Out). DeliversOnce o b c) answered.0 hands)
+        (handshake (reply request.unique.0 (Error errno)) (Failed (Init errno))
+        (record { config = negotiated.config; result = Err errno; allowed = allowed; replies = (refl, refl, answered.2) }))
+        (refl, record { request = request; offer = offer; config = negotiated.config; fs1 = fs1; allowed = allowed }))
+    by_result (Ok u) allowed answered =
+        let f : List ℕ = frame request.unique.0 (pos 0) (init_payload negotiated.config offer.capabilities.0 offer.version.1 page) in
+        subst (λ (x : Result (Unit {0}) HandshakeError). HandshakeRun may_init page (accepted_outcome x) fs fs1 a.progress c.progress) (sym answered.1)
+        (closes Accepted f n a b c next
+        (subst (λ (o : Out). DeliversOnce o b c) answered.0 hands)
+        (handshake f Accepted (record { config = negotiated.config; result = Ok u; allowed = allowed; replies = (refl, refl) }))
+        refl)
+
+-- the next message is awaited
+pub HandshakeOn-newer : {F : Type 0} (may_init : MayInit F) (page : ℕ) (fs : F) (id : RequestId) (n : ℕ) (a b c : ChannelState)
+    → TakesNext (Message n) a b → Newer id ≡ greeting (take n b.buffer) → DeliversOnce (Frame (frame id.0 (pos 0) version_payload)) b c
+    → HandshakeOn may_init page fs fs a.progress c.progress
+HandshakeOn-newer may_init page fs id n a b c next is hands =
+    let f : List ℕ = frame id.0 (pos 0) version_payload in
+    let r : Replied f next.0.turn a.progress c.progress = replied n a b c next hands in
+    record {
+      turns = next.0.turn ∷ [];
+      replies = f ∷ [];
+      sent = r.sent;
+      lost = r.lost;
+      same = refl;
+      go = λ ms later fs2 end rest.
+          subst (λ (g : Greeting). Greets may_init page fs g ms (f ∷ later) fs2 end (λ frames. Handshake may_init page fs ms frames fs2 end))
+          (is ∙ ap greeting next.0.bytes) (later, refl, rest);
+      left_out = r.left_out;
+      moved = r.moved;
+      taken = r.taken;
+    }
+
+-- nothing was taken yet
+pub HandshakeOn-none : {F : Type 0} {may_init : MayInit F} {page : ℕ} (fs : F) (p : Progress) → HandshakeOn may_init page fs fs p p
+HandshakeOn-none fs p = record {
+  turns = [];
+  replies = [];
+  sent = [];
+  lost = 0;
+  same = refl;
+  go = λ ms later fs2 end rest. rest;
+  left_out = (refl, refl);
+  moved = Moves-none (record { sink = refl; counts = refl });
+  taken = Takes-none p.source;
+}
+
+-- a handshake so far goes on
+pub HandshakeOn-then : {F : Type 0} {may_init : MayInit F} {page : ℕ} {fs fs1 fs2 : F} {p q r : Progress}
+    → HandshakeOn may_init page fs fs1 p q → HandshakeOn may_init page fs1 fs2 q r → HandshakeOn may_init page fs fs2 p r
+HandshakeOn-then {F} {may_init} {page} {fs} {fs1} {fs2} {p} {q} {r} first second = record {
+  turns = first.turns ++ second.turns;
+  replies = first.replies ++ second.replies;
+  sent = first.sent ++ second.sent;
+  lost = first.lost + second.lost;
+  same = second.same ∙ first.same;
+  go = λ ms later fs3 end rest.
+      let inner : Handshake may_init page fs1 (map message second.turns ++ ms) (second.replies ++ later) fs3 end =
+      second.go ms later fs3 end (subst (λ (x : F). Handshake may_init page x ms later fs3 end) (sym first.same) rest) in
+      let outer : Handshake may_init page fs (map message first.turns ++ (map message second.turns ++ ms)) (first.replies ++ (second.replies ++ later))
+      fs3 end =
+      first.go (map message second.turns ++ ms) (second.replies ++ later) fs3 end
+      (subst (λ (x : F). Handshake may_init page x (map message second.turns ++ ms) (second.replies ++ later) fs3 end) first.same inner) in
+      subst (λ (x : List (List ℕ)). Handshake may_init page fs x ((first.replies ++ second.replies) ++ later) fs3 end)
+      (sym (append_assoc (map message first.turns) (map message second.turns) ms)
+      ∙ ap (λ (x : List (List ℕ)). x ++ ms) (sym (map-append message first.turns second.turns)))
+      (subst (λ (x : List (List ℕ)). Handshake may_init page fs (map message first.turns ++ (map message second.turns ++ ms)) x fs3 end)
+      (sym (append_assoc first.replies second.replies later)) outer);
+  left_out = LeavesOut-append first.lost second.lost first.replies second.replies first.sent second.sent first.left_out second.left_out;
+  moved = moves-then first.turns second.turns first.moved second.moved;
+  taken = Takes-then first.turns second.turns p.source q.source r.source first.taken second.taken;
+}
+
+-- how a handshake ends whose first messages were answered
+HandshakeEnds-after : (found : HandshakeOutcome) (end : HandshakeEnd) (refuses : ℕ → Type 0) (none_left failed failed' : Type 0) → (failed → failed')
+    → HandshakeEnds found end refuses none_left failed → HandshakeEnds found end refuses none_left failed'
+HandshakeEnds-after outcome.Accepted end refuses none_left failed failed' longer e = e
+HandshakeEnds-after outcome.Gone end refuses none_left failed failed' longer e = e
+HandshakeEnds-after (outcome.Refused d) end refuses none_left failed failed' longer e = e
+HandshakeEnds-after outcome.Failed end refuses none_left failed failed' longer e = (e.0, longer e.1)
+
+-- a handshake so far, and its end
+pub HandshakeRun-then : {F : Type 0} {may_init : MayInit F} {page : ℕ} {fs fs1 fs2 : F} {found : HandshakeOutcome} {p q r : Progress}
+    → HandshakeOn may_init page fs fs1 p q → HandshakeRun may_init page found fs1 fs2 q r → HandshakeRun may_init page found fs fs2 p r
+HandshakeRun-then {F} {may_init} {page} {fs} {fs1} {fs2} {found} {p} {q} {r} first second = record {
+  turns = first.turns ++ second.turns;
+  replies = first.replies ++ second.replies;
+  sent = first.sent ++ second.sent;
+  lost = first.lost + second.lost;
+  end = second.end;
+  handshake = subst (λ (m : List (List ℕ)). Handshake may_init page fs m (first.replies ++ second.replies) fs2 second.end)
+      (sym (map-append message first.turns second.turns))
+      (first.go (map message second.turns) second.replies fs2 second.end
+      (subst (λ (x : F). Handshake may_init page x (map message second.turns) second.replies fs2 second.end) first.same second.handshake));
+  left_out = LeavesOut-append first.lost second.lost first.replies second.replies first.sent second.sent first.left_out second.left_out;
+  moved = moves-then first.turns second.turns first.moved second.moved;
+  begins = Begins-after first.turns second.turns p.source q.source first.taken second.begins;
+  taken = λ other. Takes-then first.turns second.turns p.source q.source r.source first.taken (second.taken other);
+  ended = HandshakeEnds-after found second.end (MayRefuse may_init fs) (NothingLeft r.source) (SourceFailed q.source r.source) (SourceFailed p.source r.source)
+      (Failed-after p.source q.source r.source first.taken.faults)
+      (subst (λ (x : F). HandshakeEnds found second.end (MayRefuse may_init x) (NothingLeft r.source) (SourceFailed q.source r.source))
+      first.same second.ended);
+}

@@ -1,0 +1,265 @@
+-- Turns of the event loop, one after another.
+use Rattle.std.proofs.Common.{◌≡◌, ◌+◌, ◌++◌, ℕ, List, [], ◌∷◌, sym, ◌∙◌, ap}
+use Rattle.std.proofs.Common.{subst, refl, length, length-append, map, take, append_assoc, Err, zero-add}
+use Rattle.std.proofs.lemmas.List.{map-append, length-map}
+use Rattle.fuse_wire.specs.Source.{SourceState, Takes, message, NothingLeft, Failed as SourceFailed}
+use Rattle.fuse_wire.specs.Sink.{Note}
+use Rattle.fuse_wire.proofs.Devices.{Takes-none, Takes-then}
+use Rattle.fuse_request.specs.declared.error.RequestError.{RequestError}
+use Rattle.fuse_request.specs.Header.{header}
+use Rattle.fuse_reply.specs.declared.out.Out.{Out}
+use Rattle.fuse_reply.specs.declared.out.Out.TheVariants.{Frame, Note as Noting, Deferred}
+use Rattle.fuse_session.specs.OneEach.{Owing, InOrder, number_of}
+use Rattle.fuse_session.specs.Incoming.{IsBroken, AllGoOn, incoming}
+use Rattle.fuse_session.specs.Incoming.Incoming.{Destroy, Request}
+use Rattle.fuse_session.specs.Progress.{Progress, ChannelState, TakesNext, Moves, DeliversOnce, IsPrompt}
+use Rattle.fuse_session.specs.EventLoop.{Run, RunOn, RunEnds}
+use Rattle.fuse_session.specs.declared.taken.Taken.TheVariants.{Message, Gone as NoneLeft, Failed as NoneCame}
+use Rattle.fuse_session.specs.declared.event_loop.End.{End}
+use Rattle.fuse_session.specs.declared.event_loop.End.TheVariants.{Gone, Destroyed, Broken, Failed}
+use Rattle.fuse_session.proofs.Lists.{All-append}
+use Rattle.fuse_session.proofs.Taking.{Begins-none, Begins-from_takes, Begins-after, Failed-after}
+use Rattle.fuse_session.proofs.Moving.{Moves-none, Moves-received, Moves-then, moves-then, Handed, Handed-frame, Handed-note, took, lost}
+use Rattle.fuse_session.proofs.Order.{InOrder-framed, InOrder-noted, InOrder-lost, InOrder-append}
+
+-- no message was left
+pub Run-gone : {owed : Owing} {place : ℕ} (a b : ChannelState) → TakesNext NoneLeft a b → Run owed place Gone a.progress b.progress
+Run-gone {owed} {place} a b next = record {
+  turns = [];
+  answered = [];
+  refused = [];
+  sent = [];
+  notes = [];
+  lost = 0;
+  heard = refl;
+  order = (refl, refl, refl);
+  moved = Moves-none next.2;
+  begins = Begins-none a.progress.source;
+  taken = λ _. next.0;
+  ended = (refl, tt, next.1);
+}
+
+-- the source failed
+pub Run-failed : {owed : Owing} {place : ℕ} (a b : ChannelState) → TakesNext NoneCame a b → Run owed place Failed a.progress b.progress
+Run-failed {owed} {place} a b next = record {
+  turns = [];
+  answered = [];
+  refused = [];
+  sent = [];
+  notes = [];
+  lost = 0;
+  heard = refl;
+  order = (refl, refl, refl);
+  moved = Moves-none next.1;
+  begins = Begins-none a.progress.source;
+  taken = λ other. absurd (other refl);
+  ended = (refl, tt, next.0);
+}
+
+-- a message without a good header came
+pub Run-broken : {owed : Owing} {place : ℕ} {e : RequestError} (n : ℕ) (a b : ChannelState) → TakesNext (Message n) a b
+    → header (take n b.buffer) ≡ Err e → Run owed place (Broken e) a.progress b.progress
+Run-broken {owed} {place} {e} n a b next broken = record {
+  turns = next.0.turn ∷ [];
+  answered = [];
+  refused = message next.0.turn ∷ [];
+  sent = [];
+  notes = [];
+  lost = 0;
+  heard = refl;
+  order = (refl, refl, refl);
+  moved = Moves-received a.progress b.progress next.1 next.2;
+  begins = Begins-from_takes (next.0.turn ∷ []) a.progress.source b.progress.source next.0.taken;
+  taken = λ _. next.0.taken;
+  ended = ((message next.0.turn, refl, subst (λ (m : List ℕ). header m ≡ Err e) next.0.bytes broken), tt);
+}
+
+-- what one answered message gives
+record Paid (owed : Owing) (place : ℕ) (turn : List ℕ) (p q : Progress) : Type 0 where
+  sent : List (List ℕ)
+  notes : List Note
+  lost : ℕ
+  order : InOrder owed IsBroken place (message turn ∷ []) sent notes lost
+  moved : Moves 1 sent notes lost p q
+  taken : Takes (turn ∷ []) p.source q.source
+
+-- a message was taken, and what it is owed was handed to the sink
+paid-handed : {owed : Owing} {place : ℕ} (n : ℕ) (a b c : ChannelState) (fs : List (List ℕ)) (ns : List Note) (next : TakesNext (Message n) a b)
+    → InOrder owed IsBroken place (message next.0.turn ∷ []) fs ns 0 → (IsBroken (message next.0.turn) → ⊥)
+    → c.progress.source ≡ b.progress.source → Handed fs ns b.progress c.progress → Paid owed place next.0.turn a.progress c.progress
+paid-handed {owed} {place} n a b c fs ns next order whole same handed =
+    elim handed as (λ _. Paid owed place next.0.turn a.progress c.progress) [
+      | took moved ↦ record {
+        sent = fs;
+        notes = ns;
+        lost = 0;
+        order = order;
+        moved = Moves-then (Moves-received a.progress b.progress next.1 next.2) moved;
+        taken = taken;
+      }
+      | lost moved ↦ record {
+        sent = [];
+        notes = [];
+        lost = 1;
+        order = InOrder-lost owed IsBroken place (message next.0.turn) whole;
+        moved = Moves-then (Moves-received a.progress b.progress next.1 next.2) moved;
+        taken = taken;
+      }
+    ]
+  where
+    taken : Takes (next.0.turn ∷ []) a.progress.source c.progress.source
+    taken = subst (λ (s : SourceState). Takes (next.0.turn ∷ []) a.progress.source s) (sym same) next.0.taken
+
+-- a message was taken, and a frame or note that it is owed was handed to the sink
+paid : (owed : Owing) (place seq n : ℕ) (a b c : ChannelState) (out : Out) (next : TakesNext (Message n) a b) → number_of place ≡ seq
+    → owed seq (message next.0.turn) out → IsPrompt out → (IsBroken (message next.0.turn) → ⊥) → DeliversOnce out b c
+    → Paid owed place next.0.turn a.progress c.progress
+paid owed place seq n a b c (Frame f) next number owes prompt whole hands =
+    paid-handed n a b c (f ∷ []) [] next
+    (InOrder-framed owed IsBroken place (message next.0.turn) f
+    (subst (λ (i : ℕ). owed i (message next.0.turn) (Frame f)) (sym number) owes)) whole hands.source (Handed-frame hands)
+paid owed place seq n a b c (Noting id mark) next number owes prompt whole hands =
+    paid-handed n a b c [] ((id.0, mark) ∷ []) next
+    (InOrder-noted owed IsBroken place (message next.0.turn) (id.0, mark)
+    (subst (λ (i : ℕ). owed i (message next.0.turn) (Noting id mark)) (sym number) owes)) whole hands.source (Handed-note hands)
+paid owed place seq n a b c (Deferred late id) next number owes prompt whole hands = absurd prompt
+
+-- DESTROY was answered
+pub Run-destroyed : (owed : Owing) (place seq n : ℕ) (a b c : ChannelState) (out : Out) (next : TakesNext (Message n) a b) → number_of place ≡ seq
+    → incoming (take n b.buffer) ≡ Destroy → owed seq (take n b.buffer) out → IsPrompt out → (IsBroken (take n b.buffer) → ⊥) → DeliversOnce out b c
+    → Run owed place Destroyed a.progress c.progress
+Run-destroyed owed place seq n a b c out next number last owes prompt whole hands =
+    let turn = next.0.turn in
+    let p : Paid owed place turn a.progress c.progress =
+    paid owed place seq n a b c out next number (subst (λ (m : List ℕ). owed seq m out) next.0.bytes owes) prompt
+    (subst (λ (m : List ℕ). IsBroken m → ⊥) next.0.bytes whole) hands in
+    record {
+      turns = turn ∷ [];
+      answered = message turn ∷ [];
+      refused = [];
+      sent = p.sent;
+      notes = p.notes;
+      lost = p.lost;
+      heard = refl;
+      order = p.order;
+      moved = p.moved;
+      begins = Begins-from_takes (turn ∷ []) a.progress.source c.progress.source p.taken;
+      taken = λ _. p.taken;
+      ended = (refl, ([], message turn, refl, tt, subst (λ (m : List ℕ). incoming m ≡ Destroy) next.0.bytes last));
+    }
+
+-- a request was answered, and the run goes on
+pub RunOn-next : (owed : Owing) (place seq n : ℕ) (a b c : ChannelState) (out : Out) (next : TakesNext (Message n) a b) → number_of place ≡ seq
+    → incoming (take n b.buffer) ≡ Request → owed seq (take n b.buffer) out → IsPrompt out → (IsBroken (take n b.buffer) → ⊥) → DeliversOnce out b c
+    → (run : RunOn owed place a.progress c.progress) × (length run.turns ≡ 1)
+RunOn-next owed place seq n a b c out next number goes owes prompt whole hands =
+    let turn = next.0.turn in
+    let p : Paid owed place turn a.progress c.progress =
+    paid owed place seq n a b c out next number (subst (λ (m : List ℕ). owed seq m out) next.0.bytes owes) prompt
+    (subst (λ (m : List ℕ). IsBroken m → ⊥) next.0.bytes whole) hands in (
+      record {
+        turns = turn ∷ [];
+        sent = p.sent;
+        notes = p.notes;
+        lost = p.lost;
+        order = p.order;
+        moved = p.moved;
+        taken = p.taken;
+        go_on = (subst (λ (m : List ℕ). incoming m ≡ Request) next.0.bytes goes, tt);
+      },
+      refl,
+    )
+
+-- nothing was taken yet
+pub RunOn-none : {owed : Owing} (p : Progress) → (run : RunOn owed 0 p p) × (number_of (length run.turns) ≡ 0)
+RunOn-none p = (
+  record {
+    turns = [];
+    sent = [];
+    notes = [];
+    lost = 0;
+    order = (refl, refl, refl);
+    moved = Moves-none (record { sink = refl; counts = refl });
+    taken = Takes-none p.source;
+    go_on = tt;
+  },
+  refl,
+)
+
+-- in order after other turns
+order-then : (owed : Owing) (place i j : ℕ) (xs ys fs gs : List (List ℕ)) (ns ms : List Note) (turns : List (List ℕ))
+    → map message turns ≡ xs → InOrder owed IsBroken place xs fs ns i → InOrder owed IsBroken (place + length turns) ys gs ms j
+    → InOrder owed IsBroken place (xs ++ ys) (fs ++ gs) (ns ++ ms) (i + j)
+order-then owed place i j xs ys fs gs ns ms turns is first second =
+    InOrder-append owed IsBroken place xs ys fs gs ns ms i j first
+    (subst (λ (n : ℕ). InOrder owed IsBroken (place + n) ys gs ms j)
+    (sym (length-map turns message) ∙ ap (λ (l : List (List ℕ)). length l) is) second)
+
+-- the same at the start
+order-first : (owed : Owing) (i j : ℕ) (ys fs gs : List (List ℕ)) (ns ms : List Note) (turns : List (List ℕ))
+    → InOrder owed IsBroken 0 (map message turns) fs ns i → InOrder owed IsBroken (length turns) ys gs ms j
+    → InOrder owed IsBroken 0 (map message turns ++ ys) (fs ++ gs) (ns ++ ms) (i + j)
+order-first owed i j ys fs gs ns ms turns first second =
+    order-then owed 0 i j (map message turns) ys fs gs ns ms turns refl first
+    (subst (λ (n : ℕ). InOrder owed IsBroken n ys gs ms j) (sym (zero-add (length turns))) second)
+
+-- a run so far goes on
+pub RunOn-then : {owed : Owing} {p q r : Progress} (first : RunOn owed 0 p q) (second : RunOn owed (length first.turns) q r)
+    → (run : RunOn owed 0 p r) × (length run.turns ≡ length first.turns + length second.turns)
+RunOn-then {owed} {p} {q} {r} first second = (
+  record {
+    turns = first.turns ++ second.turns;
+    sent = first.sent ++ second.sent;
+    notes = first.notes ++ second.notes;
+    lost = first.lost + second.lost;
+    order = subst (λ (m : List (List ℕ)). InOrder owed IsBroken 0 m (first.sent ++ second.sent) (first.notes ++ second.notes) (first.lost + second.lost))
+        (sym (map-append message first.turns second.turns))
+        (order-first owed first.lost second.lost (map message second.turns) first.sent second.sent first.notes second.notes
+        first.turns first.order second.order);
+    moved = moves-then first.turns second.turns first.moved second.moved;
+    taken = Takes-then first.turns second.turns p.source q.source r.source first.taken second.taken;
+    go_on = subst AllGoOn (sym (map-append message first.turns second.turns))
+        (All-append (λ (m : List ℕ). incoming m ≡ Request) (map message first.turns) (map message second.turns) first.go_on second.go_on);
+  },
+  length-append first.turns second.turns,
+)
+
+-- how a run ends whose first messages went on
+RunEnds-after : (end : End) (xs answered refused : List (List ℕ)) (none_left failed failed' : Type 0)
+    → AllGoOn xs → (failed → failed') → RunEnds end answered refused none_left failed → RunEnds end (xs ++ answered) refused none_left failed'
+RunEnds-after Gone xs answered refused none_left failed failed' go longer e =
+    (e.0, All-append (λ (m : List ℕ). incoming m ≡ Request) xs answered go e.1, e.2)
+RunEnds-after Destroyed xs answered refused none_left failed failed' go longer e = (
+  e.0,
+  (
+    xs ++ e.1.0,
+    e.1.1,
+    ap (λ (y : List (List ℕ)). xs ++ y) e.1.2 ∙ sym (append_assoc xs e.1.0 (e.1.1 ∷ [])),
+    All-append (λ (m : List ℕ). incoming m ≡ Request) xs e.1.0 go e.1.3,
+    e.1.4,
+  ),
+)
+RunEnds-after (Broken r) xs answered refused none_left failed failed' go longer e =
+    (e.0, All-append (λ (m : List ℕ). incoming m ≡ Request) xs answered go e.1)
+RunEnds-after Failed xs answered refused none_left failed failed' go longer e =
+    (e.0, All-append (λ (m : List ℕ). incoming m ≡ Request) xs answered go e.1, longer e.2)
+
+-- a run so far, and its end
+pub Run-then : {owed : Owing} {end : End} {p q r : Progress} (first : RunOn owed 0 p q) → Run owed (length first.turns) end q r → Run owed 0 end p r
+Run-then {owed} {end} {p} {q} {r} first second = record {
+  turns = first.turns ++ second.turns;
+  answered = map message first.turns ++ second.answered;
+  refused = second.refused;
+  sent = first.sent ++ second.sent;
+  notes = first.notes ++ second.notes;
+  lost = first.lost + second.lost;
+  heard = map-append message first.turns second.turns
+      ∙ (ap (λ (y : List (List ℕ)). map message first.turns ++ y) second.heard
+      ∙ sym (append_assoc (map message first.turns) second.answered second.refused));
+  order = order-first owed first.lost second.lost second.answered first.sent second.sent first.notes second.notes first.turns first.order second.order;
+  moved = moves-then first.turns second.turns first.moved second.moved;
+  begins = Begins-after first.turns second.turns p.source q.source first.taken second.begins;
+  taken = λ other. Takes-then first.turns second.turns p.source q.source r.source first.taken (second.taken other);
+  ended = RunEnds-after end (map message first.turns) second.answered second.refused (NothingLeft r.source) (SourceFailed q.source r.source)
+      (SourceFailed p.source r.source) first.go_on (Failed-after p.source q.source r.source first.taken.faults) second.ended;
+}

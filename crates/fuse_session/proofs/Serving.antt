@@ -1,0 +1,66 @@
+-- What a request comes to is what its message is owed.
+use Rattle.std.proofs.Common.{◌≡◌, ℕ, List, length, sym, ◌∙◌, ap, subst, Bool, true, false, nat_lt, Result, Ok, Err}
+use Rattle.std.specs.Prelude.{if◌then◌else◌, ◌==◌}
+use Rattle.fuse_wire.specs.Numbers.{number}
+use Rattle.fuse_config.specs.declared.session_acl.SessionACL.{SessionACL}
+use Rattle.fuse_request.specs.declared.error.RequestError.{RequestError}
+use Rattle.fuse_request.specs.declared.error.RequestError.TheVariants.{ShortReadHeader, ShortRead, InsufficientData}
+use Rattle.fuse_request.specs.declared.any_request.AnyRequest.{AnyRequest}
+use Rattle.fuse_request.specs.declared.any_request.Header.{Header}
+use Rattle.fuse_request.specs.Header.{Decodes, header, header_fields, header_of, body, body_of, request_of}
+use Rattle.fuse_request.specs.Opcode.{FUSE_DESTROY}
+use Rattle.fuse_request.specs.Operation.{Op, operation}
+use Rattle.fuse_reply.specs.declared.out.Out.{Out}
+use Rattle.fuse_session.specs.Incoming.{incoming, incoming_by, IsBroken}
+use Rattle.fuse_session.specs.Incoming.Incoming.{Broken as BrokenBy, Destroy, Request}
+use Rattle.fuse_session.specs.Promise.{Promise}
+use Rattle.fuse_session.specs.Verdict.{Verdict, verdict, verdict_by, serving, admitted_operation, id_of}
+use Rattle.fuse_session.specs.Verdict.Verdict.{Ends}
+use Rattle.fuse_session.specs.Owed.{Owed, OwedBy}
+
+ok-header : (a b c : Bool) (x y z : RequestError) (f h : Header)
+    → (if a then Err x else if b then Err y else if c then Err z else Ok f) ≡ Ok h → h ≡ f
+ok-header true b c x y z f h is = absurd (let no : ⊥ = cc in no)
+ok-header false true c x y z f h is = absurd (let no : ⊥ = cc in no)
+ok-header false false true x y z f h is = absurd (let no : ⊥ = cc in no)
+ok-header false false false x y z f h is = cc
+
+-- a good header is its fields
+pub header-fields : (m : List ℕ) (h : Header) → header m ≡ Ok h → h ≡ header_fields m
+header-fields m h is =
+    ok-header (nat_lt (length m) 40) (nat_lt (length m) (number m 0 4)) (nat_lt (number m 0 4) 40)
+    (ShortReadHeader (length m)) (ShortRead (length m) (number m 0 4)) InsufficientData (header_fields m) h is
+
+-- a message with a good header is not broken
+pub whole-good : (m : List ℕ) (h : Header) → header m ≡ Ok h → IsBroken m → ⊥
+whole-good m h good broken = let bad = broken.1 in cc
+
+-- the run goes on after a request that is no DESTROY
+pub incoming-request : (m : List ℕ) (h : Header) → header m ≡ Ok h → (h.opcode == FUSE_DESTROY) ≡ false → incoming m ≡ Request
+incoming-request m h good other = ap incoming_by good ∙ ap (λ (b : Bool). if b then Destroy else Request) other
+
+-- what its verdict owes a request is what its message is owed
+pub Owed-request : {F : Type 0} (promise : Promise F) (fs : F) (acl : SessionACL) (owner seq : ℕ) (out : Out) (request : AnyRequest)
+    (m : List ℕ) (found : Result Op ℕ)
+    → Decodes (Ok request) m → ((header_of request).opcode == FUSE_DESTROY) ≡ false
+    → admitted_operation acl owner (header_of request) (operation (header_of request).opcode (body_of request)) ≡ found
+    → OwedBy promise fs (request_of (header_of request)) (serving (header_of request).nodeid.0 found) seq (header_of request).unique.0 out
+    → Owed promise fs acl owner seq m out
+Owed-request promise fs acl owner seq out request m found decodes other is owed =
+    subst (λ (v : Verdict). OwedBy promise fs (request_of (header_fields m)) v seq (id_of m) out) (sym verdict-is)
+    (subst (λ (x : Header). OwedBy promise fs (request_of x) (serving h.nodeid.0 found) seq x.unique.0 out)
+    (header-fields m h decodes.0) owed)
+  where
+    h : Header
+    h = header_of request
+
+    verdict-is : verdict acl owner m ≡ serving h.nodeid.0 found
+    verdict-is =
+        ap (λ (r : Result Header RequestError). verdict_by acl owner r (body m)) decodes.0
+        ∙ (ap (λ (b : Bool). if b then Ends else serving h.nodeid.0 (admitted_operation acl owner h (operation h.opcode (body m)))) other
+        ∙ (ap (λ (b : List ℕ). serving h.nodeid.0 (admitted_operation acl owner h (operation h.opcode b))) (sym decodes.1)
+        ∙ ap (serving h.nodeid.0) is))
+
+-- nor is DESTROY
+pub whole-destroy : (m : List ℕ) → incoming m ≡ Destroy → IsBroken m → ⊥
+whole-destroy m is broken = let bad : incoming m ≡ BrokenBy broken.0 = ap incoming_by broken.1 in let no : ⊥ = cc in no

@@ -1,0 +1,111 @@
+-- A whole session on one thread: what it heard, what it said and lost, and why it ended.
+use Rattle.std.specs.Prelude.{◌≡◌, ◌≢◌, ◌⊎◌, ◌+◌, ◌++◌, ℕ, List, [], ◌∷◌, Option, Some, Result, Ok, Err, map, length}
+use Rattle.fuse_wire.specs.Source.{Takes, message, NothingLeft, Failed as SourceFailed}
+use Rattle.fuse_wire.specs.Sink.{Note}
+use Rattle.fuse_config.specs.declared.config.Config.{Config}
+use Rattle.fuse_config.specs.declared.session_acl.SessionACL.{SessionACL}
+use Rattle.fuse_request.specs.Header.{header}
+use Rattle.fuse_request.specs.declared.error.RequestError.{RequestError}
+use Rattle.fuse_session.specs.Promise.{Promise}
+use Rattle.fuse_session.specs.Incoming.{IsBroken, AllGoOn, EndsWell}
+use Rattle.fuse_session.specs.Owed.{Owed}
+use Rattle.fuse_session.specs.OneEach.{InOrder}
+use Rattle.fuse_session.specs.Handshake.{HandshakeEnd, Handshake, LeavesOut, MayRefuse}
+use Rattle.fuse_session.specs.Handshake.HandshakeEnd.{Open, Accepted, Failed}
+use Rattle.fuse_session.specs.Progress.{Progress, Moves, Begins}
+use Rattle.fuse_session.specs.declared.error.InvalidData.TheVariants.{Header}
+use Rattle.fuse_session.specs.declared.error.SessionError.{SessionError}
+use Rattle.fuse_session.specs.declared.error.SessionError.TheVariants.{Memory, NotConnected, InvalidData, Unsupported, Init, Threads, Receive}
+use Rattle.fuse_session.specs.declared.greeting.HandshakeError.TheVariants as refusal
+
+-- what a session is set up with
+pub record Setup (F : Type 0) : Type 1 where
+  pub promise : Promise F
+  pub page : ℕ
+  pub threads : Option ℕ
+  pub acl : SessionACL
+  pub owner : ℕ
+
+abbrev pub setup_of : {F : Type 0} → Promise F → (page : ℕ) → (threads : Option ℕ) → SessionACL → (owner : ℕ) → Setup F
+setup_of promise page threads acl owner = record { promise = promise; page = page; threads = threads; acl = acl; owner = owner }
+
+abbrev pub setup : {F : Type 0} → Promise F → (page : ℕ) → Config → (owner : ℕ) → Setup F
+setup promise page config owner = setup_of promise page config.n_threads config.acl owner
+
+abbrev pub Outcome : Type 0
+Outcome = Result (Unit {0}) SessionError
+
+-- the handshake ended so, and no message came after it
+abbrev pub HandshakeAlone : (end' end : HandshakeEnd) → (answered refused : List (List ℕ)) → Type 0
+HandshakeAlone end' end answered refused = (end ≡ end') × (answered ≡ []) × (refused ≡ [])
+
+-- the handshake was accepted, and some thread served
+abbrev pub Served : (threads : Option ℕ) → HandshakeEnd → Type 0
+Served threads end = (end ≡ Accepted) × (threads ≢ Some 0)
+
+-- one message has this refusal of its header
+abbrev pub HeaderRefused : RequestError → (refused : List (List ℕ)) → Type 0
+HeaderRefused e refused = (last : List ℕ) × (refused ≡ last ∷ []) × (header last ≡ Err e)
+
+-- Why a session had this outcome. Ok: all later messages were answered, up to the last one there is, or DESTROY. NotConnected: no
+-- message was left in the handshake. InvalidData: the handshake ended so, or the last header is refused. Unsupported: the
+-- handshake ended so. Init: it ended so, and `init` may refuse so. Threads: it was accepted, but no thread was to serve. Receive: the source failed.
+abbrev pub EndedBy : Outcome → (refuses : ℕ → Type 0) → (threads : Option ℕ) → HandshakeEnd → (answered refused : List (List ℕ)) →
+    (none_left failed : Type 0) → Type 0
+EndedBy (Ok u) refuses threads end answered refused none_left failed =
+    Served threads end × (refused ≡ []) × EndsWell answered none_left
+EndedBy (Err Memory) refuses threads end answered refused none_left failed = ⊥
+EndedBy (Err NotConnected) refuses threads end answered refused none_left failed = HandshakeAlone Open end answered refused × none_left
+EndedBy (Err (InvalidData d)) refuses threads end answered refused none_left failed =
+    HandshakeAlone (Failed (refusal.InvalidData d)) end answered refused
+    ⊎ (Served threads end × AllGoOn answered × ((e : RequestError) × (d ≡ Header e) × HeaderRefused e refused))
+EndedBy (Err (Unsupported v)) refuses threads end answered refused none_left failed =
+    HandshakeAlone (Failed (refusal.Unsupported v)) end answered refused
+EndedBy (Err (Init e)) refuses threads end answered refused none_left failed =
+    HandshakeAlone (Failed (refusal.Init e)) end answered refused × refuses e
+EndedBy (Err Threads) refuses threads end answered refused none_left failed = HandshakeAlone Accepted end answered refused × (threads ≡ Some 0)
+EndedBy (Err Receive) refuses threads end answered refused none_left failed =
+    failed × (HandshakeAlone Open end answered refused ⊎ (Served threads end × AllGoOn answered × (refused ≡ [])))
+
+-- What was heard and said, whatever carried it: these messages were taken, these replies and notes were sent, and so many replies
+-- and notes were lost. `none_left` says that no message was left, and `failed` that the source failed.
+pub record Dialogue {F : Type 0} (setup : Setup F) (fs fs1 : F) (outcome : Outcome) (none_left failed : Type 0)
+    (messages sent : List (List ℕ)) (notes : List Note) (lost : ℕ) : Type 0 where
+  -- the messages of the handshake, the later ones that were answered, and after these one whose header is refused, or none
+  pub hs : List (List ℕ)
+  pub answered : List (List ℕ)
+  pub refused : List (List ℕ)
+  -- the handshake's replies, those of them that were sent, and the later ones that were
+  pub handshake_replies : List (List ℕ)
+  pub handshake_sent : List (List ℕ)
+  pub later_sent : List (List ℕ)
+  pub end : HandshakeEnd
+  -- so many were lost, of the handshake and of the later messages
+  pub lost_first : ℕ
+  pub lost_later : ℕ
+  pub heard : messages ≡ hs ++ (answered ++ refused)
+  pub handshake : Handshake setup.promise.may_init setup.page fs hs handshake_replies fs1 end
+  pub left_out : LeavesOut lost_first handshake_replies handshake_sent
+  pub in_order : InOrder (Owed setup.promise fs1 setup.acl setup.owner) IsBroken 0 answered later_sent notes lost_later
+  pub said : sent ≡ handshake_sent ++ later_sent
+  pub missed : lost ≡ lost_first + lost_later
+  pub ended : EndedBy outcome (MayRefuse setup.promise.may_init fs) setup.threads end answered refused none_left failed
+
+-- A session between a source and a sink. Where the source failed, what it tells after the messages taken is not known.
+pub record Exchange {F : Type 0} (setup : Setup F) (fs fs1 : F) (outcome : Outcome) (before after : Progress) : Type 0 where
+  pub turns : List (List ℕ)
+  pub sent : List (List ℕ)
+  pub notes : List Note
+  pub lost : ℕ
+  pub dialogue : Dialogue setup fs fs1 outcome (NothingLeft after.source) (SourceFailed before.source after.source)
+      (map message turns) sent notes lost
+  pub begins : Begins turns before.source
+  pub taken : outcome ≢ Err Receive → Takes turns before.source after.source
+  pub moved : Moves (length turns) sent notes lost before after
+
+-- a whole session, at whose end `destroy` was called once
+pub record Mounted {F : Type 0} (setup : Setup F) (fs fs' : F) (outcome : Outcome) (before after : Progress) : Type 0 where
+  -- the filesystem after the handshake
+  pub fs1 : F
+  pub exchange : Exchange setup fs fs1 outcome before after
+  pub destroyed : setup.promise.may_destroy fs1 fs'

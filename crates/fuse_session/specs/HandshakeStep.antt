@@ -1,0 +1,80 @@
+-- The handshake as it is run: what it takes, what its messages get, and how it ends.
+use Rattle.std.specs.Prelude.{◌≡◌, ◌≢◌, ◌++◌, ℕ, List, [], Option, None, Some, Result, Ok, Err, map, length, pos}
+use Rattle.fuse_wire.specs.Source.{Takes, message, NothingLeft, Failed as SourceFailed}
+use Rattle.fuse_config.specs.Values.{Configuration}
+use Rattle.fuse_config.specs.Configuration.{start, init_payload}
+use Rattle.fuse_request.specs.declared.request.Request.{Request}
+use Rattle.fuse_reply.specs.Answer.{IsAnswer}
+use Rattle.fuse_reply.specs.Answer.Answer.{Error}
+use Rattle.fuse_reply.specs.Frame.{frame, reply}
+use Rattle.fuse_reply.specs.declared.out.Out.{Out}
+use Rattle.fuse_reply.specs.declared.out.Out.TheVariants.{Frame}
+use Rattle.fuse_session.specs.Promise.{MayInit}
+use Rattle.fuse_session.specs.Handshake.{HandshakeEnd, Handshake, LeavesOut, MayRefuse}
+use Rattle.fuse_session.specs.Handshake.HandshakeEnd.{Open, Accepted, Failed as IsFailed}
+use Rattle.fuse_session.specs.Progress.{Progress, Moves, Begins}
+use Rattle.fuse_session.specs.declared.greeting.Offer.{Offer}
+use Rattle.fuse_session.specs.declared.greeting.HandshakeError.{HandshakeError}
+use Rattle.fuse_session.specs.declared.greeting.HandshakeError.TheVariants.{InvalidData, Unsupported, Init}
+use Rattle.fuse_session.specs.declared.handshake.HandshakeOutcome.{HandshakeOutcome}
+use Rattle.fuse_session.specs.declared.handshake.HandshakeOutcome.TheVariants as outcome
+
+-- what `init` answered is what goes out
+abbrev pub NegotiatedBy : (id : ℕ) → Offer → (page : ℕ) → Configuration → Result (Unit {0}) ℕ → Out → Result (Unit {0}) HandshakeError → Type 0
+NegotiatedBy id offer page config (Err e) out accepted =
+    (out ≡ Frame (reply id (Error e))) × (accepted ≡ Err (Init e)) × IsAnswer (Error e)
+NegotiatedBy id offer page config (Ok u) out accepted =
+    (out ≡ Frame (frame id (pos 0) (init_payload config offer.capabilities.0 offer.version.1 page))) × (accepted ≡ Ok tt)
+
+-- `init` was called, as its promise allows
+pub record Negotiated {F : Type 0} (may_init : MayInit F) (page : ℕ) (fs fs1 : F) (request : Request) (offer : Offer) (out : Out)
+    (accepted : Result (Unit {0}) HandshakeError) : Type 0 where
+  pub config : Configuration
+  pub result : Result (Unit {0}) ℕ
+  pub allowed : may_init fs request (start offer.capabilities.0 offer.max_readahead offer.version) result fs1 config
+  pub answered : NegotiatedBy request.unique.0 offer page config result out accepted
+
+-- the filesystem may refuse so, where it did
+abbrev pub RefusedBy : (refuses : ℕ → Type 0) → HandshakeError → Type 0
+RefusedBy refuses (InvalidData d) = Unit {0}
+RefusedBy refuses (Unsupported v) = Unit {0}
+RefusedBy refuses (Init errno) = refuses errno
+
+-- how the outcome tells of the handshake's end
+abbrev pub HandshakeEnds : HandshakeOutcome → HandshakeEnd → (refuses : ℕ → Type 0) → (none_left failed : Type 0) → Type 0
+HandshakeEnds outcome.Accepted end refuses none_left failed = end ≡ Accepted
+HandshakeEnds outcome.Gone end refuses none_left failed = (end ≡ Open) × none_left
+HandshakeEnds (outcome.Refused e) end refuses none_left failed = (end ≡ IsFailed e) × RefusedBy refuses e
+HandshakeEnds outcome.Failed end refuses none_left failed = (end ≡ Open) × failed
+
+-- a handshake, from its first message on
+pub record HandshakeRun {F : Type 0} (may_init : MayInit F) (page : ℕ) (found : HandshakeOutcome) (fs fs1 : F) (before after : Progress) : Type 0 where
+  pub turns : List (List ℕ)
+  pub replies : List (List ℕ)
+  pub sent : List (List ℕ)
+  pub lost : ℕ
+  pub end : HandshakeEnd
+  pub handshake : Handshake may_init page fs (map message turns) replies fs1 end
+  pub left_out : LeavesOut lost replies sent
+  pub moved : Moves (length turns) sent [] lost before after
+  pub begins : Begins turns before.source
+  pub taken : found ≢ outcome.Failed → Takes turns before.source after.source
+  pub ended : HandshakeEnds found end (MayRefuse may_init fs) (NothingLeft after.source) (SourceFailed before.source after.source)
+
+-- a handshake so far, after which the next message is awaited
+pub record HandshakeOn {F : Type 0} (may_init : MayInit F) (page : ℕ) (fs fs1 : F) (before after : Progress) : Type 0 where
+  pub turns : List (List ℕ)
+  pub replies : List (List ℕ)
+  pub sent : List (List ℕ)
+  pub lost : ℕ
+  pub same : fs1 ≡ fs
+  pub go : (ms later : List (List ℕ)) (fs2 : F) (end : HandshakeEnd) → Handshake may_init page fs ms later fs2 end
+      → Handshake may_init page fs (map message turns ++ ms) (replies ++ later) fs2 end
+  pub left_out : LeavesOut lost replies sent
+  pub moved : Moves (length turns) sent [] lost before after
+  pub taken : Takes turns before.source after.source
+
+-- one message of it, or none
+abbrev pub OneStep : {F : Type 0} → MayInit F → (page : ℕ) → Option HandshakeOutcome → F → F → (before after : Progress) → Type 0
+OneStep may_init page None fs fs1 before after = HandshakeOn may_init page fs fs1 before after
+OneStep may_init page (Some found) fs fs1 before after = HandshakeRun may_init page found fs fs1 before after

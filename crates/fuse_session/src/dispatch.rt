@@ -1,0 +1,82 @@
+// What a request comes to: an error that the product fixes, or what the filesystem answers.
+ghost use Rattle.std.specs.Prelude.{◌≡◌, ℕ};
+ghost use Rattle.fuse_reply.specs.Answer.Answer.{Error};
+ghost use Rattle.fuse_reply.specs.Frame.{reply};
+ghost use Rattle.fuse_request.specs.Header.{header_of, request_of};
+ghost use Rattle.fuse_request.specs.Operation.{plain};
+ghost use Rattle.fuse_session.specs.Owed.{Owed, OwedBy, Owed-destroy};
+ghost use Rattle.fuse_session.specs.Progress.{IsPrompt};
+ghost use Rattle.fuse_session.specs.Verdict.{served};
+
+use crate::Filesystem;
+use crate::access::AccessRule;
+use crate::judge::unserved_error;
+use crate::work::Work;
+use fuse_reply::{Out, ReplyAttr, ReplyData, ReplyEmpty, ReplyEntry};
+use fuse_request::{AnyRequest, Operation};
+use fuse_wire::{Errno, RequestId};
+use std::alloc::Global;
+
+/// A filesystem, served to those whom the rule admits.
+pub(crate) struct Service<FS> {
+    pub(crate) filesystem: FS,
+    pub(crate) rule: AccessRule,
+}
+
+/// The reply of an error.
+#[inline(always)]
+fn refusal(alloc: Global, id: RequestId, error: Errno) -> Out
+    ensures { result ≡ Out.Frame (reply id.0 (Error error)) }
+{
+    ReplyEmpty::new(alloc, id).error(error).into_out()
+}
+
+impl<FS: Filesystem> Work for Service<FS> {
+    ghost owed = { λ service. Owed FS.promise service.filesystem service.rule.acl service.rule.owner };
+
+    #[inline(always)]
+    fn answer(&self, alloc: Global, _seq: u64, request: &AnyRequest<'_>) -> Out {
+        let id = request.unique();
+        let operation = match self.rule.operation(request) {
+            Ok(operation) => operation,
+            Err(error) => return refusal(alloc, id, error),
+        };
+        let node = request.nodeid();
+        let filesystem = &self.filesystem;
+        let request = &request.request();
+        match operation {
+            Operation::Lookup(lookup) => {
+                let reply = ReplyEntry::new(alloc, id);
+                filesystem
+                    .lookup(request, node, lookup.name(), reply)
+                    .into_out()
+            }
+            Operation::Forget(forget) => {
+                Out::note(id, filesystem.forget(request, node, forget.nlookup()))
+            }
+            Operation::GetAttr(getattr) => {
+                let reply = ReplyAttr::new(alloc, id);
+                filesystem
+                    .getattr(request, node, getattr.file_handle(), reply)
+                    .into_out()
+            }
+            Operation::Read(read) => match read.offset() {
+                Ok(offset) => {
+                    let reply = ReplyData::new(alloc, id);
+                    let fh = read.file_handle();
+                    let owner = read.lock_owner();
+                    let (size, flags) = (read.size(), read.flags());
+                    let replied = filesystem.read(
+                        request, node, fh, offset, size, flags, owner, reply,
+                    );
+                    replied.into_out()
+                }
+                Err(error) => refusal(alloc, id, error),
+            },
+            other => refusal(alloc, id, unserved_error(&other)),
+        }
+    }
+
+    ghost owed_to_destroy = { λ service seq m is.
+        Owed-destroy FS.promise service.filesystem service.rule.acl service.rule.owner seq m is };
+}
