@@ -4,12 +4,12 @@ use Rattle.std.specs.List.{concat, AllByRecursion}
 use Rattle.std.proofs.lemmas.List.{take_all}
 use Rattle.std.proofs.lemmas.List.Folds.{concat-append}
 use Rattle.fuse_wire.specs.Cut.{cut, IsMessage}
-use Rattle.fuse_wire.specs.Source.{Takes, message}
-use Rattle.fuse_wire.specs.ByteSource.{ByteSourceState, TakesBytes}
+use Rattle.fuse_wire.specs.Source.{Takes, message, NothingLeft}
+use Rattle.fuse_wire.specs.ByteSource.{ByteSourceState, TakesBytes, NoByteLeft}
 use Rattle.fuse_wire.specs.StreamSource.{stream_told}
 use Rattle.fuse_wire.proofs.Cut.{concat-cut, IsMessage-cut}
-use Rattle.fuse_session.specs.Moves.{NothingLeft, Begins}
-use Rattle.fuse_serve.specs.Program.{Fronts, NoByteLeft}
+use Rattle.fuse_session.specs.Progress.{Begins}
+use Rattle.fuse_serve.specs.Program.{Fronts}
 
 pub same_some : {A : Type 0} (x y : A) → Some x ≡ Some y → x ≡ y
 same_some x y h = cc
@@ -36,6 +36,17 @@ Fronts-begins turns a begins = at_front a.bytes begins where
       → IfSome bytes (λ bytes. (later : List (List ℕ)) × (cut bytes ≡ map message turns ++ later))
   at_front None h = tt
   at_front (Some bytes) h = (h.0, h.1 ∙ ap (λ (ms : List (List ℕ)). ms ++ h.0) (sym (front-whole bytes turns h.0 h.1)))
+
+-- the turns that there were begin with those that were taken
+pub Fronts-takes : (turns : List (List ℕ)) (a b : ByteSourceState) → Takes turns (stream_told a) (stream_told b) → Fronts (map message turns) a
+Fronts-takes turns a b takes = at_front a.bytes b.bytes takes.turns where
+  at_front : (before after : Option (List ℕ)) → option_map cut before ≡ option_map (λ left. turns ++ left) (option_map cut after)
+      → IfSome before (λ bytes. (later : List (List ℕ)) × (cut bytes ≡ map message turns ++ later))
+  at_front None after e = tt
+  at_front (Some all) None e = absurd (cc)
+  at_front (Some all) (Some left) e =
+      let split : cut all ≡ turns ++ cut left = same_some (cut all) (turns ++ cut left) e in
+      (cut left, split ∙ ap (λ (ms : List (List ℕ)). ms ++ cut left) (sym (front-whole all turns (cut left) split)))
 
 -- the bytes of the turns that were taken
 pub TakesBytes-takes : (turns : List (List ℕ)) (a b : ByteSourceState) → Takes turns (stream_told a) (stream_told b)

@@ -1,7 +1,10 @@
 -- What a status says.
-use Rattle.std.proofs.Common.{◌≡◌, ◌<◌, ◌⊎◌, ℕ, Bool, true, false, refl, Result, Ok, Err, nat_lt, arith, cond, inl, inr}
+use Rattle.std.proofs.Common.{◌≡◌, ◌<◌, ◌⊎◌, ℕ, zero, suc, Bool, true, false, refl, sym, ap, ◌∙◌, Result, Ok, Err, nat_lt, arith, cond, inl}
+use Rattle.std.proofs.Common.{inr, min, lt-ltb}
 use Rattle.std.proofs.lemmas.Bool.Decides.{nat_tests}
 use Rattle.std.specs.Prelude.{◌||◌}
+use Rattle.fuse_wire.specs.Faults.{last_count}
+use Rattle.fuse_session.specs.Exchange.{Outcome}
 use Rattle.fuse_session.specs.declared.error.SessionError.{SessionError}
 use Rattle.fuse_session.specs.declared.error.SessionError.TheVariants.{Memory, NotConnected, InvalidData, Unsupported, Init, Threads, Receive}
 use Rattle.fuse_serve.specs.Status.{status, failure_status, IsSessionStatus}
@@ -25,30 +28,31 @@ neither true second h = absurd (omega arith)
 neither false true h = absurd (omega arith)
 neither false false h = (refl, refl)
 
-either : (first second : Bool) → ok-status (first || second) ≡ 8 → (first ≡ true) ⊎ (second ≡ true)
-either true second h = inl refl
-either false true h = inr refl
-either false false h = absurd (omega arith)
-
 lost-none : (lost : ℕ) → nat_lt 0 lost ≡ false → lost ≡ 0
 lost-none lost h = grind (arith, nat_tests)
 
-lost-some : (lost : ℕ) → nat_lt 0 lost ≡ true → 0 < lost
-lost-some lost h = grind (arith, nat_tests)
-
 -- the status 0 comes only where the outcome was Ok and nothing was lost
-pub zero-status : (outcome : Result (Unit {0}) SessionError) (lost : ℕ) (broken : Bool) → status outcome lost broken ≡ 0
+pub zero-status : (outcome : Outcome) (lost : ℕ) (broken : Bool) → status outcome lost broken ≡ 0
     → (outcome ≡ Ok tt) × (lost ≡ 0) × (broken ≡ false)
-zero-status (Ok u) lost broken h =
-    let none = neither (nat_lt 0 lost) broken h in (refl, lost-none lost none.0, none.1)
+zero-status (Ok u) lost broken h = let none = neither (nat_lt 0 lost) broken h in (refl, lost-none lost none.0, none.1)
 zero-status (Err e) lost broken h = absurd (failure-some e h)
 
--- the status 8 comes, where the outcome was Ok, only where something was lost or a write failed
-pub eight-status : (lost : ℕ) (broken : Bool) → status (Ok tt) lost broken ≡ 8 → (0 < lost) ⊎ (broken ≡ true)
-eight-status lost broken h = some (either (nat_lt 0 lost) broken h) where
-  some : (nat_lt 0 lost ≡ true) ⊎ (broken ≡ true) → (0 < lost) ⊎ (broken ≡ true)
-  some (inl is) = inl (lost-some lost is)
-  some (inr is) = inr is
+-- no failure has the status 8
+failure-eight : (e : SessionError) → failure_status e ≡ 8 → ⊥
+failure-eight Memory h = omega arith
+failure-eight NotConnected h = omega arith
+failure-eight (InvalidData d) h = omega arith
+failure-eight (Unsupported v) h = omega arith
+failure-eight (Init e) h = omega arith
+failure-eight Threads h = omega arith
+failure-eight Receive h = omega arith
+
+-- the status 8 comes only where something was lost or a write failed
+pub eight-status : (outcome : Outcome) (lost : ℕ) (broken : Bool) → status outcome lost broken ≡ 8 → (0 < lost) ⊎ (broken ≡ true)
+eight-status (Err e) lost broken h = absurd (failure-eight e h)
+eight-status (Ok u) (suc less) broken h = inl (omega arith)
+eight-status (Ok u) zero true h = inr refl
+eight-status (Ok u) zero false h = absurd (omega arith)
 
 ok-only : (worse : Bool) → (ok-status worse ≡ 0) ⊎ (ok-status worse ≡ 8)
 ok-only true = inr refl
@@ -57,6 +61,14 @@ ok-only false = inl refl
 -- the outcome Ok has no status but these
 pub ok-statuses : (lost : ℕ) (broken : Bool) → (status (Ok tt) lost broken ≡ 0) ⊎ (status (Ok tt) lost broken ≡ 8)
 ok-statuses lost broken = ok-only (nat_lt 0 lost || broken)
+
+-- a count that stays at its last value gives the same status
+pub status-counted : (outcome : Outcome) (lost : ℕ) (broken : Bool) → status outcome (min lost last_count) broken ≡ status outcome lost broken
+status-counted (Err e) lost broken = refl
+status-counted (Ok u) zero broken = refl
+status-counted (Ok u) (suc less) broken =
+    ap (λ (some : Bool). ok-status (some || broken))
+    (lt-ltb 0 (min (suc less) last_count) (omega arith) ∙ sym (lt-ltb 0 (suc less) (omega arith)))
 
 ok-session : (worse : Bool) → IsSessionStatus (ok-status worse)
 ok-session true = inr (inr (inr (inr (inr (inl refl)))))
@@ -72,6 +84,6 @@ failure-session Threads = inr (inr (inr (inr (inr (inr (inr refl))))))
 failure-session Receive = inr (inr (inr (inr (inl refl))))
 
 -- each outcome has one of these
-pub session-status : (outcome : Result (Unit {0}) SessionError) (lost : ℕ) (broken : Bool) → IsSessionStatus (status outcome lost broken)
+pub session-status : (outcome : Outcome) (lost : ℕ) (broken : Bool) → IsSessionStatus (status outcome lost broken)
 session-status (Ok u) lost broken = ok-session (nat_lt 0 lost || broken)
 session-status (Err e) lost broken = failure-session e

@@ -1,5 +1,6 @@
 -- The bytes of the frames that a session wrote to a stream.
-use Rattle.std.proofs.Common.{◌≡◌, ◌≤◌, ◌<◌, ◌+◌, ℕ, Bool, true, false, List, [], ◌++◌, Option, None, Some, option_map, IfSome, length, drop, refl, sym, ap, ◌∙◌, subst, arith}
+use Rattle.std.proofs.Common.{◌≡◌, ◌≤◌, ◌<◌, ◌+◌, ℕ, Bool, true, false, List, [], ◌++◌, Option, None, Some, option_map, IfSome, length}
+use Rattle.std.proofs.Common.{drop, refl, sym, ap, ◌∙◌, subst, arith}
 use Rattle.std.specs.List.{concat}
 use Rattle.std.proofs.lemmas.List.{drop_at, drop_all}
 use Rattle.std.proofs.Math.Logic.{∥∥₁_elim}
@@ -15,7 +16,7 @@ use Rattle.fuse_serve.specs.Program.{WritesFrames}
 same_some : {A : Type 0} (x y : A) → Some x ≡ Some y → x ≡ y
 same_some x y h = cc
 
--- what stands behind the frames that were written
+-- what stands after the frames that were written
 abbrev pub torn_of : (written : List (List ℕ)) → Option (List ℕ) → Option (List ℕ) → List ℕ
 torn_of written None now = []
 torn_of written (Some first) None = []
@@ -44,14 +45,15 @@ parts written notes origin now sink broken appends s =
           → Parts written broken first last
       by_first None last e f told bytes = (bytes ∙ ap (option_map (λ held. held ++ (concat s.sent ++ s.torn))) e, tt, ∣ IsTorn-nil ∣₁, λ whole. refl)
       by_first (Some first) None e f told bytes =
-          absurd (let no : None ≡ Some (first ++ (concat s.sent ++ s.torn)) = bytes ∙ ap (option_map (λ held. held ++ (concat s.sent ++ s.torn))) e in cc)
+          absurd (let no : None ≡ Some (first ++ (concat s.sent ++ s.torn)) =
+          bytes ∙ ap (option_map (λ held. held ++ (concat s.sent ++ s.torn))) e in cc)
       by_first (Some first) (Some last) e f told bytes =
           let same : s.sent ≡ written =
           same_some s.sent written
           (ap (option_map (λ (held : List ℕ). s.sent)) (sym e) ∙ (sym told ∙ (f ∙ ap (λ (x : List (List ℕ)). Some (x ++ written)) (no_frames first)))) in
-          let behind : last ≡ first ++ (concat s.sent ++ s.torn) =
+          let after_first : last ≡ first ++ (concat s.sent ++ s.torn) =
           same_some last (first ++ (concat s.sent ++ s.torn)) (bytes ∙ ap (option_map (λ held. held ++ (concat s.sent ++ s.torn))) e) in
-          let put : last ≡ first ++ (concat written ++ s.torn) = behind ∙ ap (λ (x : List (List ℕ)). first ++ (concat x ++ s.torn)) same in
+          let put : last ≡ first ++ (concat written ++ s.torn) = after_first ∙ ap (λ (x : List (List ℕ)). first ++ (concat x ++ s.torn)) same in
           let after : drop (length first) last ≡ concat written ++ s.torn =
           ap (drop (length first)) put ∙ drop_at first (concat written ++ s.torn) (length first) refl in
           let torn : drop (length (concat written)) (drop (length first) last) ≡ s.torn =
@@ -77,7 +79,8 @@ WritesFrames-stands written notes output output' sink broken appends stands = re
   split = split output.bytes (λ s. (parts written notes output output' sink broken appends s).1);
   part = ∥∥₁_elim stands (hlevel props) (λ s. (parts written notes output output' sink broken appends s).2);
 } where
-  split : (first : Option (List ℕ)) → (Stands sink output' broken → IfSome first (λ held. frames (concat written ++ torn_of written output.bytes output'.bytes) ≡ written))
+  split : (first : Option (List ℕ))
+      → (Stands sink output' broken → IfSome first (λ held. frames (concat written ++ torn_of written output.bytes output'.bytes) ≡ written))
       → IfSome first (λ held. frames (concat written ++ torn_of written output.bytes output'.bytes) ≡ written)
   split None h = tt
   split (Some first) h = ∥∥₁_elim stands (hlevel props) h
@@ -97,7 +100,8 @@ Rose-broken output output' sink broken origin stands is =
 
 -- and so was a frame that was lost with no write failed
 pub Rose-lost : (lost : ℕ) (output output' : ByteSinkState) (sink : SinkState) (broken : Bool)
-    → (sink.faults < last_count → lost + counted output.faults 0 ≤ sink.faults) → ∥ Stands sink output' broken ∥₁ → broken ≡ false → 0 < lost
+    → (sink.faults < last_count → lost + counted output.faults 0 ≤ sink.faults) → ∥ Stands sink output' broken ∥₁
+    → broken ≡ false → 0 < lost
     → Rose output.faults output'.faults
 Rose-lost lost output output' sink broken cause stands is some = λ below. ∥∥₁_elim stands (hlevel props) (rises below) where
   rises : output'.faults < last_count → Stands sink output' broken → output.faults < output'.faults

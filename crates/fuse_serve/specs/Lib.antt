@@ -1,4 +1,4 @@
-pub mod Words
+pub mod Form
 pub mod Status
 pub mod Tree
 pub mod Program

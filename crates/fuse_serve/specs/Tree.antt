@@ -1,7 +1,8 @@
 -- The tree that the program serves: a directory with two files in it, and what each call to it gives.
-use Rattle.std.specs.Prelude.{◌≡◌, ℕ, ◌==◌, List, Option, None, Some, Result, Ok, pos, codes, take, drop, if◌then◌else◌}
+use Rattle.std.specs.Prelude.{◌≡◌, ℕ, ◌==◌, List, Option, None, Some, Result, Ok, pos, codes, take, drop, false, if◌then◌else◌}
 use Rattle.std.specs.List.{range_with_len}
 use Rattle.std.specs.Str.{bytes_eq}
+use Rattle.fuse_wire.specs.ErrorNumbers.{ENOENT}
 use Rattle.fuse_wire.specs.declared.file_attr.FileAttr.{FileAttr}
 use Rattle.fuse_wire.specs.declared.file_attr.FileType.{FileType}
 use Rattle.fuse_wire.specs.declared.file_attr.FileType.TheVariants.{Directory, RegularFile}
@@ -9,7 +10,7 @@ use Rattle.fuse_request.specs.Call.{Call}
 use Rattle.fuse_request.specs.Call.Call.{Lookup, Forget, GetAttr, Read}
 use Rattle.fuse_reply.specs.Answer.{Answer}
 use Rattle.fuse_reply.specs.Answer.Answer.{Error, Data, Entry, Attr}
-use Rattle.fuse_session.specs.Promise.{Promise, Inits, Answers, Notes, Destroys, promises}
+use Rattle.fuse_session.specs.Promise.{Promise, MayInit, MayAnswer, MayNote, MayDestroy}
 use Rattle.fuse_serve.specs.declared.hello.Hello.{Hello}
 
 -- attributes of a node, whose owner and whose times are 0
@@ -56,16 +57,16 @@ contents ino =
 
 -- an entry and its attributes hold for a second, and their generation is 0; without one the answer is ENOENT
 abbrev pub entry : Option FileAttr → Answer
-entry None = Error 2
+entry None = Error ENOENT
 entry (Some found) = Entry 1000000000 1000000000 0 found
 
 abbrev pub attributes : Option FileAttr → Answer
-attributes None = Error 2
+attributes None = Error ENOENT
 attributes (Some found) = Attr 1000000000 found
 
 -- the bytes from the offset on, at most so many
 abbrev pub bytes : (offset size : ℕ) → Option (List ℕ) → Answer
-bytes offset size None = Error 2
+bytes offset size None = Error ENOENT
 bytes offset size (Some all) = Data (take size (drop offset all))
 
 -- the answer to a call that reaches it; a forget has none
@@ -81,20 +82,26 @@ tree_mark (Forget ino nlookup) = Some nlookup
 tree_mark c = None
 
 -- the tree accepts each INIT, and leaves what is negotiated as it is
-abbrev pub tree_may_init : Inits Hello
+abbrev pub tree_may_init : MayInit Hello
 tree_may_init old request before result new after = (result ≡ Ok tt) × (after ≡ before)
 
 -- each call has its one answer, and each forget its one mark
-abbrev pub tree_may_answer : Answers Hello
+abbrev pub tree_may_answer : MayAnswer Hello
 tree_may_answer tree request call answer = tree_answer call ≡ Some answer
 
-abbrev pub tree_may_note : Notes Hello
+abbrev pub tree_may_note : MayNote Hello
 tree_may_note tree request call mark = tree_mark call ≡ Some mark
 
 -- nothing happens to it when the session is over
-abbrev pub tree_may_destroy : Destroys Hello
+abbrev pub tree_may_destroy : MayDestroy Hello
 tree_may_destroy old new = new ≡ old
 
 -- the promise of the tree
 abbrev pub tree_promise : Promise Hello
-tree_promise = promises tree_may_init tree_may_answer tree_may_note tree_may_destroy
+tree_promise = record {
+  may_init = tree_may_init;
+  may_answer = tree_may_answer;
+  may_note = tree_may_note;
+  may_destroy = tree_may_destroy;
+  defers = false;
+}

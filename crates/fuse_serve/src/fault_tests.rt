@@ -1,6 +1,6 @@
 // Inputs and outputs that fail, one call at a time, over a stream of ten messages.
 use crate::program::serve;
-use fuse_wire::{MemoryBytes, MemoryOut};
+use fuse_wire::{ByteRead, ByteSource, MemoryBytes, MemoryOut};
 use std::alloc::{AllocError, Global};
 use std::process::Abort;
 use std::sync::Wait;
@@ -40,22 +40,41 @@ fn replies(alloc: Global) -> Result<Vec<u8>, AllocError> {
     Ok(bytes)
 }
 
-/// Over streams that fail at these calls the program ends with this status, and has written so many of the bytes.
+/// How many bytes the input still has.
+fn unread(input: &mut MemoryBytes) -> usize {
+    let mut count: usize = 0;
+    for _ in 0..1000 {
+        let mut piece = [0];
+        if let ByteRead::Got(_) = input.read(&mut piece) {
+            count = count.saturating_add(1);
+        }
+    }
+    count
+}
+
+/// Over streams that fail at these calls the program ends with this status, has written so many of the bytes, and has left
+/// so many unread.
 fn ends_so<R: Wait + AllocGlobal + Abort>(
     rt: &R,
     reads: &[u64],
     writes: &[u64],
     status: u8,
     count: usize,
+    left: usize,
 ) -> Result<(), AllocError> {
     let alloc = rt.alloc();
     let input = MemoryBytes::new(stream(alloc)?, 1000, reads.to_vec(alloc)?);
     let output = MemoryOut::new(alloc, 1000, writes.to_vec(alloc)?);
-    let served = serve(rt, &FORM, input, output);
+    let mut served = serve(rt, &FORM, input, output);
     assert_eq!(rt; served.status, status, "reads {reads:?}, writes {writes:?}");
     assert_eq!(rt;
         Some(served.output.bytes()),
         replies(alloc)?.get(..count),
+        "reads {reads:?}, writes {writes:?}"
+    );
+    assert_eq!(rt;
+        unread(&mut served.input),
+        left,
         "reads {reads:?}, writes {writes:?}"
     );
     Ok(())
@@ -65,32 +84,39 @@ fn ends_so<R: Wait + AllocGlobal + Abort>(
 fn each_read_may_fail(rt: HostRuntime) -> Result<(), Fail> {
     // Two reads for each message but the last, which has no body.
     let mut written: usize = 0;
+    let mut left: usize = 504;
     for message in 0..10u64 {
         let first = message.saturating_mul(2).saturating_add(1);
-        ends_so(&rt, &[first], &[], 7, written)?;
+        ends_so(&rt, &[first], &[], 7, written, left)?;
         if message < 9 {
-            ends_so(&rt, &[first.saturating_add(1)], &[], 7, written)?;
+            let header_read = left.saturating_sub(40);
+            ends_so(
+                &rt,
+                &[first.saturating_add(1)],
+                &[],
+                7,
+                written,
+                header_read,
+            )?;
         }
-        written = if message == 0 {
-            40
-        } else {
-            written.saturating_add(16)
-        };
+        let (reply, taken) = if message == 0 { (40, 104) } else { (16, 45) };
+        written = written.saturating_add(reply);
+        left = left.saturating_sub(taken);
     }
-    ends_so(&rt, &[20], &[], 0, 184)?;
+    ends_so(&rt, &[20], &[], 0, 184, 0)?;
     Ok(())
 }
 
 #[test]
 fn each_write_may_fail(rt: HostRuntime) -> Result<(), Fail> {
     // Two writes for the reply to INIT, and one for each frame without a payload.
-    ends_so(&rt, &[], &[1], 8, 0)?;
-    ends_so(&rt, &[], &[2], 8, 16)?;
+    ends_so(&rt, &[], &[1], 8, 0, 0)?;
+    ends_so(&rt, &[], &[2], 8, 16, 0)?;
     let mut written: usize = 40;
     for write in 3..12u64 {
-        ends_so(&rt, &[], &[write], 8, written)?;
+        ends_so(&rt, &[], &[write], 8, written, 0)?;
         written = written.saturating_add(16);
     }
-    ends_so(&rt, &[], &[12], 0, 184)?;
+    ends_so(&rt, &[], &[12], 0, 184, 0)?;
     Ok(())
 }

@@ -1,6 +1,6 @@
 // The tree that the program serves.
-ghost use Rattle.std.specs.Prelude.{◌≡◌, take, drop, option_map};
-ghost use Rattle.fuse_serve.specs.Tree.{attr, contents, named, node_attr, tree_may_answer, tree_may_destroy, tree_may_init, tree_may_note};
+ghost use Rattle.std.specs.Prelude.{◌≡◌, false, refl, take, drop, option_map};
+ghost use Rattle.fuse_serve.specs.Tree.{attr, contents, named, node_attr, tree_promise};
 
 use fuse_config::KernelConfig;
 use fuse_reply::{Replied, ReplyAttr, ReplyData, ReplyEntry};
@@ -109,13 +109,11 @@ fn a_second() -> Duration
 }
 
 impl Filesystem for Hello {
-    ghost may_init = { tree_may_init };
+    ghost promise = { tree_promise };
 
-    ghost may_answer = { tree_may_answer };
+    const DEFERS: bool = false;
 
-    ghost may_note = { tree_may_note };
-
-    ghost may_destroy = { tree_may_destroy };
+    ghost DEFERS = { false };
 
     fn init(&mut self, _request: &Request, _config: &mut KernelConfig) -> Result<(), Errno> {
         Ok(())
@@ -172,4 +170,6 @@ impl Filesystem for Hello {
     }
 
     fn destroy(&mut self) {}
+
+    ghost deferral = { refl };
 }

@@ -1,6 +1,11 @@
 //! The program: serves a small tree of files to whoever speaks FUSE on its standard input and output.
 #![tactic(auto)]
 
+ghost use Rattle.std.specs.Prelude.{◌≡◌, ◌↔◌, map, None};
+ghost use Rattle.fuse_serve.specs.Form.{form_of};
+ghost use Rattle.fuse_serve.specs.Status.{IsExit};
+
+mod arguments;
 #[cfg(test)]
 mod fault_tests;
 mod hello;
@@ -9,7 +14,6 @@ mod program;
 mod tests;
 #[cfg(test)]
 mod tree_tests;
-mod words;
 
 use fuse_wire::{StdSink, StdSource};
 use program::serve;
@@ -19,8 +23,21 @@ use std::rt::Env;
 use std::sync::Wait;
 use std::{env, io};
 
-/// Runs the program, and says with which status it ends.
-fn run<R: Env + AllocGlobal + Wait, I: Read + Drop, O: Write + Send + Drop>(
+/// Runs the program on these arguments, without its own name, over these streams, and says with which status it ends.
+fn run<R: AllocGlobal + Wait, I: Read + Drop, O: Write + Send + Drop>(
+    rt: &R,
+    arguments: &[&[u8]],
+    input: I,
+    output: O,
+) -> u8
+    ensures form { (result ≡ 2) ↔ (form_of (map (λ argument. argument.now) arguments.now) ≡ None) }
+    ensures statuses { IsExit result }
+{
+    serve(rt, arguments, StdSource::new(input), StdSink::new(output)).status
+}
+
+/// The same on the arguments of the process. The error is that there was no memory for them, or that they can't be had.
+fn run_process<R: Env + AllocGlobal + Wait, I: Read + Drop, O: Write + Send + Drop>(
     rt: &R,
     input: I,
     output: O,
@@ -29,21 +46,15 @@ fn run<R: Env + AllocGlobal + Wait, I: Read + Drop, O: Write + Send + Drop>(
     for word in env::args(rt)?.skip(1) {
         words.push(word)?;
     }
-    let mut slices = Vec::new(rt.alloc());
+    let mut arguments = Vec::new(rt.alloc());
     for word in &words {
-        slices.push(word.as_bytes())?;
+        arguments.push(word.as_bytes())?;
     }
-    let served = serve(
-        rt,
-        slices.as_slice(),
-        StdSource::new(input),
-        StdSink::new(output),
-    );
-    Ok(served.status)
+    Ok(run(rt, arguments.as_slice(), input, output))
 }
 
 fn main(rt: HostRuntime) -> ExitCode {
-    match run(&rt, rt.stdin(), rt.stdout()) {
+    match run_process(&rt, rt.stdin(), rt.stdout()) {
         Ok(status) => ExitCode::from(status),
         Err(error) if error.kind() == io::ErrorKind::OutOfMemory => ExitCode::from(9),
         Err(_) => ExitCode::from(2),

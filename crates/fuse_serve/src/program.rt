@@ -1,11 +1,11 @@
 // What the program does with its words, its input and its output.
 ghost use Rattle.std.specs.Prelude.{◌≡◌, ◌≢◌, ◌↔◌, ◌⊎◌, ◌<◌, map, None, IfSome};
-ghost use Rattle.fuse_serve.specs.Words.{form_of};
-ghost use Rattle.fuse_serve.specs.Program.{ByteSession, EachAnswered, NothingAmiss};
+ghost use Rattle.fuse_serve.specs.Form.{form_of};
+ghost use Rattle.fuse_serve.specs.Program.{ByteExchange, EachAnswered, InputWell};
 ghost use Rattle.fuse_serve.specs.Status.{IsExit, IsSessionStatus, IsStatus};
 
+use crate::arguments::{ServeForm, serve_form};
 use crate::hello::Hello;
-use crate::words::{ServeForm, serve_form};
 use fuse_config::Config;
 use fuse_session::{Ended, SessionError, mount};
 use fuse_wire::{ByteSink, ByteSource, StreamSink, StreamSource};
@@ -16,9 +16,9 @@ use std::sync::Wait;
 pub struct Served<I, O> {
     /// The exit status: 0, or why not.
     pub status: u8,
-    /// The input, behind what was read.
+    /// The input, after what was read.
     pub input: I,
-    /// The output, behind what was written.
+    /// The output, after what was written.
     pub output: O,
 }
 
@@ -49,9 +49,12 @@ fn serve_tree<R: Wait + AllocGlobal, I: ByteSource, O: ByteSink + Send>(
     requires { 0 < form.page }
     ensures statuses { IsSessionStatus result.status }
     ensures untouched { result.status ≡ 9 → (result.input ≡ input) × (result.output ≡ output) }
-    ensures answered { result.status ≡ 0 → EachAnswered form (I.told input) (I.told result.input) (O.told output) (O.told result.output) }
-    ensures session { result.status ≢ 9 → ByteSession form result.status (I.told input) (I.told result.input) (O.told output) (O.told result.output) }
-    ensures complete { NothingAmiss form (I.told input) (I.told result.input) (O.told output) (O.told result.output) → (result.status ≡ 0) ⊎ (result.status ≡ 9) }
+    ensures answered { result.status ≡ 0 →
+        EachAnswered form (I.told input) (I.told result.input) (O.told output) (O.told result.output) }
+    ensures session { result.status ≢ 9 →
+        ByteExchange form result.status (I.told input) (I.told result.input) (O.told output) (O.told result.output) }
+    ensures complete { InputWell form (I.told input) (I.told result.input) (O.told output) (O.told result.output) →
+        (result.status ≡ 0) ⊎ (result.status ≡ 9) }
 {
     let config = Config {
         acl: form.acl,
@@ -80,7 +83,7 @@ fn serve_tree<R: Wait + AllocGlobal, I: ByteSource, O: ByteSink + Send>(
     }
 }
 
-/// Does what the words say, which stand behind the program's own name: `serve THREADS ACL OWNER PAGE` serves the tree.
+/// Does what the words say, which stand after the program's own name: `serve THREADS ACL OWNER PAGE` serves the tree.
 pub fn serve<R: Wait + AllocGlobal, I: ByteSource, O: ByteSink + Send>(
     rt: &R,
     words: &[&[u8]],
@@ -94,19 +97,21 @@ pub fn serve<R: Wait + AllocGlobal, I: ByteSource, O: ByteSink + Send>(
     ensures statuses { IsExit result.status }
 
     // With 2, and with 9 for want of memory, nothing is read or written.
-    ensures untouched { (result.status ≡ 2) ⊎ (result.status ≡ 9) → (result.input ≡ input) × (result.output ≡ output) }
+    ensures untouched { (result.status ≡ 2) ⊎ (result.status ≡ 9) →
+        (result.input ≡ input) × (result.output ≡ output) }
 
     // With 0 each message that was read has its one reply: see `EachAnswered`.
     ensures answered { result.status ≡ 0 → IfSome (form_of (map (λ w. w.now) words.now)) (λ form.
         EachAnswered form (I.told input) (I.told result.input) (O.told output) (O.told result.output)) }
 
-    // But for 2 and 9: what was read, written and lost, and why it ended so: see `ByteSession`.
+    // But for 2 and 9: what was read, written and lost, and why it ended so: see `ByteExchange`.
     ensures session { result.status ≢ 9 → IfSome (form_of (map (λ w. w.now) words.now)) (λ form.
-        ByteSession form result.status (I.told input) (I.told result.input) (O.told output) (O.told result.output)) }
+        ByteExchange form result.status (I.told input) (I.told result.input) (O.told output) (O.told result.output)) }
 
     // Where nothing is amiss it ends with 0, or for want of memory.
     ensures complete { IfSome (form_of (map (λ w. w.now) words.now)) (λ form.
-        NothingAmiss form (I.told input) (I.told result.input) (O.told output) (O.told result.output) → (result.status ≡ 0) ⊎ (result.status ≡ 9)) }
+        InputWell form (I.told input) (I.told result.input) (O.told output) (O.told result.output) →
+        (result.status ≡ 0) ⊎ (result.status ≡ 9)) }
 {
     match serve_form(words) {
         Some(form) => serve_tree(rt, form, input, output),

@@ -3,11 +3,11 @@ ghost use Rattle.std.specs.Prelude.{None};
 
 use crate::hello::Hello;
 use crate::program::serve;
+use crate::run;
 use fuse_config::{Config, SessionACL};
 use fuse_session::{Ended, mount};
 use fuse_wire::{
-    ByteRead, ByteSink, ByteSource, ByteWrite, MemoryBytes, MemoryOut, StdSink, StdSource,
-    StreamSink, StreamSource,
+    ByteRead, ByteSink, ByteSource, ByteWrite, MemoryBytes, MemoryOut, StreamSink, StreamSource,
 };
 use std::alloc::{AllocError, Global};
 use std::sync::Wait;
@@ -169,15 +169,15 @@ fn inputs_have_their_status_and_frames(rt: HostRuntime) -> Result<(), Fail> {
 }
 
 #[test]
-fn what_stands_behind_the_last_message_is_unread(rt: HostRuntime) -> Result<(), Fail> {
+fn what_comes_after_the_last_message_is_unread(rt: HostRuntime) -> Result<(), Fail> {
     assert!(rt;
         ends_so(
             &rt,
             &FORM,
-            &[INIT, ZEROS, DESTROY, b"what stands behind it"],
+            &[INIT, ZEROS, DESTROY, b"what comes after it"],
             0,
             &[REPLY, b"\x10\0\0\0\0\0\0\0\x02\0\0\0\0\0\0\0"],
-            b"what stands behind it",
+            b"what comes after it",
         )?,
         "DESTROY"
     );
@@ -222,7 +222,7 @@ fn words_say_the_status(rt: HostRuntime) -> Result<(), Fail> {
     Ok(())
 }
 
-/// An input that fails behind its bytes, and tells none of them.
+/// An input that fails after its bytes, and tells none of them.
 #[derive(Drop)]
 struct FailingInput {
     inner: MemoryBytes,
@@ -243,7 +243,7 @@ impl ByteSource for FailingInput {
     }
 }
 
-/// An output that fails behind so many writes, and tells none of them.
+/// An output that fails after so many writes, and tells none of them.
 #[derive(Drop)]
 struct FailingOutput {
     inner: MemoryOut,
@@ -296,7 +296,7 @@ fn an_output_that_fails_has_its_status(rt: HostRuntime) -> Result<(), Fail> {
     Ok(())
 }
 
-/// INIT and two LOOKUPs, and an output that fails at its third write, which is the first behind the reply to INIT.
+/// INIT and two LOOKUPs, and an output that fails at its third write, which is the first after those of the reply to INIT.
 fn two_lookups(alloc: Global) -> Result<(MemoryBytes, MemoryOut), AllocError> {
     let bytes = joined(alloc, &[INIT, ZEROS, LOOKUP, NEXT_LOOKUP])?;
     let faults = [3].to_vec(alloc)?;
@@ -307,7 +307,7 @@ fn two_lookups(alloc: Global) -> Result<(MemoryBytes, MemoryOut), AllocError> {
 }
 
 #[test]
-fn all_behind_a_failed_write_is_lost(rt: HostRuntime) -> Result<(), Fail> {
+fn all_after_a_failed_write_is_lost(rt: HostRuntime) -> Result<(), Fail> {
     let (input, output) = two_lookups(rt.alloc())?;
     let served = serve(&rt, &FORM, input, output);
     assert_eq!(rt; served.status, 8);
@@ -316,7 +316,7 @@ fn all_behind_a_failed_write_is_lost(rt: HostRuntime) -> Result<(), Fail> {
 }
 
 #[test]
-fn all_behind_a_failed_write_counts_as_lost(rt: HostRuntime) -> Result<(), Fail> {
+fn all_after_a_failed_write_counts_as_lost(rt: HostRuntime) -> Result<(), Fail> {
     let (input, output) = two_lookups(rt.alloc())?;
     let config = Config {
         acl: SessionACL::All,
@@ -352,14 +352,24 @@ fn devices_that_tell_nothing_are_served(rt: HostRuntime) -> Result<(), Fail> {
     let alloc = rt.alloc();
     let bytes = joined(alloc, &[INIT, ZEROS])?;
     let mut written = Vec::new(alloc);
-    let served = serve(
-        &rt,
-        &FORM,
-        StdSource::new(bytes.as_slice()),
-        StdSink::new(&mut written),
-    );
-    assert_eq!(rt; served.status, 0);
-    drop(served);
+    let status = run(&rt, &FORM, bytes.as_slice(), &mut written);
+    assert_eq!(rt; status, 0);
     assert_eq!(rt; written.as_slice(), REPLY.as_slice());
+    let mut unserved = Vec::new(alloc);
+    let unserved_status = run(
+        &rt,
+        &[b"serve", b"0", b"all", b"0", b"4096"],
+        bytes.as_slice(),
+        &mut unserved,
+    );
+    assert_eq!(rt;
+        (unserved_status, unserved.as_slice()),
+        (10, REPLY.as_slice())
+    );
+    let mut unread = Vec::new(alloc);
+    let short_status = run(&rt, &FORM, FRONT.as_slice(), &mut unread);
+    assert_eq!(rt; (short_status, unread.len()), (4, 0));
+    assert_eq!(rt; run(&rt, &[b"serve"], bytes.as_slice(), &mut unread), 2);
+    assert_eq!(rt; unread.len(), 0);
     Ok(())
 }

@@ -100,7 +100,7 @@ fn init(alloc: Global) -> Result<Vec<u8>, AllocError> {
 }
 
 /// A source of an INIT and these requests.
-fn behind_init(alloc: Global, requests: &[&[u8]]) -> Result<MemorySource, AllocError> {
+fn after_init(alloc: Global, requests: &[&[u8]]) -> Result<MemorySource, AllocError> {
     let mut turns = Vec::new(alloc);
     turns.push(Turn::Message(Items::from_vec(init(alloc)?)))?;
     for request in requests {
@@ -118,7 +118,7 @@ fn took<R: Abort>(rt: &R, sink: &MemorySink, frames: &[&[u8]], notes: &[(Request
     assert_eq!(rt; sink.notes(), notes);
 }
 
-/// Serves these requests behind an INIT, in one session of the user 7, which sends these frames and notes.
+/// Serves these requests after an INIT, in one session of the user 7, which sends these frames and notes.
 fn serves<R: Wait + AllocGlobal + Abort>(
     rt: &R,
     acl: SessionACL,
@@ -131,7 +131,7 @@ fn serves<R: Wait + AllocGlobal + Abort>(
         acl,
         n_threads: None,
     };
-    let source = behind_init(alloc, requests)?;
+    let source = after_init(alloc, requests)?;
     let sink = MemorySink::new(alloc, Vec::new(alloc));
     let Ended {
         filesystem: _,

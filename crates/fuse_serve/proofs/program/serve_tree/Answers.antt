@@ -1,19 +1,19 @@
-use Rattle.std.proofs.Common.{◌≡◌, ◌≢◌, ◌⊎◌, ◌<◌, ◌+◌, ◌≤◌, ◌∙◌, subst, sym, refl, ap, Some, Bool, Ok, Err, inr}
-use Rattle.fuse_wire.specs.Faults.{last_count}
+use Rattle.std.proofs.Common.{◌≡◌, ◌≢◌, ◌⊎◌, ◌∙◌, subst, sym, refl, ap, Some, Bool, Ok, Err, inr}
 use Rattle.fuse_wire.specs.Source.{SourceState}
 use Rattle.fuse_wire.specs.Sink.{SinkState}
 use Rattle.fuse_wire.specs.ByteSource.{ByteSourceState}
 use Rattle.fuse_wire.specs.ByteSink.{ByteSinkState}
 use Rattle.fuse_wire.specs.StreamSource.{stream_told}
 use Rattle.fuse_wire.specs.StreamSink.{Stands, stream_told as sink_told}
-use Rattle.fuse_session.specs.Complete.{NothingAmiss}
-use Rattle.fuse_session.specs.Converses.{Session}
+use Rattle.fuse_session.specs.Complete.{SessionWell}
+use Rattle.fuse_session.specs.Exchange.{Mounted}
 use Rattle.fuse_session.specs.Headline.{Headline, Lossless}
+use Rattle.fuse_session.specs.Progress.{nothing_yet, progress}
 use Rattle.fuse_session.specs.declared.error.SessionError.TheVariants.{Memory}
-use Rattle.fuse_session.proofs.Flat.{Flat-session}
+use Rattle.fuse_serve.specs.Program.{ByteExchange, form_setup}
 use Rattle.fuse_serve.specs.Status.{status}
 use Rattle.fuse_serve.specs.Tree.{tree_promise, tree_may_init}
-use Rattle.fuse_serve.proofs.Conversing.{ByteSession-flat, EachAnswered-headline, NothingAmiss-bytes, complete-status, never-init}
+use Rattle.fuse_serve.proofs.Conversing.{ByteExchange-mounted, EachAnswered-headline, SessionWell-bytes, complete-status}
 use Rattle.fuse_serve.proofs.Statuses.{zero-status}
 use Rattle.fuse_serve.proofs.Streams.{source-same, sink-same, carried}
 use Rattle.fuse_serve.proofs.program.serve_tree.Given.{Over}
@@ -63,36 +63,39 @@ exit_is g c =
     let m = c.mount-source.result in
     subst (λ (b : Bool). c.status_of.result ≡ status m.outcome m.transcript.lost b) c.broken-broken.ensures c.status_of.ensures
 
+-- the session over the bytes, where there was memory for it
+exchanged : (g : Over) (c : goal.After-into_inner-2 g) → c.status_of.result ≢ 9
+    → ByteExchange c.args.form c.status_of.result (first_in g c) (last_in g c) (first_out g c) (last_out g c)
+exchanged g c other =
+    let m = c.mount-source.result in
+    let some_memory : m.outcome ≢ Err Memory = λ memory. other (exit_is g c ∙ ap (λ o. status o m.transcript.lost m.sink.broken) memory) in
+    ByteExchange-mounted c.args.form c.status_of.result m.outcome (first_in g c) (last_in g c) (first_out g c) (last_out g c)
+    (sink_at g c) m.sink.broken m.transcript _ m.filesystem
+    (over_streams g c (λ a b k. Mounted (form_setup c.args.form) _ m.filesystem m.outcome (progress a k nothing_yet)
+    (progress b (sink_at g c) m.transcript))
+    (c.mount-source.ensures.session some_memory))
+    (stands_at g c) (exit_is g c)
+
 pub returns-clause-answered : goal.returns-clause-answered
 returns-clause-answered g c = λ well.
     let m = c.mount-source.result in
     let said = zero-status m.outcome m.transcript.lost m.sink.broken (sym (exit_is g c) ∙ well) in
     let headline =
-    over_streams g c (λ a b k. Lossless k (sink_at g c) m.transcript → Headline tree_promise c.args.form.page c.args.form.acl c.args.form.owner _ a b k (sink_at g c))
+    over_streams g c (λ a b k. Lossless k (sink_at g c) m.transcript
+    → Headline tree_promise c.args.form.page c.args.form.acl c.args.form.owner _ a b k (sink_at g c))
     (c.mount-source.ensures.headline said.0) (inr said.1) in
-    EachAnswered-headline c.args.form (first_in g c) (last_in g c) (first_out g c) (last_out g c) (sink_at g c) m.sink.broken _ headline (stands_at g c) said.2
+    EachAnswered-headline c.args.form (first_in g c) (last_in g c) (first_out g c) (last_out g c) (sink_at g c) m.sink.broken _ headline
+    (stands_at g c) said.2
 
 pub returns-clause-session : goal.returns-clause-session
-returns-clause-session g c = λ other.
-    let m = c.mount-source.result in
-    let some_memory : m.outcome ≢ Err Memory = λ memory. other (exit_is g c ∙ ap (λ o. status o m.transcript.lost m.sink.broken) memory) in
-    let session : Session tree_promise c.args.form.page (Some c.args.form.threads) c.args.form.acl c.args.form.owner _ m.filesystem m.outcome
-    (stream_told (first_in g c)) (stream_told (last_in g c)) (sink_told (first_out g c) (first_out g c) 0) (sink_at g c) m.transcript =
-    over_streams g c (λ a b k. Session tree_promise c.args.form.page (Some c.args.form.threads) c.args.form.acl c.args.form.owner
-    _ m.filesystem m.outcome a b k (sink_at g c) m.transcript) (c.mount-source.ensures.session some_memory) in
-    ByteSession-flat c.args.form c.status_of.result m.outcome (first_in g c) (last_in g c) (first_out g c) (last_out g c)
-    (sink_at g c) m.sink.broken m.transcript _ session.fs1 m.filesystem
-    (Flat-session tree_promise c.args.form.page c.args.form.threads c.args.form.acl c.args.form.owner _ m.filesystem m.outcome _ _ _ (sink_at g c) m.transcript session)
-    (stands_at g c) (exit_is g c) session.destroyed
-    (never-init c.args.form.page (Some c.args.form.threads) c.args.form.acl c.args.form.owner _ m.outcome _ _ (c.mount-source.ensures.cause some_memory))
+returns-clause-session g c = exchanged g c
 
 pub returns-clause-complete : goal.returns-clause-complete
 returns-clause-complete g c = λ fine.
     let m = c.mount-source.result in
     let ended =
-    over_streams g c (λ a b k. NothingAmiss tree_may_init (Some c.args.form.threads) _ a b → (m.outcome ≡ Ok tt) ⊎ (m.outcome ≡ Err Memory)) c.mount-source.ensures.complete
-    (NothingAmiss-bytes c.args.form (first_in g c) (last_in g c) (first_out g c) (last_out g c) _ fine) in
-    let origin : (sink_at g c).origin ≡ first_out g c =
-    over_streams g c (λ a b k. (sink_at g c).origin ≡ k.origin) c.mount-source.ensures.counts.appended.origin in
-    let lost = over_streams g c (λ a b k. (sink_at g c).faults < last_count → m.transcript.lost + k.faults ≤ (sink_at g c).faults) c.mount-source.ensures.lost in
-    complete-status c.status_of.result m.outcome m.transcript m.sink.broken (first_out g c) (last_out g c) (sink_at g c) (exit_is g c) origin lost (stands_at g c) fine.output_still ended
+    over_streams g c (λ a b k. SessionWell tree_may_init (Some c.args.form.threads) _ a b → (m.outcome ≡ Ok tt) ⊎ (m.outcome ≡ Err Memory))
+    c.mount-source.ensures.complete
+    (SessionWell-bytes c.args.form (first_in g c) (last_in g c) (first_out g c) (last_out g c) _ fine) in
+    complete-status c.args.form c.status_of.result m.transcript.lost m.sink.broken m.outcome (first_in g c) (last_in g c) (first_out g c) (last_out g c)
+    (exit_is g c) (exchanged g c) fine.output_still ended

@@ -9,12 +9,12 @@ use Rattle.fuse_serve.proofs.hello.HelloFilesystem.getattr.Goals as goal
 
 pub returns-in-Some : goal.returns-in-Some
 returns-in-Some c =
-    Answered-frame _ _ _ _ _ _ (Attr 1000000000 c.in-Some.found) tt (lit< tt, c.attr.ensures.answer.1)
+    Answered-frame (Attr 1000000000 c.in-Some.found) tt (lit< tt, c.attr.ensures.answer.1)
     (ap (λ (found : Option FileAttr). Some (attributes found)) (sym c.node_attr.ensures ∙ c.in-Some.is))
     (c.attr.ensures.reply ∙ ap (λ (valid : ℕ). Frame (reply c.args.reply (Attr valid c.in-Some.found))) c.a_second.ensures)
 
 pub returns-in-None : goal.returns-in-None
 returns-in-None c =
-    Answered-error _ _ _ _ _ _ 2 (lit< tt) (lit< tt)
+    Answered-error 2 (lit< tt) (lit< tt)
     (ap (λ (found : Option FileAttr). Some (attributes found)) (sym c.node_attr.ensures ∙ c.in-None.is))
     c.error.ensures.reply

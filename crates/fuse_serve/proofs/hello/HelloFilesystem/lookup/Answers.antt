@@ -18,20 +18,20 @@ is-true false h = absurd (let no : ⊥ = cc in no)
 
 pub returns-then-ne : goal.returns-then-ne
 returns-then-ne c =
-    Answered-error _ _ _ _ _ _ 2 (lit< tt) (lit< tt)
+    Answered-error 2 (lit< tt) (lit< tt)
     (ap (λ (b : Bool). Some (entry (if b then named c.args.name.now else None))) (is-false (c.args.parent.0 == 1) c.if-ne.ensures))
     c.error.ensures.reply
 
 pub returns-in-Some : goal.returns-in-Some
 returns-in-Some c =
-    Answered-frame _ _ _ _ _ _ (Entry 1000000000 1000000000 0 c.in-Some.found) tt (lit< tt, lit< tt, lit< tt, c.entry.ensures.answer.3)
+    Answered-frame (Entry 1000000000 1000000000 0 c.in-Some.found) tt (lit< tt, lit< tt, lit< tt, c.entry.ensures.answer.3)
     (ap (λ (b : Bool). Some (entry (if b then named c.args.name.now else None))) (is-true (c.args.parent.0 == 1) c.if-ne.ensures)
     ∙ ap (λ (found : Option FileAttr). Some (entry found)) (sym c.named.ensures ∙ c.in-Some.is))
     (c.entry.ensures.reply ∙ ap (λ (valid : ℕ). Frame (reply c.args.reply (Entry valid valid 0 c.in-Some.found))) c.a_second.ensures)
 
 pub returns-in-None : goal.returns-in-None
 returns-in-None c =
-    Answered-error _ _ _ _ _ _ 2 (lit< tt) (lit< tt)
+    Answered-error 2 (lit< tt) (lit< tt)
     (ap (λ (b : Bool). Some (entry (if b then named c.args.name.now else None))) (is-true (c.args.parent.0 == 1) c.if-ne.ensures)
     ∙ ap (λ (found : Option FileAttr). Some (entry found)) (sym c.named.ensures ∙ c.in-None.is))
     c.error-in-None.ensures.reply

@@ -7,13 +7,15 @@ use Rattle.fuse_serve.proofs.hello.HelloFilesystem.read.Goals as goal
 
 pub returns-in-Some : goal.returns-in-Some
 returns-in-Some c =
-    Answered-replies _ _ _ _ _ _ (Data c.part.result.now) tt c.data.ensures.answer
-    (ap (λ (all : Option (List ℕ)). Some (bytes c.args.offset c.args.size all)) (sym c.contents.ensures ∙ ap (λ r. option_map (λ all. all.now) r) c.in-Some.is)
+    Answered-replies (Data c.part.result.now) tt c.data.ensures.answer
+    (ap (λ (all : Option (List ℕ)). Some (bytes c.args.offset c.args.size all))
+    (sym c.contents.ensures ∙ ap (λ r. option_map (λ all. all.now) r) c.in-Some.is)
     ∙ ap (λ (part : List ℕ). Some (Data part)) (sym c.part.ensures))
     c.data.ensures.replies
 
 pub returns-in-None : goal.returns-in-None
 returns-in-None c =
-    Answered-error _ _ _ _ _ _ 2 (lit< tt) (lit< tt)
-    (ap (λ (all : Option (List ℕ)). Some (bytes c.args.offset c.args.size all)) (sym c.contents.ensures ∙ ap (λ r. option_map (λ all. all.now) r) c.in-None.is))
+    Answered-error 2 (lit< tt) (lit< tt)
+    (ap (λ (all : Option (List ℕ)). Some (bytes c.args.offset c.args.size all))
+    (sym c.contents.ensures ∙ ap (λ r. option_map (λ all. all.now) r) c.in-None.is))
     c.error.ensures.reply

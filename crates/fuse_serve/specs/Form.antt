@@ -3,28 +3,28 @@ use Rattle.std.specs.Prelude.{ℕ, ◌+◌, ◌-◌, ◌*◌, ◌&&◌, List, []
 use Rattle.std.specs.Str.{bytes_eq}
 use Rattle.fuse_config.specs.declared.session_acl.SessionACL.{SessionACL}
 use Rattle.fuse_config.specs.declared.session_acl.SessionACL.TheVariants.{All, RootAndOwner, Owner}
-use Rattle.fuse_serve.specs.declared.words.ServeForm.{ServeForm}
+use Rattle.fuse_serve.specs.declared.arguments.ServeForm.{ServeForm}
 
 -- a byte from '0' to '9'
 abbrev pub is_digit : ℕ → Bool
 is_digit byte = nat_lt 47 byte && nat_lt byte 58
 
--- the value in base ten of these digits, written behind digits of the value `front`; none where a byte is no digit
-abbrev pub value_behind : ℕ → List ℕ → Option ℕ
-value_behind front [] = Some front
-value_behind front (byte ∷ bytes) = if is_digit byte then value_behind (10 * front + (byte - 48)) bytes else None
+-- the value in base ten of these digits, written after digits of the value `front`; none where a byte is no digit
+abbrev pub value_after : ℕ → List ℕ → Option ℕ
+value_after front [] = Some front
+value_after front (byte ∷ bytes) = if is_digit byte then value_after (10 * front + (byte - 48)) bytes else None
 
 -- a number: one to ten digits
 abbrev pub decimal_of : List ℕ → Option ℕ
-decimal_of bytes = if nat_lt 0 (length bytes) && nat_lt (length bytes) 11 then value_behind 0 bytes else None
+decimal_of bytes = if nat_lt 0 (length bytes) && nat_lt (length bytes) 11 then value_after 0 bytes else None
 
 -- a number within two limits
 abbrev pub within : ℕ → ℕ → Option ℕ → Option ℕ
 within least most None = None
 within least most (Some value) = if nat_lt value least then None else if nat_lt most value then None else Some value
 
-abbrev pub number_of : ℕ → ℕ → List ℕ → Option ℕ
-number_of least most bytes = within least most (decimal_of bytes)
+abbrev pub number_within : ℕ → ℕ → List ℕ → Option ℕ
+number_within least most bytes = within least most (decimal_of bytes)
 
 -- whose requests are served
 abbrev pub acl_of : List ℕ → Option SessionACL
@@ -43,6 +43,6 @@ formed _ _ _ _ = None
 abbrev pub form_of : List (List ℕ) → Option ServeForm
 form_of (serve ∷ threads ∷ acl ∷ owner ∷ page ∷ []) =
     if bytes_eq serve (codes "serve")
-    then formed (number_of 0 1024 threads) (acl_of acl) (number_of 0 4294967295 owner) (number_of 1 4294967295 page)
+    then formed (number_within 0 1024 threads) (acl_of acl) (number_within 0 4294967295 owner) (number_within 1 4294967295 page)
     else None
 form_of _ = None

@@ -1,7 +1,7 @@
 // The words that start the program: `serve THREADS ACL OWNER PAGE`.
 
 ghost use Rattle.std.specs.Prelude.{◌≡◌, ◌≤◌, ◌<◌, map, IfSome};
-ghost use Rattle.fuse_serve.specs.Words.{acl_of, decimal_of, form_of, number_of};
+ghost use Rattle.fuse_serve.specs.Form.{acl_of, decimal_of, form_of, number_within};
 
 use fuse_config::SessionACL;
 
@@ -18,7 +18,7 @@ pub struct ServeForm {
     pub page: u32,
 }
 
-/// The form that the words are, which stand behind the program's own name.
+/// The form that the words are, which come after the program's own name.
 pub fn serve_form(words: &[&[u8]]) -> Option<ServeForm>
     ensures form { result ≡ form_of (map (λ w. w.now) words.now) }
     ensures page { IfSome result (λ f. 0 < f.page) }
@@ -54,7 +54,7 @@ fn acl_named(word: &[u8]) -> Option<SessionACL>
 
 /// The number that the word writes, where it is within these limits.
 fn number(word: &[u8], least: u32, most: u32) -> Option<u32>
-    ensures { result ≡ number_of least most word.now }
+    ensures { result ≡ number_within least most word.now }
 {
     let value = decimal(word)?;
     if value < u64::from(least) || value > u64::from(most) {
