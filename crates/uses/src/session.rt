@@ -1,0 +1,30 @@
+// A session of the one file.
+ghost use Rattle.std.specs.Prelude.{◌≡◌, Ok};
+ghost use Rattle.fuse_config.specs.declared.session_acl.SessionACL.TheVariants.{All};
+ghost use Rattle.fuse_session.specs.Headline.{Headline};
+ghost use Rattle.uses.specs.OneFile.{promise};
+
+use crate::OneFile;
+use fuse_config::{Config, SessionACL};
+use fuse_session::{Ended, mount};
+use fuse_wire::{Sink, Source};
+use std::sync::Wait;
+
+/// Serves the file to everybody, in a session of root with pages of 4096 bytes.
+pub fn serve_one_file<R: Wait + AllocGlobal, S: Source, K: Sink + Send>(
+    rt: &R,
+    filesystem: OneFile,
+    source: S,
+    sink: K,
+) -> Ended<OneFile, S, K>
+    // Each message that was taken has its one reply, by the promise of the one file.
+    ensures answered { result.outcome ≡ Ok tt → result.transcript.lost ≡ 0 →
+        Headline promise 4096 All 0 filesystem
+        (S.told source) (S.told result.source) (K.told sink) (K.told result.sink) }
+{
+    let config = Config {
+        acl: SessionACL::All,
+        n_threads: None,
+    };
+    mount(rt, filesystem, source, sink, 0, 4096, &config)
+}

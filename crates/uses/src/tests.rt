@@ -1,0 +1,103 @@
+// A session of the one file, from memory to memory.
+use crate::{OneFile, serve_one_file};
+use fuse_session::Ended;
+use fuse_wire::{Items, MemorySink, MemorySource, Turn};
+use std::alloc::{AllocError, Global};
+use std::test::Fail;
+
+/// INIT of version 7.8 with the id 0xdeadbeefbaadf00d and a readahead of 4096: `struct fuse_in_header`, then
+/// `struct fuse_init_in`.
+const INIT: [u8; 56] = [
+    56, 0, 0, 0, 26, 0, 0, 0, 0x0d, 0xf0, 0xad, 0xba, 0xef, 0xbe, 0xad, 0xde, 0, 0, 0, 0, 0, 0, 0,
+    0, 0, 0, 0, 0, 0, 0, 0, 0, 0, 0, 0, 0, 0, 0, 0, 0, 7, 0, 0, 0, 8, 0, 0, 0, 0, 0x10, 0, 0, 0, 0,
+    0, 0,
+];
+
+/// LOOKUP of `note` in the directory 1, with the id 2.
+const LOOKUP_NOTE: [u8; 45] = [
+    45, 0, 0, 0, 1, 0, 0, 0, 2, 0, 0, 0, 0, 0, 0, 0, 1, 0, 0, 0, 0, 0, 0, 0, 0, 0, 0, 0, 0, 0, 0,
+    0, 0, 0, 0, 0, 0, 0, 0, 0, b'n', b'o', b't', b'e', 0,
+];
+
+/// LOOKUP of `none` there, with the id 3.
+const LOOKUP_NONE: [u8; 45] = [
+    45, 0, 0, 0, 1, 0, 0, 0, 3, 0, 0, 0, 0, 0, 0, 0, 1, 0, 0, 0, 0, 0, 0, 0, 0, 0, 0, 0, 0, 0, 0,
+    0, 0, 0, 0, 0, 0, 0, 0, 0, b'n', b'o', b'n', b'e', 0,
+];
+
+/// READ of 4 bytes of node 2 from offset 13, with the id 4: `struct fuse_read_in`.
+const READ: [u8; 80] = [
+    80, 0, 0, 0, 15, 0, 0, 0, 4, 0, 0, 0, 0, 0, 0, 0, 2, 0, 0, 0, 0, 0, 0, 0, 0, 0, 0, 0, 0, 0, 0,
+    0, 0, 0, 0, 0, 0, 0, 0, 0, 0, 0, 0, 0, 0, 0, 0, 0, 13, 0, 0, 0, 0, 0, 0, 0, 4, 0, 0, 0, 0, 0,
+    0, 0, 0, 0, 0, 0, 0, 0, 0, 0, 0, 0, 0, 0, 0, 0, 0, 0,
+];
+
+/// DESTROY, with the id 5.
+const DESTROY: [u8; 40] = [
+    40, 0, 0, 0, 38, 0, 0, 0, 5, 0, 0, 0, 0, 0, 0, 0, 0, 0, 0, 0, 0, 0, 0, 0, 0, 0, 0, 0, 0, 0, 0,
+    0, 0, 0, 0, 0, 0, 0, 0, 0,
+];
+
+/// The reply to that INIT: version 7.40, 16 requests in the background, congestion at 12, writes of 16 MiB. A kernel below
+/// 7.23 gets 24 bytes of `struct fuse_init_out`.
+const ACCEPTED: [u8; 40] = [
+    40, 0, 0, 0, 0, 0, 0, 0, 0x0d, 0xf0, 0xad, 0xba, 0xef, 0xbe, 0xad, 0xde, 7, 0, 0, 0, 40, 0, 0,
+    0, 0, 0x10, 0, 0, 0, 0, 0, 0, 16, 0, 12, 0, 0, 0, 0, 1,
+];
+
+/// The entry of `note`: `struct fuse_entry_out` with a second of each validity, and the mode 0o100444.
+const FOUND: [u8; 144] = [
+    144, 0, 0, 0, 0, 0, 0, 0, 2, 0, 0, 0, 0, 0, 0, 0, 2, 0, 0, 0, 0, 0, 0, 0, 0, 0, 0, 0, 0, 0, 0,
+    0, 1, 0, 0, 0, 0, 0, 0, 0, 1, 0, 0, 0, 0, 0, 0, 0, 0, 0, 0, 0, 0, 0, 0, 0, 2, 0, 0, 0, 0, 0, 0,
+    0, 19, 0, 0, 0, 0, 0, 0, 0, 1, 0, 0, 0, 0, 0, 0, 0, 0, 0, 0, 0, 0, 0, 0, 0, 0, 0, 0, 0, 0, 0,
+    0, 0, 0, 0, 0, 0, 0, 0, 0, 0, 0, 0, 0, 0, 0, 0, 0, 0, 0, 0, 0, 0, 0x24, 0x81, 0, 0, 1, 0, 0, 0,
+    0, 0, 0, 0, 0, 0, 0, 0, 0, 0, 0, 0, 0, 2, 0, 0, 0, 0, 0, 0,
+];
+
+/// ENOENT, the error 2, below zero.
+const NOT_FOUND: [u8; 16] = [16, 0, 0, 0, 0xfe, 0xff, 0xff, 0xff, 3, 0, 0, 0, 0, 0, 0, 0];
+
+/// The 14th to the 17th byte of the file.
+const BYTES: [u8; 20] = [
+    20, 0, 0, 0, 0, 0, 0, 0, 4, 0, 0, 0, 0, 0, 0, 0, b'm', b'i', b'l', b'k',
+];
+
+/// A status of 0.
+const DONE: [u8; 16] = [16, 0, 0, 0, 0, 0, 0, 0, 5, 0, 0, 0, 0, 0, 0, 0];
+
+/// A source of these messages.
+fn source_of(alloc: Global, messages: &[&[u8]]) -> Result<MemorySource, AllocError> {
+    let mut turns = Vec::new(alloc);
+    for message in messages {
+        let mut bytes = Vec::new(alloc);
+        bytes.extend_from_slice(message)?;
+        turns.push(Turn::Message(Items::from_vec(bytes)))?;
+    }
+    Ok(MemorySource::new(turns))
+}
+
+#[test]
+fn serves_the_file(rt: HostRuntime) -> Result<(), Fail> {
+    let alloc = rt.alloc();
+    let messages: [&[u8]; 5] = [&INIT, &LOOKUP_NOTE, &LOOKUP_NONE, &READ, &DESTROY];
+    let frames: [&[u8]; 5] = [&ACCEPTED, &FOUND, &NOT_FOUND, &BYTES, &DONE];
+    let source = source_of(alloc, &messages)?;
+    let sink = MemorySink::new(alloc, Vec::new(alloc));
+    let Ended {
+        filesystem: _,
+        source: _,
+        sink,
+        outcome,
+        transcript,
+    } = serve_one_file(&rt, OneFile, source, sink);
+    assert_eq!(rt; outcome, Ok(()));
+    assert_eq!(rt;
+        (transcript.received, transcript.frames, transcript.lost),
+        (5, 5, 0)
+    );
+    assert_eq!(rt; sink.frames().len(), frames.len());
+    for (sent, frame) in sink.frames().iter().zip(&frames) {
+        assert_eq!(rt; sent.as_slice(), *frame);
+    }
+    Ok(())
+}
