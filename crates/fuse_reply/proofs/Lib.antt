@@ -4,3 +4,4 @@ pub mod FrameLaws
 pub mod Splitting
 pub mod NoticeLaws
 pub mod AreReplies
+pub mod Tails

@@ -1,23 +1,24 @@
 -- A session over the bytes of an input and an output.
-use Rattle.std.proofs.Common.{◌≡◌, ◌≢◌, ◌⊎◌, ◌<◌, ◌≤◌, ◌+◌, ◌++◌, ℕ, zero, suc, Bool, true, false, List, [], ◌∷◌, sym, ◌∙◌, ap, subst}
-use Rattle.std.proofs.Common.{arith, refl, length, map, Option, Some, Result, Ok, Err, inl, inr, min, option_map, append-nil}
+use Rattle.std.proofs.Common.{◌≡◌, ◌≢◌, ◌⊎◌, ◌<◌, ◌≤◌, ◌+◌, ◌++◌, ℕ, Bool, true, false, List, [], ◌∷◌, sym, ◌∙◌, ap, subst}
+use Rattle.std.proofs.Common.{arith, refl, length, map, Option, Some, Ok, Err, inl, inr, min, option_map, append-nil}
 use Rattle.std.specs.List.{concat}
 use Rattle.std.proofs.lemmas.List.{map-append}
 use Rattle.fuse_wire.specs.Cut.{cut}
 use Rattle.fuse_wire.specs.Faults.{last_count, Rose, counted}
-use Rattle.fuse_wire.specs.Source.{message, NothingLeft, Failed as SourceFailed}
-use Rattle.fuse_wire.specs.Sink.{SinkState, Note, Appends}
+use Rattle.fuse_wire.specs.Source.{message, NothingLeft}
+use Rattle.fuse_wire.specs.Sink.{SinkState, Note}
 use Rattle.fuse_wire.specs.ByteSource.{ByteSourceState, TakesBytes, NoByteLeft, Failed as InputFailed}
 use Rattle.fuse_wire.specs.ByteSink.{ByteSinkState}
 use Rattle.fuse_wire.specs.StreamSource.{stream_told}
 use Rattle.fuse_wire.specs.StreamSink.{Stands, stream_told as sink_told}
+use Rattle.fuse_reply.specs.declared.out.Out.{Out}
 use Rattle.fuse_session.specs.Incoming.{Incoming, EndsAfter, EndsWell, incoming}
 use Rattle.fuse_session.specs.Incoming.Incoming.{Broken, Destroy, Request}
 use Rattle.fuse_session.specs.Handshake.{HandshakeEnd, MayRefuse}
 use Rattle.fuse_session.specs.Exchange.{Setup, Outcome, EndedBy, Dialogue, Exchange, Mounted}
 use Rattle.fuse_session.specs.Headline.{Headline}
 use Rattle.fuse_session.specs.Complete.{OpensWell, SessionWell}
-use Rattle.fuse_session.specs.Progress.{Progress, Begins, nothing_yet, progress}
+use Rattle.fuse_session.specs.Progress.{nothing_yet, progress}
 use Rattle.fuse_session.specs.declared.transcript.Transcript.{Transcript}
 use Rattle.fuse_session.specs.declared.error.SessionError.TheVariants as session
 use Rattle.fuse_serve.specs.Status.{status}
@@ -27,7 +28,7 @@ use Rattle.fuse_serve.specs.declared.hello.Hello.{Hello}
 use Rattle.fuse_serve.specs.declared.arguments.ServeForm.{ServeForm}
 use Rattle.fuse_serve.proofs.Statuses.{status-counted, ok-statuses, eight-status}
 use Rattle.fuse_serve.proofs.Reading.{Fronts-begins, Fronts-takes, TakesBytes-takes, NoByteLeft-nothing, front-whole, same_some}
-use Rattle.fuse_serve.proofs.Writing.{torn_of, WritesFrames-stands, torn-none, Rose-broken, Rose-lost}
+use Rattle.fuse_serve.proofs.Writing.{torn_in, WritesFrames-stands, TornFromFirst-tail, torn-none, Rose-broken, Rose-lost}
 
 -- messages that end well do so whatever says that none is left
 ends-map : (i : Incoming) (more : List (List ℕ)) (P Q : Type 0) → (P → Q) → EndsAfter i more P → EndsAfter i more Q
@@ -53,7 +54,7 @@ EndedBy-map (Err session.Threads) refuses threads end answered refused P Q F G n
 EndedBy-map (Err session.Receive) refuses threads end answered refused P Q F G none failed e = (failed e.0, e.1)
 
 Dialogue-map : {X : Type 0} {setup : Setup X} {fs fs1 : X} {o : Outcome} {P F : Type 0} {ms sent : List (List ℕ)} {notes : List Note}
-    {lost : ℕ} (Q G : Type 0)
+    {lost : List Out} (Q G : Type 0)
     → (P → Q) → (F → G) → Dialogue setup fs fs1 o P F ms sent notes lost → Dialogue setup fs fs1 o Q G ms sent notes lost
 Dialogue-map {X} {setup} {fs} {fs1} {o} {P} {F} Q G none failed d = record {
   hs = d.hs;
@@ -75,7 +76,7 @@ Dialogue-map {X} {setup} {fs} {fs1} {o} {P} {F} Q G none failed d = record {
 }
 
 -- the tree refuses no INIT
-accepts : {form : ServeForm} {tree tree1 : Hello} {P F : Type 0} {ms sent : List (List ℕ)} {notes : List Note} {lost : ℕ} (o : Outcome)
+accepts : {form : ServeForm} {tree tree1 : Hello} {P F : Type 0} {ms sent : List (List ℕ)} {notes : List Note} {lost : List Out} (o : Outcome)
     → Dialogue (form_setup form) tree tree1 o P F ms sent notes lost → (n : ℕ) → o ≢ Err (session.Init n)
 accepts {form} {tree} {tree1} {P} {F} {ms} {sent} {notes} {lost} o d n is =
     let e : Dialogue (form_setup form) tree tree1 (Err (session.Init n)) P F ms sent notes lost =
@@ -93,7 +94,7 @@ rose-counted lost output output' sink false origin cause stands (inr is) = absur
 -- a session over the bytes of an input and an output
 pub ByteExchange-mounted : (form : ServeForm) (exit : ℕ) (outcome : Outcome) (input input' : ByteSourceState) (output output' : ByteSinkState)
     (sink : SinkState) (broken : Bool) (v : Transcript) (tree tree' : Hello)
-    → Mounted (form_setup form) tree tree' outcome (progress (stream_told input) (sink_told output output 0) nothing_yet)
+    → Mounted (form_setup form) tree tree' outcome (progress (stream_told input) (sink_told output output false 0) nothing_yet)
     (progress (stream_told input') sink v)
     → ∥ Stands sink output' broken ∥₁ → exit ≡ status outcome v.lost broken → ByteExchange form exit input input' output output'
 ByteExchange-mounted form exit outcome input input' output output' sink broken v tree tree' mounted stands is = record {
@@ -106,9 +107,9 @@ ByteExchange-mounted form exit outcome input input' output output' sink broken v
   notes = x.notes;
   lost = x.lost;
   appended = x.moved.appended;
-  torn = torn_of x.moved.appended output.bytes output'.bytes;
+  torn = torn_in sink.tail;
   broken = broken;
-  status_is = is ∙ (ap (λ (n : ℕ). status outcome n broken) lost_is ∙ status-counted outcome x.lost broken);
+  status_is = is ∙ (ap (λ (n : ℕ). status outcome n broken) lost_is ∙ status-counted outcome (length x.lost) broken);
   dialogue = Dialogue-map (NoByteLeft input') (InputFailed input input') (NoByteLeft-nothing input') (λ failed. failed) x.dialogue;
   accepted = accepts outcome x.dialogue;
   destroyed = mounted.destroyed;
@@ -117,21 +118,22 @@ ByteExchange-mounted form exit outcome input input' output output' sink broken v
   written = WritesFrames-stands x.moved.appended x.notes output output' sink broken x.moved.written stands;
   replied = x.moved.replied;
   set_aside = x.moved.set_aside;
+  first_lost = TornFromFirst-tail x.lost output.bytes sink.tail x.moved.tail;
   whole = torn-none x.moved.appended x.notes output output' sink broken x.moved.written stands;
-  counted = rose-counted x.lost output output' sink broken x.moved.written.origin x.moved.cause stands;
+  counted = rose-counted (length x.lost) output output' sink broken x.moved.written.origin x.moved.cause stands;
 } where
-  x : Exchange (form_setup form) tree mounted.fs1 outcome (progress (stream_told input) (sink_told output output 0) nothing_yet)
+  x : Exchange (form_setup form) tree mounted.fs1 outcome (progress (stream_told input) (sink_told output output false 0) nothing_yet)
       (progress (stream_told input') sink v)
   x = mounted.exchange
 
-  lost_is : v.lost ≡ min x.lost last_count
+  lost_is : v.lost ≡ min (length x.lost) last_count
   lost_is =
-      let at_end : v.lost ≡ min (0 + x.lost) last_count = ap (λ (w : Transcript). w.lost) (x.moved.counts 0 0 0 0 refl) in omega arith
+      let at_end : v.lost ≡ min (0 + length x.lost) last_count = ap (λ (w : Transcript). w.lost) (x.moved.counts 0 0 0 0 refl) in omega arith
 
 -- each message was answered, where the session ended well and no write failed
 pub EachAnswered-headline : (form : ServeForm) (input input' : ByteSourceState) (output output' : ByteSinkState) (sink : SinkState)
     (broken : Bool) (tree : Hello)
-    → Headline tree_promise form.page form.acl form.owner tree (stream_told input) (stream_told input') (sink_told output output 0) sink
+    → Headline tree_promise form.page form.acl form.owner tree (stream_told input) (stream_told input') (sink_told output output false 0) sink
     → ∥ Stands sink output' broken ∥₁ → broken ≡ false → EachAnswered form input input' output output'
 EachAnswered-headline form input input' output output' sink broken tree h stands is = record {
   tree = tree;
@@ -194,4 +196,4 @@ complete-status form exit lost broken outcome input input' output output' is exc
     by_status (inr eight) =
         let x : ByteExchange form exit input input' output output' = exchange (λ nine. omega (arith, nine, ended, eight)) in
         absurd (still-not output.faults output'.faults still
-        (x.counted (eight-status x.outcome x.lost x.broken (sym x.status_is ∙ (ended ∙ eight)))))
+        (x.counted (eight-status x.outcome (length x.lost) x.broken (sym x.status_is ∙ (ended ∙ eight)))))

@@ -1,5 +1,5 @@
 -- What is told of streams, under other names for the same.
-use Rattle.std.proofs.Common.{◌≡◌, ℕ, subst}
+use Rattle.std.proofs.Common.{◌≡◌, ℕ, Bool, subst}
 use Rattle.fuse_wire.specs.Source.{SourceState}
 use Rattle.fuse_wire.specs.Sink.{SinkState}
 use Rattle.fuse_wire.specs.ByteSource.{ByteSourceState}
@@ -12,9 +12,9 @@ pub source-same : {I : Type 0} (told : I → ByteSourceState) (a b : I) → a �
 source-same told a b e = cc
 
 -- a sink over equal streams tells the same
-pub sink-same : {O : Type 0} (told : O → ByteSinkState) (a b c d : O) (r s : ℕ) → a ≡ c → b ≡ d → r ≡ s
-    → sink_told (told a) (told b) r ≡ sink_told (told c) (told d) s
-sink-same told a b c d r s e f h = cc
+pub sink-same : {O : Type 0} (told : O → ByteSinkState) (a b c d : O) (x y : Bool) (r s : ℕ) → a ≡ c → b ≡ d → x ≡ y → r ≡ s
+    → sink_told (told a) (told b) x r ≡ sink_told (told c) (told d) y s
+sink-same told a b c d x y r s e f g h = cc
 
 -- a fact of what is told, under other names
 pub carried : (P : SourceState → SourceState → SinkState → Type 0) (a a' b b' : SourceState) (k k' : SinkState)

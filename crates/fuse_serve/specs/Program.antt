@@ -1,13 +1,16 @@
 -- What the program reads and writes where its words are a form: a session over the bytes of its input and output.
-use Rattle.std.specs.Prelude.{◌≡◌, ◌≢◌, ◌⊎◌, ◌<◌, ◌++◌, ℕ, Bool, true, false, List, [], Option, Some, IfSome, Err}
+use Rattle.std.specs.Prelude.{◌≡◌, ◌≢◌, ◌⊎◌, ◌<◌, ◌++◌, ℕ, Bool, true, false, List, [], ◌∷◌, Some, IfSome, Err, length}
 use Rattle.std.specs.List.{concat, AllByRecursion}
+use Rattle.std.specs.Option.{MatchOption}
 use Rattle.fuse_wire.specs.Faults.{last_count, Rose}
 use Rattle.fuse_wire.specs.Cut.{cut}
 use Rattle.fuse_wire.specs.Frames.{frames}
-use Rattle.fuse_wire.specs.Sink.{Note}
+use Rattle.fuse_wire.specs.Sink.{Note as Noted, IsTornFrom}
 use Rattle.fuse_wire.specs.ByteSource.{ByteSourceState, TakesBytes, NoByteLeft, Failed}
 use Rattle.fuse_wire.specs.ByteSink.{ByteSinkState, PutsBytes}
 use Rattle.fuse_wire.specs.StreamSink.{IsTorn}
+use Rattle.fuse_reply.specs.declared.out.Out.{Out}
+use Rattle.fuse_reply.specs.declared.out.Out.TheVariants.{Frame, Note, Deferred}
 use Rattle.fuse_session.specs.Incoming.{IsBroken, EndsWell}
 use Rattle.fuse_session.specs.Owed.{Owed}
 use Rattle.fuse_session.specs.OneEach.{OneEach}
@@ -40,6 +43,13 @@ pub record WritesFrames (written : List (List ℕ)) (torn : List ℕ) (output ou
   pub split : IfSome output.bytes (λ held. frames (concat written ++ torn) ≡ written)
   pub part : ∥ IsTorn torn ∥₁
 
+-- these bytes are torn from the first frame that was lost, and are none where no frame was
+abbrev pub TornFromFirst : (lost : List Out) → (torn : List ℕ) → Type 0
+TornFromFirst [] torn = torn ≡ []
+TornFromFirst (Frame f ∷ lost) torn = IsTornFrom f torn
+TornFromFirst (Note id mark ∷ lost) torn = TornFromFirst lost torn
+TornFromFirst (Deferred seq id ∷ lost) torn = TornFromFirst lost torn
+
 -- With status 0 each message read has its one reply.
 pub record EachAnswered (form : ServeForm) (input input' : ByteSourceState) (output output' : ByteSinkState) : Type 0 where
   pub tree : Hello
@@ -51,7 +61,7 @@ pub record EachAnswered (form : ServeForm) (input input' : ByteSourceState) (out
   pub handshake_replies : List (List ℕ)
   pub later_replies : List (List ℕ)
   pub appended : List (List ℕ)
-  pub notes : List Note
+  pub notes : List Noted
   -- the messages are the first of the input, and the bytes read are these, joined
   pub front : Fronts (hs ++ ls) input
   pub read : TakesBytes (concat (hs ++ ls)) input input'
@@ -69,16 +79,16 @@ pub record ByteExchange (form : ServeForm) (exit : ℕ) (input input' : ByteSour
   pub tree1 : Hello
   pub tree' : Hello
   pub outcome : Outcome
-  -- the messages taken, the replies and notes sent, and how many were lost; all frames written, and what stands after them of one more
+  -- the messages taken, the replies and notes sent, and those lost; all frames written, and what stands after them of one more
   pub messages : List (List ℕ)
   pub sent : List (List ℕ)
-  pub notes : List Note
-  pub lost : ℕ
+  pub notes : List Noted
+  pub lost : List Out
   pub appended : List (List ℕ)
   pub torn : List ℕ
   -- whether a write failed
   pub broken : Bool
-  pub status_is : exit ≡ status outcome lost broken
+  pub status_is : exit ≡ status outcome (length lost) broken
   pub dialogue : Dialogue (form_setup form) tree tree1 outcome (NoByteLeft input') (Failed input input') messages sent notes lost
   pub accepted : (e : ℕ) → outcome ≢ Err (Init e)
   pub destroyed : tree_promise.may_destroy tree1 tree'
@@ -90,9 +100,11 @@ pub record ByteExchange (form : ServeForm) (exit : ℕ) (input input' : ByteSour
   pub written : WritesFrames appended torn output output'
   pub replied : replies appended ≡ sent
   pub set_aside : AllByRecursion NoticeOrReply appended
+  -- where the output tells its bytes, those torn are of the first frame that was lost; no others are
+  pub first_lost : MatchOption output.bytes (torn ≡ []) (λ held. TornFromFirst lost torn)
   -- nothing is torn where no write failed, and what was lost or failed to be written was counted by the output
   pub whole : broken ≡ false → torn ≡ []
-  pub counted : (0 < lost) ⊎ (broken ≡ true) → Rose output.faults output'.faults
+  pub counted : (0 < length lost) ⊎ (broken ≡ true) → Rose output.faults output'.faults
 
 -- The input tells bytes that are cut into messages that open well, some thread is to serve, and neither the input nor the output failed.
 pub record InputWell (form : ServeForm) (input input' : ByteSourceState) (output output' : ByteSinkState) : Type 0 where

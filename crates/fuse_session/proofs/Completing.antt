@@ -1,5 +1,5 @@
 -- When a session must end well.
-use Rattle.std.proofs.Common.{◌≡◌, ◌≢◌, ◌⊎◌, ◌<◌, ◌≤◌, ◌++◌, ℕ, List, [], ◌∷◌, inl, inr, sym, ◌∙◌, ap, subst, arith, refl, map, Bool, true}
+use Rattle.std.proofs.Common.{◌≡◌, ◌⊎◌, ◌<◌, ◌≤◌, ◌++◌, ℕ, List, [], ◌∷◌, inl, inr, sym, ◌∙◌, ap, subst, arith, refl, map, Bool, true}
 use Rattle.std.proofs.Common.{false, Option, None, Some, option_map, IfSome, Result, Ok, Err, lt-ltb, le-ltb, append_assoc}
 use Rattle.std.specs.Prelude.{if◌then◌else◌, nat_lt, ◌==◌, ◌&&◌, ◌||◌}
 use Rattle.std.proofs.lemmas.List.{map-append}
@@ -15,7 +15,7 @@ use Rattle.fuse_request.specs.declared.request.Request.{Request as Asker}
 use Rattle.fuse_request.specs.declared.error.RequestError.{RequestError}
 use Rattle.fuse_session.specs.Promise.{MayInit}
 use Rattle.fuse_session.specs.Incoming.{incoming, incoming_by, AllGoOn}
-use Rattle.fuse_session.specs.Incoming.Incoming.{Broken, Destroy, Request}
+use Rattle.fuse_session.specs.Incoming.Incoming.{Broken, Request}
 use Rattle.fuse_session.specs.Handshake.{greeting, greeting_by_header, greeting_by_operation, greeting_by_version, offer_of, is_old, Greets}
 use Rattle.fuse_session.specs.Handshake.{NegotiationReply, Handshake, HandshakeEnd, MayRefuse}
 use Rattle.fuse_session.specs.Handshake.HandshakeEnd.{Open, Accepted, Failed}

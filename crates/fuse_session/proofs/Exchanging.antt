@@ -1,14 +1,14 @@
 -- A whole session from its two parts: the handshake, and the run after it.
-use Rattle.std.proofs.Common.{◌≡◌, ◌≢◌, ◌+◌, ◌++◌, ℕ, List, [], ◌∷◌, sym, ◌∙◌, ap, subst}
-use Rattle.std.proofs.Common.{arith, refl, map, Option, Some, Err, inl, inr, append-nil}
+use Rattle.std.proofs.Common.{◌≡◌, ◌≢◌, ◌++◌, ℕ, List, [], ◌∷◌, sym, ◌∙◌, ap, subst}
+use Rattle.std.proofs.Common.{refl, map, Option, Some, Err, inl, inr, append-nil}
 use Rattle.std.proofs.lemmas.List.{map-append}
 use Rattle.fuse_wire.specs.Source.{Takes, message, NothingLeft, Failed as SourceFailed}
 use Rattle.fuse_wire.proofs.Devices.{Takes-then}
+use Rattle.fuse_reply.specs.declared.out.Out.TheVariants.{Frame}
 use Rattle.fuse_session.specs.Incoming.{Incoming, EndsAfter, EndsWell, AllGoOn, incoming}
 use Rattle.fuse_session.specs.Incoming.Incoming.{Destroy}
 use Rattle.fuse_session.specs.Owed.{Owed}
 use Rattle.fuse_session.specs.Handshake.{HandshakeEnd, MayRefuse}
-use Rattle.fuse_session.specs.Handshake.HandshakeEnd.{Accepted}
 use Rattle.fuse_session.specs.HandshakeStep.{HandshakeRun}
 use Rattle.fuse_session.specs.EventLoop.{Run, RunEnds}
 use Rattle.fuse_session.specs.Exchange.{Setup, Outcome, Served, EndedBy, Exchange}
@@ -47,7 +47,7 @@ alone {F} {setup} {fs} {fs1} {found} {p} {q} result shook takes ends = record {
   turns = shook.turns;
   sent = shook.sent;
   notes = [];
-  lost = shook.lost;
+  lost = map Frame shook.lost;
   dialogue = record {
     hs = map message shook.turns;
     answered = [];
@@ -57,13 +57,13 @@ alone {F} {setup} {fs} {fs1} {found} {p} {q} result shook takes ends = record {
     later_sent = [];
     end = shook.end;
     lost_first = shook.lost;
-    lost_later = 0;
+    lost_later = [];
     heard = sym (append-nil (map message shook.turns));
     handshake = shook.handshake;
     left_out = shook.left_out;
     in_order = (refl, refl, refl);
     said = sym (append-nil shook.sent);
-    missed = omega arith;
+    missed = sym (append-nil (map Frame shook.lost));
     ended = ends;
   };
   begins = shook.begins;
@@ -120,7 +120,7 @@ Exchange-ran {F} {setup} {fs} {fs1} {end} {p} {q} {r} some shook run = record {
   turns = shook.turns ++ run.turns;
   sent = shook.sent ++ run.sent;
   notes = run.notes;
-  lost = shook.lost + run.lost;
+  lost = map Frame shook.lost ++ run.lost;
   dialogue = record {
     hs = map message shook.turns;
     answered = run.answered;

@@ -1,6 +1,6 @@
 -- Messages of a handshake, one after another.
-use Rattle.std.proofs.Common.{◌≡◌, ◌≢◌, ◌+◌, ◌++◌, ℕ, suc, List, [], ◌∷◌, sym, ◌∙◌, ap, subst, arith, refl, length, length-append, map}
-use Rattle.std.proofs.Common.{take, append_assoc, Option, Result, Ok, Err, inl, inr, pos}
+use Rattle.std.proofs.Common.{◌≡◌, ◌≢◌, ◌++◌, ℕ, List, [], ◌∷◌, sym, ◌∙◌, ap, subst, refl, length, map}
+use Rattle.std.proofs.Common.{take, append_assoc, Result, Ok, Err, inl, inr, pos}
 use Rattle.std.proofs.lemmas.List.{map-append}
 use Rattle.fuse_wire.specs.Source.{SourceState, Takes, message, NothingLeft, Failed as SourceFailed}
 use Rattle.fuse_wire.specs.declared.newtypes.RequestId.{RequestId}
@@ -28,15 +28,22 @@ use Rattle.fuse_session.specs.declared.handshake.HandshakeOutcome.TheVariants as
 use Rattle.fuse_session.proofs.Taking.{Begins-none, Begins-from_takes, Begins-after, Failed-after}
 use Rattle.fuse_session.proofs.Moving.{Moves-none, Moves-received, Moves-then, moves-then, Handed-frame, took, lost}
 
--- frames without those that were lost, and then others
-pub LeavesOut-append : (j k : ℕ) (fs gs ws vs : List (List ℕ)) → LeavesOut j fs ws → LeavesOut k gs vs → LeavesOut (j + k) (fs ++ gs) (ws ++ vs)
-LeavesOut-append j k [] gs ws vs first second =
-    subst (λ (w : List (List ℕ)). LeavesOut (j + k) gs w) (sym (ap (λ (x : List (List ℕ)). x ++ vs) first.0))
-    (subst (λ (n : ℕ). LeavesOut n gs vs) (let none : j ≡ 0 = first.1 in omega arith) second)
-LeavesOut-append j k (f ∷ fs) gs ws vs (inl p) second =
-    inl (p.0 ++ vs, ap (λ (x : List (List ℕ)). x ++ vs) p.1, LeavesOut-append j k fs gs p.0 vs p.2 second)
-LeavesOut-append j k (f ∷ fs) gs ws vs (inr p) second =
-    inr (p.0 + k, (let e : j ≡ suc p.0 = p.1 in omega arith), LeavesOut-append p.0 k fs gs ws vs p.2 second)
+-- frames of which some were lost, and then others
+pub LeavesOut-append : (js ks fs gs ws vs : List (List ℕ)) → LeavesOut js fs ws → LeavesOut ks gs vs → LeavesOut (js ++ ks) (fs ++ gs) (ws ++ vs)
+LeavesOut-append js ks [] gs ws vs first second =
+    subst (λ (w : List (List ℕ)). LeavesOut (js ++ ks) gs w) (sym (ap (λ (x : List (List ℕ)). x ++ vs) first.0))
+    (subst (λ (j : List (List ℕ)). LeavesOut j gs vs) (sym (ap (λ (x : List (List ℕ)). x ++ ks) first.1)) second)
+LeavesOut-append js ks (f ∷ fs) gs ws vs (inl p) second =
+    inl (p.0 ++ vs, ap (λ (x : List (List ℕ)). x ++ vs) p.1, LeavesOut-append js ks fs gs p.0 vs p.2 second)
+LeavesOut-append js ks (f ∷ fs) gs ws vs (inr p) second =
+    inr (p.0 ++ ks, ap (λ (x : List (List ℕ)). x ++ ks) p.1, LeavesOut-append p.0 ks fs gs ws vs p.2 second)
+
+-- one stretch of a handshake, and then another
+moves-then_frames : {fs gs : List (List ℕ)} {p q r : Progress} (xs ys js ls : List (List ℕ))
+    → Moves (length xs) fs [] (map Frame js) p q → Moves (length ys) gs [] (map Frame ls) q r
+    → Moves (length (xs ++ ys)) (fs ++ gs) [] (map Frame (js ++ ls)) p r
+moves-then_frames {fs} {gs} {p} {q} {r} xs ys js ls first second =
+    subst (λ (lost : List Out). Moves (length (xs ++ ys)) (fs ++ gs) [] lost p r) (sym (map-append Frame js ls)) (moves-then xs ys first second)
 
 -- no message came
 none : {F : Type 0} {may_init : MayInit F} {page : ℕ} {fs : F} {found : HandshakeOutcome} {p q : Progress}
@@ -46,7 +53,7 @@ none {F} {may_init} {page} {fs} {found} {p} {q} same takes ends = record {
   turns = [];
   replies = [];
   sent = [];
-  lost = 0;
+  lost = [];
   end = Open;
   handshake = (refl, refl, refl);
   left_out = (refl, refl);
@@ -79,7 +86,7 @@ HandshakeRun-silent may_init page fs d n a b next is = record {
   turns = next.0.turn ∷ [];
   replies = [];
   sent = [];
-  lost = 0;
+  lost = [];
   end = Failed (InvalidData d);
   handshake = one-message may_init page fs fs (message next.0.turn) (Silent d) [] (Failed (InvalidData d))
       (is ∙ ap greeting next.0.bytes) (refl, refl, refl, refl);
@@ -93,9 +100,9 @@ HandshakeRun-silent may_init page fs d n a b next is = record {
 -- a message was taken and its frame handed to the sink, which may have lost it
 record Replied (f turn : List ℕ) (p q : Progress) : Type 0 where
   sent : List (List ℕ)
-  lost : ℕ
+  lost : List (List ℕ)
   left_out : LeavesOut lost (f ∷ []) sent
-  moved : Moves 1 sent [] lost p q
+  moved : Moves 1 sent [] (map Frame lost) p q
   taken : Takes (turn ∷ []) p.source q.source
 
 replied : {f : List ℕ} (n : ℕ) (a b c : ChannelState) (next : TakesNext (Message n) a b) → DeliversOnce (Frame f) b c
@@ -104,15 +111,15 @@ replied {f} n a b c next hands =
     elim (Handed-frame hands) as (λ _. Replied f next.0.turn a.progress c.progress) [
       | took moved ↦ record {
         sent = f ∷ [];
-        lost = 0;
+        lost = [];
         left_out = inl ([], refl, (refl, refl));
         moved = Moves-then (Moves-received a.progress b.progress next.1 next.2) moved;
         taken = taken;
       }
       | lost moved ↦ record {
         sent = [];
-        lost = 1;
-        left_out = inr (0, refl, (refl, refl));
+        lost = f ∷ [];
+        left_out = inr ([], refl, (refl, refl));
         moved = Moves-then (Moves-received a.progress b.progress next.1 next.2) moved;
         taken = taken;
       }
@@ -224,7 +231,7 @@ HandshakeOn-none fs p = record {
   turns = [];
   replies = [];
   sent = [];
-  lost = 0;
+  lost = [];
   same = refl;
   go = λ ms later fs2 end rest. rest;
   left_out = (refl, refl);
@@ -239,7 +246,7 @@ HandshakeOn-then {F} {may_init} {page} {fs} {fs1} {fs2} {p} {q} {r} first second
   turns = first.turns ++ second.turns;
   replies = first.replies ++ second.replies;
   sent = first.sent ++ second.sent;
-  lost = first.lost + second.lost;
+  lost = first.lost ++ second.lost;
   same = second.same ∙ first.same;
   go = λ ms later fs3 end rest.
       let inner : Handshake may_init page fs1 (map message second.turns ++ ms) (second.replies ++ later) fs3 end =
@@ -254,7 +261,7 @@ HandshakeOn-then {F} {may_init} {page} {fs} {fs1} {fs2} {p} {q} {r} first second
       (subst (λ (x : List (List ℕ)). Handshake may_init page fs (map message first.turns ++ (map message second.turns ++ ms)) x fs3 end)
       (sym (append_assoc first.replies second.replies later)) outer);
   left_out = LeavesOut-append first.lost second.lost first.replies second.replies first.sent second.sent first.left_out second.left_out;
-  moved = moves-then first.turns second.turns first.moved second.moved;
+  moved = moves-then_frames first.turns second.turns first.lost second.lost first.moved second.moved;
   taken = Takes-then first.turns second.turns p.source q.source r.source first.taken second.taken;
 }
 
@@ -273,14 +280,14 @@ HandshakeRun-then {F} {may_init} {page} {fs} {fs1} {fs2} {found} {p} {q} {r} fir
   turns = first.turns ++ second.turns;
   replies = first.replies ++ second.replies;
   sent = first.sent ++ second.sent;
-  lost = first.lost + second.lost;
+  lost = first.lost ++ second.lost;
   end = second.end;
   handshake = subst (λ (m : List (List ℕ)). Handshake may_init page fs m (first.replies ++ second.replies) fs2 second.end)
       (sym (map-append message first.turns second.turns))
       (first.go (map message second.turns) second.replies fs2 second.end
       (subst (λ (x : F). Handshake may_init page x (map message second.turns) second.replies fs2 second.end) first.same second.handshake));
   left_out = LeavesOut-append first.lost second.lost first.replies second.replies first.sent second.sent first.left_out second.left_out;
-  moved = moves-then first.turns second.turns first.moved second.moved;
+  moved = moves-then_frames first.turns second.turns first.lost second.lost first.moved second.moved;
   begins = Begins-after first.turns second.turns p.source q.source first.taken second.begins;
   taken = λ other. Takes-then first.turns second.turns p.source q.source r.source first.taken (second.taken other);
   ended = HandshakeEnds-after found second.end (MayRefuse may_init fs) (NothingLeft r.source) (SourceFailed q.source r.source) (SourceFailed p.source r.source)

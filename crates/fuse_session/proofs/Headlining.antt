@@ -1,9 +1,12 @@
 -- A session that ends well, where nothing was lost.
-use Rattle.std.proofs.Common.{◌≡◌, ◌+◌, ◌≤◌, ◌<◌, ◌++◌, ℕ, suc, List, [], ◌∷◌, sym, ◌∙◌, ap}
-use Rattle.std.proofs.Common.{subst, arith, map, Ok, inl, inr, min, append-nil}
+use Rattle.std.proofs.Common.{◌≡◌, ◌+◌, ◌≤◌, ◌<◌, ◌++◌, ℕ, List, [], ◌∷◌, sym, ◌∙◌, ap}
+use Rattle.std.proofs.Common.{subst, arith, map, length, length-append, Ok, inl, inr, min, append-nil}
+use Rattle.std.proofs.lemmas.List.{length-map, nil_from_length}
 use Rattle.fuse_wire.specs.Faults.{last_count}
 use Rattle.fuse_wire.specs.Source.{Takes, message, NothingLeft, Failed as SourceFailed}
 use Rattle.fuse_wire.specs.Sink.{Note}
+use Rattle.fuse_reply.specs.declared.out.Out.{Out}
+use Rattle.fuse_reply.specs.declared.out.Out.TheVariants.{Frame}
 use Rattle.fuse_session.specs.Incoming.{IsBroken, EndsWell}
 use Rattle.fuse_session.specs.Owed.{Owed}
 use Rattle.fuse_session.specs.OneEach.{Owing, InOrder}
@@ -15,22 +18,23 @@ use Rattle.fuse_session.specs.Progress.{Progress, Moves, nothing_yet}
 use Rattle.fuse_session.specs.declared.transcript.Transcript.{Transcript}
 use Rattle.fuse_session.proofs.Lists.{Splits, Splits-map}
 use Rattle.fuse_session.proofs.Order.{OneEach-from_order}
+use Rattle.fuse_session.proofs.Serving.{Owed-broken}
 
 -- where nothing was lost, nothing was left out
-pub LeavesOut-none : (frames written : List (List ℕ)) → LeavesOut 0 frames written → written ≡ frames
+pub LeavesOut-none : (frames written : List (List ℕ)) → LeavesOut [] frames written → written ≡ frames
 LeavesOut-none [] written p = p.0
 LeavesOut-none (f ∷ fs) written (inl p) = p.1 ∙ ap (λ (ys : List (List ℕ)). f ∷ ys) (LeavesOut-none fs p.0 p.2)
-LeavesOut-none (f ∷ fs) written (inr p) = absurd (let h : 0 ≡ suc p.0 = p.1 in omega arith)
+LeavesOut-none (f ∷ fs) written (inr p) = absurd (let some = p.1 in let no : ⊥ = cc in no)
 
 -- Nothing was lost where the sink's count did not rise, or the transcript says so.
-lossless : {received lost : ℕ} {sent : List (List ℕ)} {notes : List Note} {p q : Progress} → Moves received sent notes lost p q
-    → p.counts ≡ nothing_yet → Lossless p.sink q.sink q.counts → lost ≡ 0
-lossless {received} {lost} {sent} {notes} {p} {q} moved start (inl quiet) =
+lossless : {received : ℕ} {sent : List (List ℕ)} {notes : List Note} {lost : List Out} {p q : Progress} → Moves received sent notes lost p q
+    → p.counts ≡ nothing_yet → Lossless p.sink q.sink q.counts → length lost ≡ 0
+lossless {received} {sent} {notes} {lost} {p} {q} moved start (inl quiet) =
     let low : q.sink.faults < last_count = quiet.counts in
     let same : q.sink.faults ≡ p.sink.faults = quiet.same in
-    let cause : lost + p.sink.faults ≤ q.sink.faults = moved.cause low in omega arith
-lossless {received} {lost} {sent} {notes} {p} {q} moved start (inr none) =
-    let is : q.counts.lost ≡ min (0 + lost) last_count = ap (λ (w : Transcript). w.lost) (moved.counts 0 0 0 0 start) in omega arith
+    let cause : length lost + p.sink.faults ≤ q.sink.faults = moved.cause low in omega arith
+lossless {received} {sent} {notes} {lost} {p} {q} moved start (inr none) =
+    let is : q.counts.lost ≡ min (0 + length lost) last_count = ap (λ (w : Transcript). w.lost) (moved.counts 0 0 0 0 start) in omega arith
 
 -- A session that ended well: each message that it took has the one reply that it is owed.
 pub Headline-from_exchange : {F : Type 0} {setup : Setup F} {fs fs1 : F} {p q : Progress} → Exchange setup fs fs1 (Ok tt) p q
@@ -49,11 +53,13 @@ Headline-from_exchange {F} {setup} {fs} {fs1} {p} {q} exchange start quiet = rec
       (subst (λ (e : HandshakeEnd). Handshake setup.promise.may_init setup.page fs d.hs d.handshake_replies fs1 e) d.ended.0.0 d.handshake);
   written = exchange.moved.written;
   replied = exchange.moved.replied ∙ (d.said ∙ ap (λ (w : List (List ℕ)). w ++ d.later_sent)
-      (LeavesOut-none d.handshake_replies d.handshake_sent (subst (λ (n : ℕ). LeavesOut n d.handshake_replies d.handshake_sent) none_first d.left_out)));
+      (LeavesOut-none d.handshake_replies d.handshake_sent
+      (subst (λ (lost : List (List ℕ)). LeavesOut lost d.handshake_replies d.handshake_sent) none_first d.left_out)));
   set_aside = exchange.moved.set_aside;
-  one_each = OneEach-from_order owed IsBroken 0 (map message split.back) d.later_sent exchange.notes 0
-      (subst (λ (ms : List (List ℕ)). InOrder owed IsBroken 0 ms d.later_sent exchange.notes 0) (sym later)
-      (subst (λ (n : ℕ). InOrder owed IsBroken 0 d.answered d.later_sent exchange.notes n) none_later d.in_order));
+  one_each = OneEach-from_order owed IsBroken (Owed-broken setup.promise fs1 setup.acl setup.owner) 0 (map message split.back)
+      d.later_sent exchange.notes []
+      (subst (λ (ms : List (List ℕ)). InOrder owed 0 ms d.later_sent exchange.notes []) (sym later)
+      (subst (λ (lost : List Out). InOrder owed 0 d.answered d.later_sent exchange.notes lost) none_later d.in_order));
   ended = subst (λ (ms : List (List ℕ)). EndsWell ms (NothingLeft q.source)) (sym later) d.ended.2;
 } where
   d : Dialogue setup fs fs1 (Ok tt) (NothingLeft q.source) (SourceFailed p.source q.source) (map message exchange.turns)
@@ -69,11 +75,13 @@ Headline-from_exchange {F} {setup} {fs} {fs1} {p} {q} exchange start quiet = rec
   later : map message split.back ≡ d.answered
   later = split.back_is ∙ (ap (λ (r : List (List ℕ)). d.answered ++ r) d.ended.1 ∙ append-nil d.answered)
 
-  none : exchange.lost ≡ 0
-  none = lossless exchange.moved start quiet
+  none : length (map Frame d.lost_first) + length d.lost_later ≡ 0
+  none =
+      sym (length-append (map Frame d.lost_first) d.lost_later)
+      ∙ (ap (λ (lost : List Out). length lost) (sym d.missed) ∙ lossless exchange.moved start quiet)
 
-  none_first : d.lost_first ≡ 0
-  none_first = let missed = d.missed in omega (arith, none, missed)
+  none_first : d.lost_first ≡ []
+  none_first = nil_from_length d.lost_first (omega (arith, none, length-map d.lost_first Frame))
 
-  none_later : d.lost_later ≡ 0
-  none_later = let missed = d.missed in omega (arith, none, missed)
+  none_later : d.lost_later ≡ []
+  none_later = nil_from_length d.lost_later (omega (arith, none))

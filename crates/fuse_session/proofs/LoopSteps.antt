@@ -10,7 +10,7 @@ use Rattle.fuse_request.specs.Header.{header}
 use Rattle.fuse_reply.specs.declared.out.Out.{Out}
 use Rattle.fuse_reply.specs.declared.out.Out.TheVariants.{Frame, Note as Noting, Deferred}
 use Rattle.fuse_session.specs.OneEach.{Owing, InOrder, number_of}
-use Rattle.fuse_session.specs.Incoming.{IsBroken, AllGoOn, incoming}
+use Rattle.fuse_session.specs.Incoming.{AllGoOn, incoming}
 use Rattle.fuse_session.specs.Incoming.Incoming.{Destroy, Request}
 use Rattle.fuse_session.specs.Progress.{Progress, ChannelState, TakesNext, Moves, DeliversOnce, IsPrompt}
 use Rattle.fuse_session.specs.EventLoop.{Run, RunOn, RunEnds}
@@ -30,7 +30,7 @@ Run-gone {owed} {place} a b next = record {
   refused = [];
   sent = [];
   notes = [];
-  lost = 0;
+  lost = [];
   heard = refl;
   order = (refl, refl, refl);
   moved = Moves-none next.2;
@@ -47,7 +47,7 @@ Run-failed {owed} {place} a b next = record {
   refused = [];
   sent = [];
   notes = [];
-  lost = 0;
+  lost = [];
   heard = refl;
   order = (refl, refl, refl);
   moved = Moves-none next.1;
@@ -65,7 +65,7 @@ Run-broken {owed} {place} {e} n a b next broken = record {
   refused = message next.0.turn ∷ [];
   sent = [];
   notes = [];
-  lost = 0;
+  lost = [];
   heard = refl;
   order = (refl, refl, refl);
   moved = Moves-received a.progress b.progress next.1 next.2;
@@ -78,21 +78,21 @@ Run-broken {owed} {place} {e} n a b next broken = record {
 record Paid (owed : Owing) (place : ℕ) (turn : List ℕ) (p q : Progress) : Type 0 where
   sent : List (List ℕ)
   notes : List Note
-  lost : ℕ
-  order : InOrder owed IsBroken place (message turn ∷ []) sent notes lost
+  lost : List Out
+  order : InOrder owed place (message turn ∷ []) sent notes lost
   moved : Moves 1 sent notes lost p q
   taken : Takes (turn ∷ []) p.source q.source
 
 -- a message was taken, and what it is owed was handed to the sink
-paid-handed : {owed : Owing} {place : ℕ} (n : ℕ) (a b c : ChannelState) (fs : List (List ℕ)) (ns : List Note) (next : TakesNext (Message n) a b)
-    → InOrder owed IsBroken place (message next.0.turn ∷ []) fs ns 0 → (IsBroken (message next.0.turn) → ⊥)
-    → c.progress.source ≡ b.progress.source → Handed fs ns b.progress c.progress → Paid owed place next.0.turn a.progress c.progress
-paid-handed {owed} {place} n a b c fs ns next order whole same handed =
+paid-handed : {owed : Owing} {place : ℕ} {out : Out} (n : ℕ) (a b c : ChannelState) (fs : List (List ℕ)) (ns : List Note)
+    (next : TakesNext (Message n) a b) → InOrder owed place (message next.0.turn ∷ []) fs ns [] → owed (number_of place) (message next.0.turn) out
+    → c.progress.source ≡ b.progress.source → Handed out fs ns b.progress c.progress → Paid owed place next.0.turn a.progress c.progress
+paid-handed {owed} {place} {out} n a b c fs ns next order owes same handed =
     elim handed as (λ _. Paid owed place next.0.turn a.progress c.progress) [
       | took moved ↦ record {
         sent = fs;
         notes = ns;
-        lost = 0;
+        lost = [];
         order = order;
         moved = Moves-then (Moves-received a.progress b.progress next.1 next.2) moved;
         taken = taken;
@@ -100,8 +100,8 @@ paid-handed {owed} {place} n a b c fs ns next order whole same handed =
       | lost moved ↦ record {
         sent = [];
         notes = [];
-        lost = 1;
-        order = InOrder-lost owed IsBroken place (message next.0.turn) whole;
+        lost = out ∷ [];
+        order = InOrder-lost owed place (message next.0.turn) out owes;
         moved = Moves-then (Moves-received a.progress b.progress next.1 next.2) moved;
         taken = taken;
       }
@@ -112,27 +112,24 @@ paid-handed {owed} {place} n a b c fs ns next order whole same handed =
 
 -- a message was taken, and a frame or note that it is owed was handed to the sink
 paid : (owed : Owing) (place seq n : ℕ) (a b c : ChannelState) (out : Out) (next : TakesNext (Message n) a b) → number_of place ≡ seq
-    → owed seq (message next.0.turn) out → IsPrompt out → (IsBroken (message next.0.turn) → ⊥) → DeliversOnce out b c
-    → Paid owed place next.0.turn a.progress c.progress
-paid owed place seq n a b c (Frame f) next number owes prompt whole hands =
-    paid-handed n a b c (f ∷ []) [] next
-    (InOrder-framed owed IsBroken place (message next.0.turn) f
-    (subst (λ (i : ℕ). owed i (message next.0.turn) (Frame f)) (sym number) owes)) whole hands.source (Handed-frame hands)
-paid owed place seq n a b c (Noting id mark) next number owes prompt whole hands =
-    paid-handed n a b c [] ((id.0, mark) ∷ []) next
-    (InOrder-noted owed IsBroken place (message next.0.turn) (id.0, mark)
-    (subst (λ (i : ℕ). owed i (message next.0.turn) (Noting id mark)) (sym number) owes)) whole hands.source (Handed-note hands)
-paid owed place seq n a b c (Deferred late id) next number owes prompt whole hands = absurd prompt
+    → owed seq (message next.0.turn) out → IsPrompt out → DeliversOnce out b c → Paid owed place next.0.turn a.progress c.progress
+paid owed place seq n a b c (Frame f) next number owes prompt hands =
+    let is : owed (number_of place) (message next.0.turn) (Frame f) = subst (λ (i : ℕ). owed i (message next.0.turn) (Frame f)) (sym number) owes in
+    paid-handed n a b c (f ∷ []) [] next (InOrder-framed owed place (message next.0.turn) f is) is hands.source (Handed-frame hands)
+paid owed place seq n a b c (Noting id mark) next number owes prompt hands =
+    let is : owed (number_of place) (message next.0.turn) (Noting id mark) =
+    subst (λ (i : ℕ). owed i (message next.0.turn) (Noting id mark)) (sym number) owes in
+    paid-handed n a b c [] ((id.0, mark) ∷ []) next (InOrder-noted owed place (message next.0.turn) (id.0, mark) is) is hands.source (Handed-note hands)
+paid owed place seq n a b c (Deferred late id) next number owes prompt hands = absurd prompt
 
 -- DESTROY was answered
 pub Run-destroyed : (owed : Owing) (place seq n : ℕ) (a b c : ChannelState) (out : Out) (next : TakesNext (Message n) a b) → number_of place ≡ seq
-    → incoming (take n b.buffer) ≡ Destroy → owed seq (take n b.buffer) out → IsPrompt out → (IsBroken (take n b.buffer) → ⊥) → DeliversOnce out b c
+    → incoming (take n b.buffer) ≡ Destroy → owed seq (take n b.buffer) out → IsPrompt out → DeliversOnce out b c
     → Run owed place Destroyed a.progress c.progress
-Run-destroyed owed place seq n a b c out next number last owes prompt whole hands =
+Run-destroyed owed place seq n a b c out next number last owes prompt hands =
     let turn = next.0.turn in
     let p : Paid owed place turn a.progress c.progress =
-    paid owed place seq n a b c out next number (subst (λ (m : List ℕ). owed seq m out) next.0.bytes owes) prompt
-    (subst (λ (m : List ℕ). IsBroken m → ⊥) next.0.bytes whole) hands in
+    paid owed place seq n a b c out next number (subst (λ (m : List ℕ). owed seq m out) next.0.bytes owes) prompt hands in
     record {
       turns = turn ∷ [];
       answered = message turn ∷ [];
@@ -150,13 +147,12 @@ Run-destroyed owed place seq n a b c out next number last owes prompt whole hand
 
 -- a request was answered, and the run goes on
 pub RunOn-next : (owed : Owing) (place seq n : ℕ) (a b c : ChannelState) (out : Out) (next : TakesNext (Message n) a b) → number_of place ≡ seq
-    → incoming (take n b.buffer) ≡ Request → owed seq (take n b.buffer) out → IsPrompt out → (IsBroken (take n b.buffer) → ⊥) → DeliversOnce out b c
+    → incoming (take n b.buffer) ≡ Request → owed seq (take n b.buffer) out → IsPrompt out → DeliversOnce out b c
     → (run : RunOn owed place a.progress c.progress) × (length run.turns ≡ 1)
-RunOn-next owed place seq n a b c out next number goes owes prompt whole hands =
+RunOn-next owed place seq n a b c out next number goes owes prompt hands =
     let turn = next.0.turn in
     let p : Paid owed place turn a.progress c.progress =
-    paid owed place seq n a b c out next number (subst (λ (m : List ℕ). owed seq m out) next.0.bytes owes) prompt
-    (subst (λ (m : List ℕ). IsBroken m → ⊥) next.0.bytes whole) hands in (
+    paid owed place seq n a b c out next number (subst (λ (m : List ℕ). owed seq m out) next.0.bytes owes) prompt hands in (
       record {
         turns = turn ∷ [];
         sent = p.sent;
@@ -177,7 +173,7 @@ RunOn-none p = (
     turns = [];
     sent = [];
     notes = [];
-    lost = 0;
+    lost = [];
     order = (refl, refl, refl);
     moved = Moves-none (record { sink = refl; counts = refl });
     taken = Takes-none p.source;
@@ -187,21 +183,21 @@ RunOn-none p = (
 )
 
 -- in order after other turns
-order-then : (owed : Owing) (place i j : ℕ) (xs ys fs gs : List (List ℕ)) (ns ms : List Note) (turns : List (List ℕ))
-    → map message turns ≡ xs → InOrder owed IsBroken place xs fs ns i → InOrder owed IsBroken (place + length turns) ys gs ms j
-    → InOrder owed IsBroken place (xs ++ ys) (fs ++ gs) (ns ++ ms) (i + j)
-order-then owed place i j xs ys fs gs ns ms turns is first second =
-    InOrder-append owed IsBroken place xs ys fs gs ns ms i j first
-    (subst (λ (n : ℕ). InOrder owed IsBroken (place + n) ys gs ms j)
+order-then : (owed : Owing) (place : ℕ) (xs ys fs gs : List (List ℕ)) (ns ms : List Note) (js ks : List Out) (turns : List (List ℕ))
+    → map message turns ≡ xs → InOrder owed place xs fs ns js → InOrder owed (place + length turns) ys gs ms ks
+    → InOrder owed place (xs ++ ys) (fs ++ gs) (ns ++ ms) (js ++ ks)
+order-then owed place xs ys fs gs ns ms js ks turns is first second =
+    InOrder-append owed place xs ys fs gs ns ms js ks first
+    (subst (λ (n : ℕ). InOrder owed (place + n) ys gs ms ks)
     (sym (length-map turns message) ∙ ap (λ (l : List (List ℕ)). length l) is) second)
 
 -- the same at the start
-order-first : (owed : Owing) (i j : ℕ) (ys fs gs : List (List ℕ)) (ns ms : List Note) (turns : List (List ℕ))
-    → InOrder owed IsBroken 0 (map message turns) fs ns i → InOrder owed IsBroken (length turns) ys gs ms j
-    → InOrder owed IsBroken 0 (map message turns ++ ys) (fs ++ gs) (ns ++ ms) (i + j)
-order-first owed i j ys fs gs ns ms turns first second =
-    order-then owed 0 i j (map message turns) ys fs gs ns ms turns refl first
-    (subst (λ (n : ℕ). InOrder owed IsBroken n ys gs ms j) (sym (zero-add (length turns))) second)
+order-first : (owed : Owing) (ys fs gs : List (List ℕ)) (ns ms : List Note) (js ks : List Out) (turns : List (List ℕ))
+    → InOrder owed 0 (map message turns) fs ns js → InOrder owed (length turns) ys gs ms ks
+    → InOrder owed 0 (map message turns ++ ys) (fs ++ gs) (ns ++ ms) (js ++ ks)
+order-first owed ys fs gs ns ms js ks turns first second =
+    order-then owed 0 (map message turns) ys fs gs ns ms js ks turns refl first
+    (subst (λ (n : ℕ). InOrder owed n ys gs ms ks) (sym (zero-add (length turns))) second)
 
 -- a run so far goes on
 pub RunOn-then : {owed : Owing} {p q r : Progress} (first : RunOn owed 0 p q) (second : RunOn owed (length first.turns) q r)
@@ -211,10 +207,10 @@ RunOn-then {owed} {p} {q} {r} first second = (
     turns = first.turns ++ second.turns;
     sent = first.sent ++ second.sent;
     notes = first.notes ++ second.notes;
-    lost = first.lost + second.lost;
-    order = subst (λ (m : List (List ℕ)). InOrder owed IsBroken 0 m (first.sent ++ second.sent) (first.notes ++ second.notes) (first.lost + second.lost))
+    lost = first.lost ++ second.lost;
+    order = subst (λ (m : List (List ℕ)). InOrder owed 0 m (first.sent ++ second.sent) (first.notes ++ second.notes) (first.lost ++ second.lost))
         (sym (map-append message first.turns second.turns))
-        (order-first owed first.lost second.lost (map message second.turns) first.sent second.sent first.notes second.notes
+        (order-first owed (map message second.turns) first.sent second.sent first.notes second.notes first.lost second.lost
         first.turns first.order second.order);
     moved = moves-then first.turns second.turns first.moved second.moved;
     taken = Takes-then first.turns second.turns p.source q.source r.source first.taken second.taken;
@@ -252,11 +248,11 @@ Run-then {owed} {end} {p} {q} {r} first second = record {
   refused = second.refused;
   sent = first.sent ++ second.sent;
   notes = first.notes ++ second.notes;
-  lost = first.lost + second.lost;
+  lost = first.lost ++ second.lost;
   heard = map-append message first.turns second.turns
       ∙ (ap (λ (y : List (List ℕ)). map message first.turns ++ y) second.heard
       ∙ sym (append_assoc (map message first.turns) second.answered second.refused));
-  order = order-first owed first.lost second.lost second.answered first.sent second.sent first.notes second.notes first.turns first.order second.order;
+  order = order-first owed second.answered first.sent second.sent first.notes second.notes first.lost second.lost first.turns first.order second.order;
   moved = moves-then first.turns second.turns first.moved second.moved;
   begins = Begins-after first.turns second.turns p.source q.source first.taken second.begins;
   taken = λ other. Takes-then first.turns second.turns p.source q.source r.source first.taken (second.taken other);

@@ -12,7 +12,7 @@ use Rattle.fuse_request.specs.Opcode.{FUSE_DESTROY}
 use Rattle.fuse_request.specs.Operation.{Op, operation}
 use Rattle.fuse_reply.specs.declared.out.Out.{Out}
 use Rattle.fuse_session.specs.Incoming.{incoming, incoming_by, IsBroken}
-use Rattle.fuse_session.specs.Incoming.Incoming.{Broken as BrokenBy, Destroy, Request}
+use Rattle.fuse_session.specs.Incoming.Incoming.{Destroy, Request}
 use Rattle.fuse_session.specs.Promise.{Promise}
 use Rattle.fuse_session.specs.Verdict.{Verdict, verdict, verdict_by, serving, admitted_operation, id_of}
 use Rattle.fuse_session.specs.Verdict.Verdict.{Ends}
@@ -30,10 +30,6 @@ pub header-fields : (m : List ℕ) (h : Header) → header m ≡ Ok h → h ≡ 
 header-fields m h is =
     ok-header (nat_lt (length m) 40) (nat_lt (length m) (number m 0 4)) (nat_lt (number m 0 4) 40)
     (ShortReadHeader (length m)) (ShortRead (length m) (number m 0 4)) InsufficientData (header_fields m) h is
-
--- a message with a good header is not broken
-pub whole-good : (m : List ℕ) (h : Header) → header m ≡ Ok h → IsBroken m → ⊥
-whole-good m h good broken = let bad = broken.1 in cc
 
 -- the run goes on after a request that is no DESTROY
 pub incoming-request : (m : List ℕ) (h : Header) → header m ≡ Ok h → (h.opcode == FUSE_DESTROY) ≡ false → incoming m ≡ Request
@@ -61,6 +57,9 @@ Owed-request promise fs acl owner seq out request m found decodes other is owed 
         ∙ (ap (λ (b : List ℕ). serving h.nodeid.0 (admitted_operation acl owner h (operation h.opcode b))) (sym decodes.1)
         ∙ ap (serving h.nodeid.0) is))
 
--- nor is DESTROY
-pub whole-destroy : (m : List ℕ) → incoming m ≡ Destroy → IsBroken m → ⊥
-whole-destroy m is broken = let bad : incoming m ≡ BrokenBy broken.0 = ap incoming_by broken.1 in let no : ⊥ = cc in no
+-- nothing is owed to a message without a good header
+pub Owed-broken : {F : Type 0} (promise : Promise F) (fs : F) (acl : SessionACL) (owner seq : ℕ) (m : List ℕ) (out : Out)
+    → Owed promise fs acl owner seq m out → IsBroken m → ⊥
+Owed-broken promise fs acl owner seq m out owed broken =
+    subst (λ (r : Result Header RequestError). OwedBy promise fs (request_of (header_fields m)) (verdict_by acl owner r (body m)) seq (id_of m) out)
+    broken.1 owed

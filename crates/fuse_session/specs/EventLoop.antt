@@ -2,7 +2,8 @@
 use Rattle.std.specs.Prelude.{◌≡◌, ◌≢◌, ◌++◌, ℕ, List, [], ◌∷◌, Option, None, Some, map, length}
 use Rattle.fuse_wire.specs.Source.{Takes, message, NothingLeft, Failed as SourceFailed}
 use Rattle.fuse_wire.specs.Sink.{Note}
-use Rattle.fuse_session.specs.Incoming.{IsBroken, AllGoOn, incoming}
+use Rattle.fuse_reply.specs.declared.out.Out.{Out}
+use Rattle.fuse_session.specs.Incoming.{AllGoOn, incoming}
 use Rattle.fuse_session.specs.Incoming.Incoming.{Destroy}
 use Rattle.fuse_session.specs.OneEach.{Owing, InOrder, number_of}
 use Rattle.fuse_session.specs.Exchange.{HeaderRefused}
@@ -26,9 +27,9 @@ pub record Run (owed : Owing) (place : ℕ) (end : End) (before after : Progress
   pub refused : List (List ℕ)
   pub sent : List (List ℕ)
   pub notes : List Note
-  pub lost : ℕ
+  pub lost : List Out
   pub heard : map message turns ≡ answered ++ refused
-  pub order : InOrder owed IsBroken place answered sent notes lost
+  pub order : InOrder owed place answered sent notes lost
   pub moved : Moves (length turns) sent notes lost before after
   pub begins : Begins turns before.source
   pub taken : end ≢ Failed → Takes turns before.source after.source
@@ -39,8 +40,8 @@ pub record RunOn (owed : Owing) (place : ℕ) (before after : Progress) : Type 0
   pub turns : List (List ℕ)
   pub sent : List (List ℕ)
   pub notes : List Note
-  pub lost : ℕ
-  pub order : InOrder owed IsBroken place (map message turns) sent notes lost
+  pub lost : List Out
+  pub order : InOrder owed place (map message turns) sent notes lost
   pub moved : Moves (length turns) sent notes lost before after
   pub taken : Takes turns before.source after.source
   pub go_on : AllGoOn (map message turns)

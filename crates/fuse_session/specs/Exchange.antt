@@ -1,13 +1,15 @@
 -- A whole session on one thread: what it heard, what it said and lost, and why it ended.
-use Rattle.std.specs.Prelude.{◌≡◌, ◌≢◌, ◌⊎◌, ◌+◌, ◌++◌, ℕ, List, [], ◌∷◌, Option, Some, Result, Ok, Err, map, length}
+use Rattle.std.specs.Prelude.{◌≡◌, ◌≢◌, ◌⊎◌, ◌++◌, ℕ, List, [], ◌∷◌, Option, Some, Result, Ok, Err, map, length}
 use Rattle.fuse_wire.specs.Source.{Takes, message, NothingLeft, Failed as SourceFailed}
 use Rattle.fuse_wire.specs.Sink.{Note}
 use Rattle.fuse_config.specs.declared.config.Config.{Config}
 use Rattle.fuse_config.specs.declared.session_acl.SessionACL.{SessionACL}
 use Rattle.fuse_request.specs.Header.{header}
 use Rattle.fuse_request.specs.declared.error.RequestError.{RequestError}
+use Rattle.fuse_reply.specs.declared.out.Out.{Out}
+use Rattle.fuse_reply.specs.declared.out.Out.TheVariants.{Frame}
 use Rattle.fuse_session.specs.Promise.{Promise}
-use Rattle.fuse_session.specs.Incoming.{IsBroken, AllGoOn, EndsWell}
+use Rattle.fuse_session.specs.Incoming.{AllGoOn, EndsWell}
 use Rattle.fuse_session.specs.Owed.{Owed}
 use Rattle.fuse_session.specs.OneEach.{InOrder}
 use Rattle.fuse_session.specs.Handshake.{HandshakeEnd, Handshake, LeavesOut, MayRefuse}
@@ -67,10 +69,10 @@ EndedBy (Err Threads) refuses threads end answered refused none_left failed = Ha
 EndedBy (Err Receive) refuses threads end answered refused none_left failed =
     failed × (HandshakeAlone Open end answered refused ⊎ (Served threads end × AllGoOn answered × (refused ≡ [])))
 
--- What was heard and said, whatever carried it: these messages were taken, these replies and notes were sent, and so many replies
--- and notes were lost. `none_left` says that no message was left, and `failed` that the source failed.
+-- What was heard and said, whatever carried it: these messages were taken, these replies and notes were sent, and these replies and
+-- notes were lost. `none_left` says that no message was left, and `failed` that the source failed.
 pub record Dialogue {F : Type 0} (setup : Setup F) (fs fs1 : F) (outcome : Outcome) (none_left failed : Type 0)
-    (messages sent : List (List ℕ)) (notes : List Note) (lost : ℕ) : Type 0 where
+    (messages sent : List (List ℕ)) (notes : List Note) (lost : List Out) : Type 0 where
   -- the messages of the handshake, the later ones that were answered, and after these one whose header is refused, or none
   pub hs : List (List ℕ)
   pub answered : List (List ℕ)
@@ -80,15 +82,15 @@ pub record Dialogue {F : Type 0} (setup : Setup F) (fs fs1 : F) (outcome : Outco
   pub handshake_sent : List (List ℕ)
   pub later_sent : List (List ℕ)
   pub end : HandshakeEnd
-  -- so many were lost, of the handshake and of the later messages
-  pub lost_first : ℕ
-  pub lost_later : ℕ
+  -- the replies of the handshake that were lost, and what of the later messages was
+  pub lost_first : List (List ℕ)
+  pub lost_later : List Out
   pub heard : messages ≡ hs ++ (answered ++ refused)
   pub handshake : Handshake setup.promise.may_init setup.page fs hs handshake_replies fs1 end
   pub left_out : LeavesOut lost_first handshake_replies handshake_sent
-  pub in_order : InOrder (Owed setup.promise fs1 setup.acl setup.owner) IsBroken 0 answered later_sent notes lost_later
+  pub in_order : InOrder (Owed setup.promise fs1 setup.acl setup.owner) 0 answered later_sent notes lost_later
   pub said : sent ≡ handshake_sent ++ later_sent
-  pub missed : lost ≡ lost_first + lost_later
+  pub missed : lost ≡ map Frame lost_first ++ lost_later
   pub ended : EndedBy outcome (MayRefuse setup.promise.may_init fs) setup.threads end answered refused none_left failed
 
 -- A session between a source and a sink. Where the source failed, what it tells after the messages taken is not known.
@@ -96,7 +98,7 @@ pub record Exchange {F : Type 0} (setup : Setup F) (fs fs1 : F) (outcome : Outco
   pub turns : List (List ℕ)
   pub sent : List (List ℕ)
   pub notes : List Note
-  pub lost : ℕ
+  pub lost : List Out
   pub dialogue : Dialogue setup fs fs1 outcome (NothingLeft after.source) (SourceFailed before.source after.source)
       (map message turns) sent notes lost
   pub begins : Begins turns before.source

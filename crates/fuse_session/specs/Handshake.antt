@@ -1,5 +1,5 @@
 -- The handshake: what each message before an accepted INIT gets, and how it ends.
-use Rattle.std.specs.Prelude.{◌≡◌, ◌≤◌, ◌⊎◌, ◌&&◌, ◌||◌, ◌==◌, ℕ, Bool, suc, List, []}
+use Rattle.std.specs.Prelude.{◌≡◌, ◌≤◌, ◌⊎◌, ◌&&◌, ◌||◌, ◌==◌, ℕ, Bool, List, []}
 use Rattle.std.specs.Prelude.{◌∷◌, Option, None, Some, Result, Ok, Err, nat_lt, pos, if◌then◌else◌}
 use Rattle.fuse_args.specs.declared.fixed.InitArguments.{InitArguments}
 use Rattle.fuse_wire.specs.ErrorNumbers.{EIO, EPROTO}
@@ -109,12 +109,12 @@ Handshake may_init page fs [] frames fs1 end = (frames ≡ []) × (fs1 ≡ fs) �
 Handshake may_init page fs (m ∷ ms) frames fs1 end =
     Greets may_init page fs (greeting m) ms frames fs1 end (λ rest. Handshake may_init page fs ms rest fs1 end)
 
--- some of the frames, in order, without so many that were lost
-abbrev pub LeavesOut : (lost : ℕ) → (frames written : List (List ℕ)) → Type 0
-LeavesOut lost [] written = (written ≡ []) × (lost ≡ 0)
+-- each of the frames, in order, was lost or written
+abbrev pub LeavesOut : (lost frames written : List (List ℕ)) → Type 0
+LeavesOut lost [] written = (written ≡ []) × (lost ≡ [])
 LeavesOut lost (f ∷ fs) written =
     ((rest : List (List ℕ)) × (written ≡ f ∷ rest) × LeavesOut lost fs rest)
-    ⊎ ((fewer : ℕ) × (lost ≡ suc fewer) × LeavesOut fewer fs written)
+    ⊎ ((rest : List (List ℕ)) × (lost ≡ f ∷ rest) × LeavesOut rest fs written)
 
 -- `init` may refuse an INIT with this error, from the start values of what is offered
 pub record MayRefuse {F : Type 0} (may_init : MayInit F) (fs : F) (errno : ℕ) : Type 0 where

@@ -52,11 +52,11 @@ pub record HandshakeRun {F : Type 0} (may_init : MayInit F) (page : ℕ) (found 
   pub turns : List (List ℕ)
   pub replies : List (List ℕ)
   pub sent : List (List ℕ)
-  pub lost : ℕ
+  pub lost : List (List ℕ)
   pub end : HandshakeEnd
   pub handshake : Handshake may_init page fs (map message turns) replies fs1 end
   pub left_out : LeavesOut lost replies sent
-  pub moved : Moves (length turns) sent [] lost before after
+  pub moved : Moves (length turns) sent [] (map Frame lost) before after
   pub begins : Begins turns before.source
   pub taken : found ≢ outcome.Failed → Takes turns before.source after.source
   pub ended : HandshakeEnds found end (MayRefuse may_init fs) (NothingLeft after.source) (SourceFailed before.source after.source)
@@ -66,12 +66,12 @@ pub record HandshakeOn {F : Type 0} (may_init : MayInit F) (page : ℕ) (fs fs1 
   pub turns : List (List ℕ)
   pub replies : List (List ℕ)
   pub sent : List (List ℕ)
-  pub lost : ℕ
+  pub lost : List (List ℕ)
   pub same : fs1 ≡ fs
   pub go : (ms later : List (List ℕ)) (fs2 : F) (end : HandshakeEnd) → Handshake may_init page fs ms later fs2 end
       → Handshake may_init page fs (map message turns ++ ms) (replies ++ later) fs2 end
   pub left_out : LeavesOut lost replies sent
-  pub moved : Moves (length turns) sent [] lost before after
+  pub moved : Moves (length turns) sent [] (map Frame lost) before after
   pub taken : Takes turns before.source after.source
 
 -- one message of it, or none

@@ -14,17 +14,19 @@ Owing = ℕ → List ℕ → Out → Type 0
 abbrev pub number_of : ℕ → ℕ
 number_of place = min place last_count
 
--- Each message from this place on, in order, is owed the first frame that is left, or the first note, or its reply was lost.
-abbrev pub InOrder : Owing → (List ℕ → Type 0) → (place : ℕ) → (messages frames : List (List ℕ)) → List Noted → (lost : ℕ) → Type 0
-InOrder owed broken place [] frames notes lost = (frames ≡ []) × (notes ≡ []) × (lost ≡ 0)
-InOrder owed broken place (m ∷ ms) frames notes lost =
+-- Each message from this place on, in order, is owed the first frame that is left, or the first note, or the first of what was lost.
+abbrev pub InOrder : Owing → (place : ℕ) → (messages frames : List (List ℕ)) → List Noted → (lost : List Out) → Type 0
+InOrder owed place [] frames notes lost = (frames ≡ []) × (notes ≡ []) × (lost ≡ [])
+InOrder owed place (m ∷ ms) frames notes lost =
     ((f : List ℕ) × (rest : List (List ℕ)) × (frames ≡ f ∷ rest) × owed (number_of place) m (Frame f)
-    × InOrder owed broken (suc place) ms rest notes lost)
+    × InOrder owed (suc place) ms rest notes lost)
     ⊎ ((n : Noted) × (rest : List Noted) × (notes ≡ n ∷ rest) × owed (number_of place) m (Note (record { 0 = n.0 }) n.1)
-    × InOrder owed broken (suc place) ms frames rest lost)
-    ⊎ ((fewer : ℕ) × (lost ≡ suc fewer) × ¬ (broken m) × InOrder owed broken (suc place) ms frames notes fewer)
+    × InOrder owed (suc place) ms frames rest lost)
+    ⊎ ((out : Out) × (rest : List Out) × (lost ≡ out ∷ rest) × owed (number_of place) m out
+    × InOrder owed (suc place) ms frames notes rest)
 
--- The same with some place for the first one, and with marks of replies that come later: a number and an id each.
+-- The same with some place for the first one, with marks of replies that come later, a number and an id each, and with a count of
+-- the lost.
 abbrev pub OneEach : Owing → (List ℕ → Type 0) → (place : ℕ) → (messages frames : List (List ℕ)) → (notes marks : List Noted) → (lost : ℕ) → Type 0
 OneEach owed broken place [] frames notes marks lost = (frames ≡ []) × (notes ≡ []) × (marks ≡ []) × (lost ≡ 0)
 OneEach owed broken place (m ∷ ms) frames notes marks lost =

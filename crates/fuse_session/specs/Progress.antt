@@ -4,7 +4,7 @@ use Rattle.std.specs.List.{AllByRecursion}
 use Rattle.fuse_wire.specs.Faults.{counted, last_count}
 use Rattle.fuse_wire.specs.Source.{SourceState, Takes, TakesMessage, NothingLeft, Failed as SourceFailed}
 use Rattle.fuse_wire.specs.Sink.{SinkState, Note, Appends}
-use Rattle.fuse_reply.specs.Deliver.{Delivers, NoNotice}
+use Rattle.fuse_reply.specs.Deliver.{Delivers, LeavesTail, NoNotice}
 use Rattle.fuse_reply.specs.Frame.{is_set_aside}
 use Rattle.fuse_reply.specs.Notice.{Notice, IsNotice, notice}
 use Rattle.fuse_reply.specs.declared.out.Out.{Out}
@@ -92,13 +92,14 @@ tally received frames notes lost = record {
   unrecorded = 0;
 }
 
--- So many messages were counted; these reply frames, with notices among them, and these notes were appended; and so many were
--- lost, each of which the sink counted.
-pub record Moves (received : ℕ) (frames : List (List ℕ)) (notes : List Note) (lost : ℕ) (before after : Progress) : Type 0 where
+-- So many messages were counted; these reply frames, with notices among them, and these notes were appended; and these were lost,
+-- each of which the sink counted.
+pub record Moves (received : ℕ) (frames : List (List ℕ)) (notes : List Note) (lost : List Out) (before after : Progress) : Type 0 where
   pub appended : List (List ℕ)
   pub written : Appends appended notes before.sink after.sink
   pub replied : replies appended ≡ frames
   pub set_aside : AllByRecursion NoticeOrReply appended
-  pub cause : after.sink.faults < last_count → lost + before.sink.faults ≤ after.sink.faults
+  pub tail : LeavesTail lost before.sink.tail after.sink.tail
+  pub cause : after.sink.faults < last_count → length lost + before.sink.faults ≤ after.sink.faults
   pub counts : (r f n l : ℕ) → before.counts ≡ tally r f n l
-      → after.counts ≡ tally (r + received) (f + length frames) (n + length notes) (l + lost)
+      → after.counts ≡ tally (r + received) (f + length frames) (n + length notes) (l + length lost)

@@ -122,6 +122,7 @@ impl Sink for RefusingOnce {
     ghost told = { λ s. record {
       frames = None;
       notes = None;
+      tail = None;
       faults = s.faults;
       origin = record { bytes = None; faults = 0 };
     } };

@@ -48,6 +48,7 @@ impl Sink for Answering<'_> {
     ghost told = { λ s. record {
       frames = None;
       notes = None;
+      tail = None;
       faults = 0;
       origin = record { bytes = None; faults = 0 };
     } };

@@ -2,7 +2,7 @@
 use Rattle.std.proofs.Common.{◌≡◌, ℕ, zero, suc, ◌+◌, ◌<◌, ◌≤◌, true, false, leb, ⊎_elim, List, [], ◌∷◌, ◌++◌, length, take, drop}
 use Rattle.std.proofs.Common.{refl, ap, sym, ◌∙◌, arith, append_assoc, length-append}
 use Rattle.std.specs.List.{concat, AllByRecursion}
-use Rattle.std.proofs.lemmas.List.{take_at, drop_at, append-nil}
+use Rattle.std.proofs.lemmas.List.{take_at, drop_at, append-nil, take-append-drop}
 use Rattle.std.proofs.lemmas.Bool.{le-leb, lt-leb, and_from, and_left, and_right, cond-true, cond-false, cases_lt}
 use Rattle.fuse_wire.specs.Numbers.{number}
 use Rattle.fuse_wire.specs.Frames.{IsFrame, frames, frames_in, frame_length, has_frame}
@@ -27,11 +27,13 @@ has_frame-long bytes long =
 -- a part of a frame that has the whole header says that it is longer
 pub frame_length-torn : (torn : List ℕ) (t : IsTorn torn) → 16 ≤ length torn → length torn < frame_length torn
 frame_length-torn torn t long =
-    let total : length (torn ++ t.more) ≡ length torn + length t.more = length-append torn t.more in
-    let field : frame_length (torn ++ t.more) ≡ frame_length torn = number-append torn t.more 0 4 (omega arith) in
-    let same : frame_length (torn ++ t.more) ≡ length (torn ++ t.more) = t.whole.length_field in
-    let some : 0 < length t.more = t.part in
-    omega (arith, total, field, same, some)
+    let parts : torn ++ drop (length torn) t.frame ≡ t.frame =
+    ap (λ front. front ++ drop (length torn) t.frame) (sym t.part.1) ∙ take-append-drop (length torn) t.frame in
+    let field : frame_length (torn ++ drop (length torn) t.frame) ≡ frame_length torn =
+    number-append torn (drop (length torn) t.frame) 0 4 (omega arith) in
+    let same : frame_length t.frame ≡ length t.frame = t.whole.length_field in
+    let below : length torn < length t.frame = t.part.0 in
+    omega (arith, ap frame_length parts, field, same, below)
 
 -- a part of a frame has no whole frame in front
 pub has_frame-torn : (torn : List ℕ) → IsTorn torn → has_frame torn ≡ false
@@ -98,7 +100,7 @@ bare = 16 ∷ 0 ∷ 0 ∷ 0 ∷ 0 ∷ 0 ∷ 0 ∷ 0 ∷ 0 ∷ 0 ∷ 0 ∷ 0 ∷ 
 -- no bytes are a part of a frame
 pub IsTorn-nil : IsTorn []
 unfolding number
-IsTorn-nil = record { more = bare; whole = record { header = omega arith; length_field = refl }; part = omega arith }
+IsTorn-nil = record { frame = bare; whole = record { header = omega arith; length_field = refl }; part = (omega arith, refl) }
 
 -- the frames of a stream of frames
 pub frames-concat : (sent : List (List ℕ)) → AllByRecursion IsFrame sent → frames (concat sent) ≡ sent

@@ -33,8 +33,8 @@ Refuses-listed before after once = rw once (
 pub Sends-listed : (answer : Sending) (frame : List ℕ) (before after : FramesHeld) → EachFails before.listed → next_answer before ≡ Some answer →
     after ≡ sent_once before before.frames (counted before.reached 1) before.starved → Sends answer frame (frames_held_told before) (frames_held_told after)
 Sends-listed Sent frame before after each listed once = absurd (fails before.listed _ each listed)
-Sends-listed Absent frame before after each listed once = Refuses-listed before after once
-Sends-listed Failed frame before after each listed once = Refuses-listed before after once
+Sends-listed Absent frame before after each listed once = (Refuses-listed before after once, refl)
+Sends-listed Failed frame before after each listed once = (Refuses-listed before after once, refl)
 
 -- a listed send is answered as the list says
 pub SendsMemory-listed : (answer : Sending) (frame : List ℕ) (before after : FramesHeld) → EachFails before.listed → next_answer before ≡ Some answer →

@@ -26,7 +26,7 @@ refusals sink = sink.refused
 
 -- what it tells, where its stream tells this
 abbrev pub sink_told : {O : Type 0} {g : _} → (told : O → ByteSinkState) → StreamSink O g → SinkState
-sink_told told sink = stream_told (told (made_over sink)) (told (held sink)) (refusals sink)
+sink_told told sink = stream_told (told (made_over sink)) (told (held sink)) (is_broken sink) (refusals sink)
 
 -- no write had failed, and what the sink was made over and its count of refusals are as before
 abbrev pub Attempts : {O : Type 0} {g : _} → StreamSink O g → StreamSink O g → Type 0

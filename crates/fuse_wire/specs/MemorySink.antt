@@ -48,6 +48,7 @@ abbrev pub frames_held_told : FramesHeld → SinkState
 frames_held_told sink = record {
   frames = Some sink.frames;
   notes = Some sink.notes;
+  tail = None;
   faults = counted sink.reached sink.starved;
   origin = record { bytes = None; faults = 0 };
 }

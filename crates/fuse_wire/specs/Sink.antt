@@ -1,5 +1,5 @@
 -- Sinks of frames and notes: what one call of `send` or `note` does.
-use Rattle.std.specs.Prelude.{◌≡◌, ◌≤◌, ◌++◌, ℕ, [], ◌∷◌, List, Option, option_map}
+use Rattle.std.specs.Prelude.{◌≡◌, ◌≤◌, ◌<◌, ◌++◌, ℕ, [], ◌∷◌, List, Option, None, Some, option_map, length, take}
 use Rattle.fuse_wire.specs.Faults.{Rose}
 use Rattle.fuse_wire.specs.ByteSink.{ByteSinkState}
 use Rattle.fuse_wire.specs.declared.sink.Sending.{Sending}
@@ -11,10 +11,17 @@ use Rattle.fuse_wire.specs.declared.sink.Noting.TheVariants.{Sent as Noted, Fail
 abbrev pub Note : Type 0
 Note = ℕ × ℕ
 
--- its frames and notes, where it tells them, how often it has failed, and how what it was made over stood then
+-- how a stream of frames ends: with a whole frame, or with these bytes of one whose write failed
+pub data Tail : Type 0 where
+  Whole : Tail
+  Torn : (bytes : List ℕ) → Tail
+
+-- its frames and notes, and how the stream that it writes them to ends, each where it tells it; how often it has failed; and how
+-- what it was made over stood then
 pub record SinkState : Type 0 where
   pub frames : Option (List (List ℕ))
   pub notes : Option (List Note)
+  pub tail : Option Tail
   pub faults : ℕ
   pub origin : ByteSinkState
 
@@ -25,17 +32,34 @@ pub record Appends (frames : List (List ℕ)) (notes : List Note) (before after 
   pub faults : before.faults ≤ after.faults
   pub origin : after.origin ≡ before.origin
 
+-- they were put so, and a stream ends as it did
+abbrev pub Puts : List (List ℕ) → List Note → SinkState → SinkState → Type 0
+Puts frames notes before after = Appends frames notes before after × (after.tail ≡ before.tail)
+
 -- nothing was put, and the device counted a fault
 abbrev pub Refuses : SinkState → SinkState → Type 0
 Refuses before after = Appends [] [] before after × Rose before.faults after.faults
 
+-- some bytes of this frame from its front, and not all
+abbrev pub IsTornFrom : (frame torn : List ℕ) → Type 0
+IsTornFrom frame torn = (length torn < length frame) × (take (length torn) frame ≡ torn)
+
+-- How a stream ends after this frame was refused. Where no write had failed before, this frame's did, and left a part of it. After a
+-- write that failed nothing is written.
+abbrev pub Tears : (frame : List ℕ) → (before after : Option Tail) → Type 0
+Tears frame None after = after ≡ None
+Tears frame (Some Whole) None = ⊥
+Tears frame (Some Whole) (Some Whole) = ⊥
+Tears frame (Some Whole) (Some (Torn torn)) = IsTornFrom frame torn
+Tears frame (Some (Torn torn)) after = after ≡ Some (Torn torn)
+
 -- what one send does, by its answer
 abbrev pub Sends : Sending → List ℕ → SinkState → SinkState → Type 0
-Sends Sent frame before after = Appends (frame ∷ []) [] before after
-Sends Absent frame before after = Refuses before after
-Sends Failed frame before after = Refuses before after
+Sends Sent frame before after = Puts (frame ∷ []) [] before after
+Sends Absent frame before after = Refuses before after × Tears frame before.tail after.tail
+Sends Failed frame before after = Refuses before after × Tears frame before.tail after.tail
 
 -- what one note does, by its answer
 abbrev pub Notes : Noting → Note → SinkState → SinkState → Type 0
-Notes Noted note before after = Appends [] (note ∷ []) before after
-Notes Unnoted note before after = Refuses before after
+Notes Noted note before after = Puts [] (note ∷ []) before after
+Notes Unnoted note before after = Refuses before after × (after.tail ≡ before.tail)

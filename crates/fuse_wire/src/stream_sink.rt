@@ -17,7 +17,8 @@ pub struct StreamSink<O: ByteSink> {
     broken: bool,
     refused: u64,
     origin: Snapshot<O>,
-    ghost stands: { ∥ Stands (stream_told (O.told origin.value) (O.told inner) refused) (O.told inner) broken ∥₁ },
+    ghost stands: { ∥ Stands (stream_told (O.told origin.value) (O.told inner) broken refused)
+        (O.told inner) broken ∥₁ },
 }
 
 impl<O: ByteSink> StreamSink<O> {
@@ -49,7 +50,8 @@ impl<O: ByteSink> StreamSink<O> {
     /// The stream, after the last byte that was written.
     pub fn into_inner(self) -> O
         ensures held { result ≡ held self }
-        ensures stands { ∥ Stands (stream_told (O.told (made_over self)) (O.told result) (refusals self))
+        ensures stands { ∥ Stands
+            (stream_told (O.told (made_over self)) (O.told result) (is_broken self) (refusals self))
             (O.told result) (is_broken self) ∥₁ }
     {
         let StreamSink {

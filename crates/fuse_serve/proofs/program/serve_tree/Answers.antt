@@ -1,4 +1,4 @@
-use Rattle.std.proofs.Common.{◌≡◌, ◌≢◌, ◌⊎◌, ◌∙◌, subst, sym, refl, ap, Some, Bool, Ok, Err, inr}
+use Rattle.std.proofs.Common.{◌≡◌, ◌≢◌, ◌⊎◌, ◌∙◌, subst, sym, refl, ap, Some, Bool, false, Ok, Err, inr}
 use Rattle.fuse_wire.specs.Source.{SourceState}
 use Rattle.fuse_wire.specs.Sink.{SinkState}
 use Rattle.fuse_wire.specs.ByteSource.{ByteSourceState}
@@ -35,27 +35,27 @@ last_out g c = g.O.ByteSink.told c.into_inner-2.result
 -- what the sink tells at last
 abbrev sink_at : (g : Over) → goal.After-into_inner-2 g → SinkState
 sink_at g c =
-    let m = c.mount-source.result in sink_told (g.O.ByteSink.told m.sink.origin.value) (g.O.ByteSink.told m.sink.inner) m.sink.refused
+    let m = c.mount-source.result in sink_told (g.O.ByteSink.told m.sink.origin.value) (g.O.ByteSink.told m.sink.inner) m.sink.broken m.sink.refused
 
 -- what holds of the streams that were mounted holds of what the program was given and hands back
 over_streams : (g : Over) (c : goal.After-into_inner-2 g) (P : SourceState → SourceState → SinkState → Type 0)
     → P (stream_told (g.I.ByteSource.told c.new.result.inner)) (stream_told (g.I.ByteSource.told c.mount-source.result.source.inner))
-    (sink_told (g.O.ByteSink.told c.new-2.result.origin.value) (g.O.ByteSink.told c.new-2.result.inner) c.new-2.result.refused)
-    → P (stream_told (first_in g c)) (stream_told (last_in g c)) (sink_told (first_out g c) (first_out g c) 0)
+    (sink_told (g.O.ByteSink.told c.new-2.result.origin.value) (g.O.ByteSink.told c.new-2.result.inner) c.new-2.result.broken c.new-2.result.refused)
+    → P (stream_told (first_in g c)) (stream_told (last_in g c)) (sink_told (first_out g c) (first_out g c) false 0)
 over_streams g c P p =
     let told_in = g.I.ByteSource.told in
     carried P _ _ _ _ _ _ (source-same told_in c.new.result.inner c.args.input c.new.ensures)
     (source-same told_in c.mount-source.result.source.inner c.into_inner.result (sym c.into_inner.ensures))
-    (sink-same g.O.ByteSink.told c.new-2.result.origin.value c.new-2.result.inner c.args.output c.args.output c.new-2.result.refused 0
-    c.new-2.ensures.origin c.new-2.ensures.held c.new-2.ensures.fresh) p
+    (sink-same g.O.ByteSink.told c.new-2.result.origin.value c.new-2.result.inner c.args.output c.args.output c.new-2.result.broken false
+    c.new-2.result.refused 0 c.new-2.ensures.origin c.new-2.ensures.held c.new-2.ensures.broken c.new-2.ensures.fresh) p
 
 -- how the output stands at last
 stands_at : (g : Over) (c : goal.After-into_inner-2 g) → ∥ Stands (sink_at g c) (last_out g c) c.mount-source.result.sink.broken ∥₁
 stands_at g c =
     let m = c.mount-source.result in
     subst (λ (k : SinkState). ∥ Stands k (last_out g c) m.sink.broken ∥₁)
-    (sink-same g.O.ByteSink.told m.sink.origin.value c.into_inner-2.result m.sink.origin.value m.sink.inner m.sink.refused m.sink.refused
-    refl c.into_inner-2.ensures.held refl) c.into_inner-2.ensures.stands
+    (sink-same g.O.ByteSink.told m.sink.origin.value c.into_inner-2.result m.sink.origin.value m.sink.inner m.sink.broken m.sink.broken
+    m.sink.refused m.sink.refused refl c.into_inner-2.ensures.held refl refl) c.into_inner-2.ensures.stands
 
 exit_is : (g : Over) (c : goal.After-into_inner-2 g)
     → c.status_of.result ≡ status c.mount-source.result.outcome c.mount-source.result.transcript.lost c.mount-source.result.sink.broken

@@ -3,14 +3,13 @@ use Rattle.std.proofs.Common.{◌≡◌, Err, List, ℕ, subst, take}
 use Rattle.fuse_request.specs.Header.{header, header_of}
 use Rattle.fuse_reply.specs.Answer.Answer.{Empty}
 use Rattle.fuse_reply.specs.Frame.{reply}
-use Rattle.fuse_reply.specs.declared.out.Out.{Out}
 use Rattle.fuse_reply.specs.declared.out.Out.TheVariants.{Frame}
 use Rattle.fuse_session.specs.Progress.{DeliversOnce}
 use Rattle.fuse_session.specs.Verdict.{id_of}
 use Rattle.fuse_session.specs.Decided.{Arrives}
 use Rattle.fuse_session.specs.declared.incoming.Incoming.TheVariants as found
 use Rattle.fuse_session.proofs.LoopSteps.{Run-gone, Run-failed, Run-broken, Run-destroyed, RunOn-next}
-use Rattle.fuse_session.proofs.Serving.{whole-good, whole-destroy, incoming-request}
+use Rattle.fuse_session.proofs.Serving.{incoming-request}
 use Rattle.fuse_session.proofs.event_loop.take_turn.Goals as goal
 
 pub returns-in-Gone : goal.returns-in-Gone
@@ -31,7 +30,7 @@ returns-in-Destroy g c = λ place number.
     subst (λ (x : List ℕ). Arrives (found.Destroy c.in-Destroy.id) x) c.message.ensures c.in-Destroy.ensures in
     Run-destroyed (g.W.Work.owed c.args.work.now) place c.args.seq c.in-Message.count c.args.channel.now c.take_message.new.self c.answer_destroy.new.channel
     (Frame (reply (id_of m) Empty)) c.in-Message.ensures number arrives.0
-    (g.met.W.Work.owed_to_destroy c.args.work.now c.args.seq m arrives.0) tt (whole-destroy m arrives.0)
+    (g.met.W.Work.owed_to_destroy c.args.work.now c.args.seq m arrives.0) tt
     (subst (λ (id : ℕ). DeliversOnce (Frame (reply id Empty)) c.take_message.new.self c.answer_destroy.new.channel) arrives.1
     c.answer_destroy.ensures)
 
@@ -43,4 +42,4 @@ returns-in-Request g c = λ place number.
     let h = header_of c.in-Request.request in
     RunOn-next (g.W.Work.owed c.args.work.now) place c.args.seq c.in-Message.count c.args.channel.now c.take_message.new.self c.deliver.new.self
     c.answer-out.result c.in-Message.ensures number (incoming-request m h arrives.0.0 arrives.1)
-    (c.answer-out.ensures.owed m arrives.0) c.answer-out.ensures.prompt (whole-good m h arrives.0.0) c.deliver.ensures
+    (c.answer-out.ensures.owed m arrives.0) c.answer-out.ensures.prompt c.deliver.ensures

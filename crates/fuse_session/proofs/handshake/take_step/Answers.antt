@@ -1,13 +1,12 @@
 -- One step of the handshake: no message, one that ends it, or one after which the next is awaited.
-use Rattle.std.proofs.Common.{◌≡◌, Result, Ok, Err, List, ℕ, sym, subst, ap, ◌∙◌, take, pos, refl}
-use Rattle.fuse_reply.specs.Answer.Answer.{Error}
-use Rattle.fuse_reply.specs.Frame.{reply, frame}
+use Rattle.std.proofs.Common.{Result, List, ℕ, sym, subst, ap, ◌∙◌, take, pos, refl}
+use Rattle.fuse_reply.specs.Frame.{frame}
 use Rattle.fuse_reply.specs.declared.out.Out.{Out}
 use Rattle.fuse_reply.specs.declared.out.Out.TheVariants.{Frame}
 use Rattle.fuse_session.specs.Handshake.{greeting}
 use Rattle.fuse_session.specs.HandshakeStep.{HandshakeRun}
 use Rattle.fuse_session.specs.Progress.{DeliversOnce}
-use Rattle.fuse_session.specs.declared.greeting.Greeting.TheVariants.{Silent, NotInit, Old, Newer, Offered}
+use Rattle.fuse_session.specs.declared.greeting.Greeting.TheVariants.{NotInit, Old}
 use Rattle.fuse_session.specs.declared.greeting.HandshakeError.{HandshakeError}
 use Rattle.fuse_session.specs.declared.greeting.HandshakeError.TheVariants.{InvalidData, Unsupported}
 use Rattle.fuse_session.specs.declared.error.InvalidData.TheVariants as invalid

@@ -9,6 +9,6 @@ invariant_of-result g c =
     let told = g.O.ByteSink.told in
     record {
       stands =
-          subst (λ origin. ∥ Stands (stream_told (told origin) (told c.args.inner) 0) (told c.args.inner) false ∥₁)
+          subst (λ origin. ∥ Stands (stream_told (told origin) (told c.args.inner) false 0) (told c.args.inner) false ∥₁)
           (sym c.of-origin.ensures) (merely (Stands-new (told c.args.inner)));
     }
