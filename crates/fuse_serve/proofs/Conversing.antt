@@ -14,10 +14,10 @@ use Rattle.fuse_wire.specs.StreamSink.{Stands, stream_told as sink_told}
 use Rattle.fuse_reply.specs.declared.out.Out.{Out}
 use Rattle.fuse_session.specs.Incoming.{Incoming, EndsAfter, EndsWell, incoming}
 use Rattle.fuse_session.specs.Incoming.Incoming.{Broken, Destroy, Request}
-use Rattle.fuse_session.specs.Handshake.{HandshakeEnd, MayRefuse}
+use Rattle.fuse_session.specs.Handshake.{HandshakeEnd}
 use Rattle.fuse_session.specs.Exchange.{Setup, Outcome, EndedBy, Dialogue, Exchange, Mounted}
 use Rattle.fuse_session.specs.Headline.{Headline}
-use Rattle.fuse_session.specs.Complete.{OpensWell, SessionWell}
+use Rattle.fuse_session.specs.Complete.{AcceptsAll, OpensWell, SessionWell}
 use Rattle.fuse_session.specs.Progress.{nothing_yet, progress}
 use Rattle.fuse_session.specs.declared.transcript.Transcript.{Transcript}
 use Rattle.fuse_session.specs.declared.error.SessionError.TheVariants as session
@@ -41,17 +41,17 @@ EndsWell-map [] P Q f p = f p
 EndsWell-map (m ∷ ms) P Q f p = ends-map (incoming m) ms (EndsWell ms P) (EndsWell ms Q) (EndsWell-map ms P Q f) p
 
 -- and so why a session ended
-EndedBy-map : (o : Outcome) (refuses : ℕ → Type 0) (threads : Option ℕ) (end : HandshakeEnd) (answered refused : List (List ℕ))
+EndedBy-map : (o : Outcome) (threads : Option ℕ) (end : HandshakeEnd) (answered refused : List (List ℕ))
     (P Q F G : Type 0) → (P → Q) → (F → G)
-    → EndedBy o refuses threads end answered refused P F → EndedBy o refuses threads end answered refused Q G
-EndedBy-map (Ok u) refuses threads end answered refused P Q F G none failed e = (e.0, e.1, EndsWell-map answered P Q none e.2)
-EndedBy-map (Err session.Memory) refuses threads end answered refused P Q F G none failed e = e
-EndedBy-map (Err session.NotConnected) refuses threads end answered refused P Q F G none failed e = (e.0, none e.1)
-EndedBy-map (Err (session.InvalidData d)) refuses threads end answered refused P Q F G none failed e = e
-EndedBy-map (Err (session.Unsupported v)) refuses threads end answered refused P Q F G none failed e = e
-EndedBy-map (Err (session.Init n)) refuses threads end answered refused P Q F G none failed e = e
-EndedBy-map (Err session.Threads) refuses threads end answered refused P Q F G none failed e = e
-EndedBy-map (Err session.Receive) refuses threads end answered refused P Q F G none failed e = (failed e.0, e.1)
+    → EndedBy o threads end answered refused P F → EndedBy o threads end answered refused Q G
+EndedBy-map (Ok u) threads end answered refused P Q F G none failed e = (e.0, e.1, EndsWell-map answered P Q none e.2)
+EndedBy-map (Err session.Memory) threads end answered refused P Q F G none failed e = e
+EndedBy-map (Err session.NotConnected) threads end answered refused P Q F G none failed e = (e.0, none e.1)
+EndedBy-map (Err (session.InvalidData d)) threads end answered refused P Q F G none failed e = e
+EndedBy-map (Err (session.Unsupported v)) threads end answered refused P Q F G none failed e = e
+EndedBy-map (Err (session.Init n)) threads end answered refused P Q F G none failed e = e
+EndedBy-map (Err session.Threads) threads end answered refused P Q F G none failed e = e
+EndedBy-map (Err session.Receive) threads end answered refused P Q F G none failed e = (failed e.0, e.1)
 
 Dialogue-map : {X : Type 0} {setup : Setup X} {fs fs1 : X} {o : Outcome} {P F : Type 0} {ms sent : List (List ℕ)} {notes : List Note}
     {lost : List Out} (Q G : Type 0)
@@ -72,16 +72,12 @@ Dialogue-map {X} {setup} {fs} {fs1} {o} {P} {F} Q G none failed d = record {
   in_order = d.in_order;
   said = d.said;
   missed = d.missed;
-  ended = EndedBy-map o (MayRefuse setup.promise.may_init fs) setup.threads d.end d.answered d.refused P Q F G none failed d.ended;
+  ended = EndedBy-map o setup.threads d.end d.answered d.refused P Q F G none failed d.ended;
 }
 
 -- the tree refuses no INIT
-accepts : {form : ServeForm} {tree tree1 : Hello} {P F : Type 0} {ms sent : List (List ℕ)} {notes : List Note} {lost : List Out} (o : Outcome)
-    → Dialogue (form_setup form) tree tree1 o P F ms sent notes lost → (n : ℕ) → o ≢ Err (session.Init n)
-accepts {form} {tree} {tree1} {P} {F} {ms} {sent} {notes} {lost} o d n is =
-    let e : Dialogue (form_setup form) tree tree1 (Err (session.Init n)) P F ms sent notes lost =
-    subst (λ (o : Outcome). Dialogue (form_setup form) tree tree1 o P F ms sent notes lost) is d in
-    let ok = e.ended.1.allowed.0 in let no : ⊥ = cc in no
+pub AcceptsAll-tree : (tree : Hello) → AcceptsAll tree_may_init tree
+AcceptsAll-tree tree = λ request config0 config e fs1 allowed. let is = allowed.0 in let no : ⊥ = cc in no
 
 -- what was lost, or a write that failed, was counted by the output
 rose-counted : (lost : ℕ) (output output' : ByteSinkState) (sink : SinkState) (broken : Bool)
@@ -96,8 +92,9 @@ pub ByteExchange-mounted : (form : ServeForm) (exit : ℕ) (outcome : Outcome) (
     (sink : SinkState) (broken : Bool) (v : Transcript) (tree tree' : Hello)
     → Mounted (form_setup form) tree tree' outcome (progress (stream_told input) (sink_told output output false 0) nothing_yet)
     (progress (stream_told input') sink v)
-    → ∥ Stands sink output' broken ∥₁ → exit ≡ status outcome v.lost broken → ByteExchange form exit input input' output output'
-ByteExchange-mounted form exit outcome input input' output output' sink broken v tree tree' mounted stands is = record {
+    → ((e : ℕ) → outcome ≢ Err (session.Init e)) → ∥ Stands sink output' broken ∥₁ → exit ≡ status outcome v.lost broken
+    → ByteExchange form exit input input' output output'
+ByteExchange-mounted form exit outcome input input' output output' sink broken v tree tree' mounted accepted stands is = record {
   tree = tree;
   tree1 = mounted.fs1;
   tree' = tree';
@@ -111,7 +108,7 @@ ByteExchange-mounted form exit outcome input input' output output' sink broken v
   broken = broken;
   status_is = is ∙ (ap (λ (n : ℕ). status outcome n broken) lost_is ∙ status-counted outcome (length x.lost) broken);
   dialogue = Dialogue-map (NoByteLeft input') (InputFailed input input') (NoByteLeft-nothing input') (λ failed. failed) x.dialogue;
-  accepted = accepts outcome x.dialogue;
+  accepted = accepted;
   destroyed = mounted.destroyed;
   front = Fronts-begins x.turns input x.begins;
   read = λ other. TakesBytes-takes x.turns input input' (x.taken other);
@@ -165,7 +162,7 @@ SessionWell-bytes form input input' output output' tree fine = record {
   turns = cut fine.bytes;
   told = ap (option_map cut) fine.told;
   opens_well = subst OpensWell (sym (front-whole fine.bytes (cut fine.bytes) [] (sym (append-nil (cut fine.bytes))))) fine.opens_well;
-  accepts = λ request config0 config e fs1 allowed. let is = allowed.0 in let no : ⊥ = cc in no;
+  accepts = AcceptsAll-tree tree;
   served = λ is. threads-some form.threads fine.served is;
   same = fine.input_still.0;
   counts = let same = fine.input_still.0 in let low = fine.input_still.1 in omega arith;

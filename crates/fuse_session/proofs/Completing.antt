@@ -17,14 +17,14 @@ use Rattle.fuse_session.specs.Promise.{MayInit}
 use Rattle.fuse_session.specs.Incoming.{incoming, incoming_by, AllGoOn}
 use Rattle.fuse_session.specs.Incoming.Incoming.{Broken, Request}
 use Rattle.fuse_session.specs.Handshake.{greeting, greeting_by_header, greeting_by_operation, greeting_by_version, offer_of, is_old, Greets}
-use Rattle.fuse_session.specs.Handshake.{NegotiationReply, Handshake, HandshakeEnd, MayRefuse}
+use Rattle.fuse_session.specs.Handshake.{NegotiationReply, Handshake, HandshakeEnd}
 use Rattle.fuse_session.specs.Handshake.HandshakeEnd.{Open, Accepted, Failed}
 use Rattle.fuse_session.specs.Exchange.{Setup, Outcome, EndedBy, Dialogue, Exchange}
 use Rattle.fuse_session.specs.Complete.{IsInit, GoodHeaders, OpensWell, AcceptsAll, SessionWell}
 use Rattle.fuse_session.specs.Progress.{Progress}
 use Rattle.fuse_session.specs.declared.error.SessionError.TheVariants as session
 use Rattle.fuse_session.specs.declared.greeting.Greeting.{Greeting}
-use Rattle.fuse_session.specs.declared.greeting.Greeting.TheVariants.{Newer, Old, Offered}
+use Rattle.fuse_session.specs.declared.greeting.Greeting.TheVariants.{Silent, NotInit, Newer, Old, Offered}
 use Rattle.fuse_session.specs.declared.greeting.HandshakeError.{HandshakeError}
 use Rattle.fuse_session.specs.declared.greeting.HandshakeError.TheVariants.{InvalidData, Unsupported, Init}
 use Rattle.fuse_session.specs.declared.greeting.Offer.{Offer}
@@ -95,6 +95,34 @@ handshake-well may_init page fs fs1 (m ∷ ms) rest frames end accepts p w =
     (λ well after h. handshake-well may_init page fs fs1 ms rest after end accepts h well)
     (subst (λ (g : Greeting). Greets may_init page fs g ms frames fs1 end (λ after. Handshake may_init page fs ms after fs1 end))
     (greeting-init m w.0 w.1) p) w.2
+
+-- a message after which the handshake has ended by an error of `init`
+refused-greeting : {F : Type 0} (may_init : MayInit F) (page : ℕ) (fs fs1 : F) (g : Greeting) (ms frames : List (List ℕ)) (n : ℕ)
+    (later : List (List ℕ) → Type 0)
+    → AcceptsAll may_init fs → ((rest : List (List ℕ)) → later rest → ⊥) → Greets may_init page fs g ms frames fs1 (Failed (Init n)) later → ⊥
+refused-greeting may_init page fs fs1 (Silent d) ms frames n later accepts more greets = let is = greets.3 in cc
+refused-greeting may_init page fs fs1 (NotInit id opcode) ms frames n later accepts more greets = let is = greets.3 in cc
+refused-greeting may_init page fs fs1 (Old id v) ms frames n later accepts more greets = let is = greets.3 in cc
+refused-greeting may_init page fs fs1 (Newer id) ms frames n later accepts more greets = more greets.0 greets.2
+refused-greeting may_init page fs fs1 (Offered request offer) ms frames n later accepts more greets =
+    let p = greets.1 in
+    let is : Failed (Init n) ≡ Accepted =
+    negotiates-well may_init page fs fs1 request offer p.config p.result frames (Failed (Init n)) accepts p.allowed p.replies in cc
+
+refused-handshake : {F : Type 0} (may_init : MayInit F) (page : ℕ) (fs fs1 : F) (ms frames : List (List ℕ)) (n : ℕ)
+    → AcceptsAll may_init fs → Handshake may_init page fs ms frames fs1 (Failed (Init n)) → ⊥
+refused-handshake may_init page fs fs1 [] frames n accepts p = let is = p.2 in cc
+refused-handshake may_init page fs fs1 (m ∷ ms) frames n accepts p =
+    refused-greeting may_init page fs fs1 (greeting m) ms frames n (λ rest. Handshake may_init page fs ms rest fs1 (Failed (Init n))) accepts
+    (λ rest h. refused-handshake may_init page fs fs1 ms rest n accepts h) p
+
+-- where `init` refuses nothing, no session ends by its error
+pub never-refused : {F : Type 0} {setup : Setup F} {fs fs1 : F} {p q : Progress} (n : ℕ) → Exchange setup fs fs1 (Err (session.Init n)) p q
+    → AcceptsAll setup.promise.may_init fs → ⊥
+never-refused {F} {setup} {fs} {fs1} {p} {q} n exchange accepts =
+    let d = exchange.dialogue in
+    refused-handshake setup.promise.may_init setup.page fs fs1 d.hs d.handshake_replies n accepts
+    (subst (λ (end : HandshakeEnd). Handshake setup.promise.may_init setup.page fs d.hs d.handshake_replies fs1 end) d.ended.0 d.handshake)
 
 -- a message without a good header does not stand first among good ones
 good-here : (m : List ℕ) (ms : List (List ℕ)) (e : RequestError) → header m ≡ Err e → GoodHeaders (m ∷ ms) → ⊥
@@ -201,7 +229,7 @@ Ok-from_exchange {F} {setup} {fs} {fs1} {p} {q} (Err (session.InvalidData d)) ex
     answered = exchange.dialogue.answered
 
     by_part : (left : List (List ℕ)) → GoesWell exchange.dialogue.end (answered ++ (exchange.dialogue.refused ++ map message left))
-        → EndedBy (Err (session.InvalidData d)) (MayRefuse setup.promise.may_init fs) setup.threads exchange.dialogue.end answered exchange.dialogue.refused
+        → EndedBy (Err (session.InvalidData d)) setup.threads exchange.dialogue.end answered exchange.dialogue.refused
         (NothingLeft q.source) (SourceFailed p.source q.source) → ⊥
     by_part left goes (inl e) =
         not-failed (InvalidData d) exchange.dialogue.end (answered ++ (exchange.dialogue.refused ++ map message left)) e.0 goes
@@ -212,7 +240,7 @@ Ok-from_exchange {F} {setup} {fs} {fs1} {p} {q} (Err (session.InvalidData d)) ex
 Ok-from_exchange (Err (session.Unsupported v)) exchange well =
     absurd (not-failed (Unsupported v) exchange.dialogue.end _ exchange.dialogue.ended.0 (goes-well exchange (exchange.taken (λ is. cc)) well).2)
 Ok-from_exchange (Err (session.Init e)) exchange well =
-    absurd (not-failed (Init e) exchange.dialogue.end _ exchange.dialogue.ended.0.0 (goes-well exchange (exchange.taken (λ is. cc)) well).2)
+    absurd (not-failed (Init e) exchange.dialogue.end _ exchange.dialogue.ended.0 (goes-well exchange (exchange.taken (λ is. cc)) well).2)
 Ok-from_exchange (Err session.Threads) exchange well = absurd (well.served exchange.dialogue.ended.1)
 Ok-from_exchange {F} {setup} {fs} {fs1} {p} {q} (Err session.Receive) exchange well =
     absurd (no-failure p.source q.source well.same well.counts exchange.dialogue.ended.0)

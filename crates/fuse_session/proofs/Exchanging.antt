@@ -8,7 +8,7 @@ use Rattle.fuse_reply.specs.declared.out.Out.TheVariants.{Frame}
 use Rattle.fuse_session.specs.Incoming.{Incoming, EndsAfter, EndsWell, AllGoOn, incoming}
 use Rattle.fuse_session.specs.Incoming.Incoming.{Destroy}
 use Rattle.fuse_session.specs.Owed.{Owed}
-use Rattle.fuse_session.specs.Handshake.{HandshakeEnd, MayRefuse}
+use Rattle.fuse_session.specs.Handshake.{HandshakeEnd}
 use Rattle.fuse_session.specs.HandshakeStep.{HandshakeRun}
 use Rattle.fuse_session.specs.EventLoop.{Run, RunEnds}
 use Rattle.fuse_session.specs.Exchange.{Setup, Outcome, Served, EndedBy, Exchange}
@@ -41,7 +41,7 @@ EndsWell-last last none_left is = subst (λ (i : Incoming). EndsAfter i [] (Ends
 -- a session that was no more than its handshake
 alone : {F : Type 0} {setup : Setup F} {fs fs1 : F} {found : HandshakeOutcome} {p q : Progress} (result : Outcome)
     (shook : HandshakeRun setup.promise.may_init setup.page found fs fs1 p q) → (result ≢ Err Receive → Takes shook.turns p.source q.source)
-    → EndedBy result (MayRefuse setup.promise.may_init fs) setup.threads shook.end [] [] (NothingLeft q.source) (SourceFailed p.source q.source)
+    → EndedBy result setup.threads shook.end [] [] (NothingLeft q.source) (SourceFailed p.source q.source)
     → Exchange setup fs fs1 result p q
 alone {F} {setup} {fs} {fs1} {found} {p} {q} result shook takes ends = record {
   turns = shook.turns;
@@ -90,27 +90,27 @@ Exchange-failed shook = alone (Err Receive) shook (λ other. absurd (other refl)
 pub Exchange-refused : {F : Type 0} {setup : Setup F} {fs fs1 : F} {p q : Progress} (e : HandshakeError)
     → HandshakeRun setup.promise.may_init setup.page (outcome.Refused e) fs fs1 p q → Exchange setup fs fs1 (Err (handshake_error e)) p q
 Exchange-refused (refusal.InvalidData d) shook =
-    alone (Err (handshake_error (refusal.InvalidData d))) shook (λ _. shook.taken (λ is. cc)) (inl (shook.ended.0, refl, refl))
+    alone (Err (handshake_error (refusal.InvalidData d))) shook (λ _. shook.taken (λ is. cc)) (inl (shook.ended, refl, refl))
 Exchange-refused (refusal.Unsupported v) shook =
-    alone (Err (handshake_error (refusal.Unsupported v))) shook (λ _. shook.taken (λ is. cc)) (shook.ended.0, refl, refl)
+    alone (Err (handshake_error (refusal.Unsupported v))) shook (λ _. shook.taken (λ is. cc)) (shook.ended, refl, refl)
 Exchange-refused (refusal.Init n) shook =
-    alone (Err (handshake_error (refusal.Init n))) shook (λ _. shook.taken (λ is. cc)) ((shook.ended.0, refl, refl), shook.ended.1)
+    alone (Err (handshake_error (refusal.Init n))) shook (λ _. shook.taken (λ is. cc)) (shook.ended, refl, refl)
 
 -- why a session ended whose run ended so
-ended-run : (end : End) (refuses : ℕ → Type 0) (threads : Option ℕ) (shook : HandshakeEnd) (answered refused : List (List ℕ))
+ended-run : (end : End) (threads : Option ℕ) (shook : HandshakeEnd) (answered refused : List (List ℕ))
     (none_left failed failed' : Type 0)
     → Served threads shook → (failed → failed') → RunEnds end answered refused none_left failed
-    → EndedBy (run_outcome end) refuses threads shook answered refused none_left failed'
-ended-run Gone refuses threads shook answered refused none_left failed failed' served longer e =
+    → EndedBy (run_outcome end) threads shook answered refused none_left failed'
+ended-run Gone threads shook answered refused none_left failed failed' served longer e =
     (served, e.0, EndsWell-all answered none_left e.1 e.2)
-ended-run Destroyed refuses threads shook answered refused none_left failed failed' served longer e = (
+ended-run Destroyed threads shook answered refused none_left failed failed' served longer e = (
   served,
   e.0,
   subst (λ (ms : List (List ℕ)). EndsWell ms none_left) (sym e.1.2)
       (EndsWell-after e.1.0 (e.1.1 ∷ []) none_left e.1.3 (EndsWell-last e.1.1 none_left e.1.4)),
 )
-ended-run (Broken r) refuses threads shook answered refused none_left failed failed' served longer e = inr (served, e.1, (r, refl, e.0))
-ended-run Failed refuses threads shook answered refused none_left failed failed' served longer e = (longer e.2, inr (served, e.1, e.0))
+ended-run (Broken r) threads shook answered refused none_left failed failed' served longer e = inr (served, e.1, (r, refl, e.0))
+ended-run Failed threads shook answered refused none_left failed failed' served longer e = (longer e.2, inr (served, e.1, e.0))
 
 -- a session with a run after its handshake
 pub Exchange-ran : {F : Type 0} {setup : Setup F} {fs fs1 : F} {end : End} {p q r : Progress} → setup.threads ≢ Some 0
@@ -137,7 +137,7 @@ Exchange-ran {F} {setup} {fs} {fs1} {end} {p} {q} {r} some shook run = record {
     in_order = run.order;
     said = refl;
     missed = refl;
-    ended = ended-run end (MayRefuse setup.promise.may_init fs) setup.threads shook.end run.answered run.refused
+    ended = ended-run end setup.threads shook.end run.answered run.refused
         (NothingLeft r.source) (SourceFailed q.source r.source)
         (SourceFailed p.source r.source) (shook.ended, some) (Failed-after p.source q.source r.source took.faults) run.ended;
   };

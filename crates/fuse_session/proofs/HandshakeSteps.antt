@@ -12,9 +12,9 @@ use Rattle.fuse_reply.specs.declared.out.Out.TheVariants.{Frame}
 use Rattle.fuse_reply.specs.Answer.Answer.{Error}
 use Rattle.fuse_reply.specs.Frame.{reply, frame}
 use Rattle.fuse_session.specs.Promise.{MayInit}
-use Rattle.fuse_session.specs.Handshake.{greeting, Greets, Negotiates, HandshakeEnd, Handshake, LeavesOut, MayRefuse}
+use Rattle.fuse_session.specs.Handshake.{greeting, Greets, Negotiates, HandshakeEnd, Handshake, LeavesOut}
 use Rattle.fuse_session.specs.Handshake.HandshakeEnd.{Open, Accepted, Failed}
-use Rattle.fuse_session.specs.HandshakeStep.{HandshakeRun, HandshakeOn, HandshakeEnds, RefusedBy, Negotiated, NegotiatedBy}
+use Rattle.fuse_session.specs.HandshakeStep.{HandshakeRun, HandshakeOn, HandshakeEnds, Negotiated, NegotiatedBy}
 use Rattle.fuse_session.specs.Progress.{Progress, ChannelState, TakesNext, Moves, DeliversOnce, SinkUntouched}
 use Rattle.fuse_session.specs.declared.taken.Taken.TheVariants.{Message, Gone as NoneLeft, Failed as NoneCame}
 use Rattle.fuse_session.specs.declared.greeting.Greeting.{Greeting}
@@ -48,7 +48,7 @@ moves-then_frames {fs} {gs} {p} {q} {r} xs ys js ls first second =
 -- no message came
 none : {F : Type 0} {may_init : MayInit F} {page : ℕ} {fs : F} {found : HandshakeOutcome} {p q : Progress}
     → SinkUntouched p q → (found ≢ outcome.Failed → Takes [] p.source q.source)
-    → HandshakeEnds found Open (MayRefuse may_init fs) (NothingLeft q.source) (SourceFailed p.source q.source) → HandshakeRun may_init page found fs fs p q
+    → HandshakeEnds found Open (NothingLeft q.source) (SourceFailed p.source q.source) → HandshakeRun may_init page found fs fs p q
 none {F} {may_init} {page} {fs} {found} {p} {q} same takes ends = record {
   turns = [];
   replies = [];
@@ -94,7 +94,7 @@ HandshakeRun-silent may_init page fs d n a b next is = record {
   moved = Moves-received a.progress b.progress next.1 next.2;
   begins = Begins-from_takes (next.0.turn ∷ []) a.progress.source b.progress.source next.0.taken;
   taken = λ _. next.0.taken;
-  ended = (refl, tt);
+  ended = refl;
 }
 
 -- a message was taken and its frame handed to the sink, which may have lost it
@@ -132,7 +132,7 @@ replied {f} n a b c next hands =
 closes : {F : Type 0} {may_init : MayInit F} {page : ℕ} {fs fs1 : F} {found : HandshakeOutcome} (end : HandshakeEnd) (f : List ℕ) (n : ℕ) (a b c : ChannelState)
     (next : TakesNext (Message n) a b) → DeliversOnce (Frame f) b c
     → Handshake may_init page fs (message next.0.turn ∷ []) (f ∷ []) fs1 end
-    → HandshakeEnds found end (MayRefuse may_init fs) (NothingLeft c.progress.source) (SourceFailed a.progress.source c.progress.source)
+    → HandshakeEnds found end (NothingLeft c.progress.source) (SourceFailed a.progress.source c.progress.source)
     → HandshakeRun may_init page found fs fs1 a.progress c.progress
 closes end f n a b c next hands handshake ends =
     let r : Replied f next.0.turn a.progress c.progress = replied n a b c next hands in
@@ -155,13 +155,12 @@ pub HandshakeRun-refused : {F : Type 0} (may_init : MayInit F) (page : ℕ) (fs 
     (n : ℕ) (a b c : ChannelState)
     → TakesNext (Message n) a b → g ≡ greeting (take n b.buffer) → DeliversOnce (Frame (reply id.0 (Error errno))) b c
     → Greets may_init page fs g [] (reply id.0 (Error errno) ∷ []) fs (Failed e) (λ rest. Handshake may_init page fs [] rest fs (Failed e))
-    → RefusedBy (MayRefuse may_init fs) e
     → HandshakeRun may_init page (outcome.Refused e) fs fs a.progress c.progress
-HandshakeRun-refused may_init page fs g id errno e n a b c next is hands greets refused =
+HandshakeRun-refused may_init page fs g id errno e n a b c next is hands greets =
     closes (Failed e) (reply id.0 (Error errno)) n a b c next hands
     (one-message may_init page fs fs (message next.0.turn) g (reply id.0 (Error errno) ∷ []) (Failed e)
     (is ∙ ap greeting next.0.bytes) greets)
-    (refl, refused)
+    refl
 
 -- how what `init` answered ends the handshake
 abbrev pub accepted_outcome : Result (Unit {0}) HandshakeError → HandshakeOutcome
@@ -195,7 +194,7 @@ HandshakeRun-offered {F} may_init page fs fs1 request offer out accepted n a b c
         (subst (λ (o : Out). DeliversOnce o b c) answered.0 hands)
         (handshake (reply request.unique.0 (Error errno)) (Failed (Init errno))
         (record { config = negotiated.config; result = Err errno; allowed = allowed; replies = (refl, refl, answered.2) }))
-        (refl, record { request = request; offer = offer; config = negotiated.config; fs1 = fs1; allowed = allowed }))
+        refl)
     by_result (Ok u) allowed answered =
         let f : List ℕ = frame request.unique.0 (pos 0) (init_payload negotiated.config offer.capabilities.0 offer.version.1 page) in
         subst (λ (x : Result (Unit {0}) HandshakeError). HandshakeRun may_init page (accepted_outcome x) fs fs1 a.progress c.progress) (sym answered.1)
@@ -266,12 +265,12 @@ HandshakeOn-then {F} {may_init} {page} {fs} {fs1} {fs2} {p} {q} {r} first second
 }
 
 -- how a handshake ends whose first messages were answered
-HandshakeEnds-after : (found : HandshakeOutcome) (end : HandshakeEnd) (refuses : ℕ → Type 0) (none_left failed failed' : Type 0) → (failed → failed')
-    → HandshakeEnds found end refuses none_left failed → HandshakeEnds found end refuses none_left failed'
-HandshakeEnds-after outcome.Accepted end refuses none_left failed failed' longer e = e
-HandshakeEnds-after outcome.Gone end refuses none_left failed failed' longer e = e
-HandshakeEnds-after (outcome.Refused d) end refuses none_left failed failed' longer e = e
-HandshakeEnds-after outcome.Failed end refuses none_left failed failed' longer e = (e.0, longer e.1)
+HandshakeEnds-after : (found : HandshakeOutcome) (end : HandshakeEnd) (none_left failed failed' : Type 0) → (failed → failed')
+    → HandshakeEnds found end none_left failed → HandshakeEnds found end none_left failed'
+HandshakeEnds-after outcome.Accepted end none_left failed failed' longer e = e
+HandshakeEnds-after outcome.Gone end none_left failed failed' longer e = e
+HandshakeEnds-after (outcome.Refused d) end none_left failed failed' longer e = e
+HandshakeEnds-after outcome.Failed end none_left failed failed' longer e = (e.0, longer e.1)
 
 -- a handshake so far, and its end
 pub HandshakeRun-then : {F : Type 0} {may_init : MayInit F} {page : ℕ} {fs fs1 fs2 : F} {found : HandshakeOutcome} {p q r : Progress}
@@ -290,8 +289,6 @@ HandshakeRun-then {F} {may_init} {page} {fs} {fs1} {fs2} {found} {p} {q} {r} fir
   moved = moves-then_frames first.turns second.turns first.lost second.lost first.moved second.moved;
   begins = Begins-after first.turns second.turns p.source q.source first.taken second.begins;
   taken = λ other. Takes-then first.turns second.turns p.source q.source r.source first.taken (second.taken other);
-  ended = HandshakeEnds-after found second.end (MayRefuse may_init fs) (NothingLeft r.source) (SourceFailed q.source r.source) (SourceFailed p.source r.source)
-      (Failed-after p.source q.source r.source first.taken.faults)
-      (subst (λ (x : F). HandshakeEnds found second.end (MayRefuse may_init x) (NothingLeft r.source) (SourceFailed q.source r.source))
-      first.same second.ended);
+  ended = HandshakeEnds-after found second.end (NothingLeft r.source) (SourceFailed q.source r.source) (SourceFailed p.source r.source)
+      (Failed-after p.source q.source r.source first.taken.faults) second.ended;
 }

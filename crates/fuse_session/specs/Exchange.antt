@@ -12,7 +12,7 @@ use Rattle.fuse_session.specs.Promise.{Promise}
 use Rattle.fuse_session.specs.Incoming.{AllGoOn, EndsWell}
 use Rattle.fuse_session.specs.Owed.{Owed}
 use Rattle.fuse_session.specs.OneEach.{InOrder}
-use Rattle.fuse_session.specs.Handshake.{HandshakeEnd, Handshake, LeavesOut, MayRefuse}
+use Rattle.fuse_session.specs.Handshake.{HandshakeEnd, Handshake, LeavesOut}
 use Rattle.fuse_session.specs.Handshake.HandshakeEnd.{Open, Accepted, Failed}
 use Rattle.fuse_session.specs.Progress.{Progress, Moves, Begins}
 use Rattle.fuse_session.specs.declared.error.InvalidData.TheVariants.{Header}
@@ -50,23 +50,22 @@ abbrev pub HeaderRefused : RequestError → (refused : List (List ℕ)) → Type
 HeaderRefused e refused = (last : List ℕ) × (refused ≡ last ∷ []) × (header last ≡ Err e)
 
 -- Why a session had this outcome. Ok: all later messages were answered, up to the last one there is, or DESTROY. NotConnected: no
--- message was left in the handshake. InvalidData: the handshake ended so, or the last header is refused. Unsupported: the
--- handshake ended so. Init: it ended so, and `init` may refuse so. Threads: it was accepted, but no thread was to serve. Receive: the source failed.
-abbrev pub EndedBy : Outcome → (refuses : ℕ → Type 0) → (threads : Option ℕ) → HandshakeEnd → (answered refused : List (List ℕ)) →
-    (none_left failed : Type 0) → Type 0
-EndedBy (Ok u) refuses threads end answered refused none_left failed =
+-- message was left in the handshake. InvalidData: the handshake ended so, or the last header is refused. Unsupported and Init: the
+-- handshake ended so. Threads: it was accepted, but no thread was to serve. Receive: the source failed.
+abbrev pub EndedBy : Outcome → (threads : Option ℕ) → HandshakeEnd → (answered refused : List (List ℕ)) → (none_left failed : Type 0) → Type 0
+EndedBy (Ok u) threads end answered refused none_left failed =
     Served threads end × (refused ≡ []) × EndsWell answered none_left
-EndedBy (Err Memory) refuses threads end answered refused none_left failed = ⊥
-EndedBy (Err NotConnected) refuses threads end answered refused none_left failed = HandshakeAlone Open end answered refused × none_left
-EndedBy (Err (InvalidData d)) refuses threads end answered refused none_left failed =
+EndedBy (Err Memory) threads end answered refused none_left failed = ⊥
+EndedBy (Err NotConnected) threads end answered refused none_left failed = HandshakeAlone Open end answered refused × none_left
+EndedBy (Err (InvalidData d)) threads end answered refused none_left failed =
     HandshakeAlone (Failed (refusal.InvalidData d)) end answered refused
     ⊎ (Served threads end × AllGoOn answered × ((e : RequestError) × (d ≡ Header e) × HeaderRefused e refused))
-EndedBy (Err (Unsupported v)) refuses threads end answered refused none_left failed =
+EndedBy (Err (Unsupported v)) threads end answered refused none_left failed =
     HandshakeAlone (Failed (refusal.Unsupported v)) end answered refused
-EndedBy (Err (Init e)) refuses threads end answered refused none_left failed =
-    HandshakeAlone (Failed (refusal.Init e)) end answered refused × refuses e
-EndedBy (Err Threads) refuses threads end answered refused none_left failed = HandshakeAlone Accepted end answered refused × (threads ≡ Some 0)
-EndedBy (Err Receive) refuses threads end answered refused none_left failed =
+EndedBy (Err (Init e)) threads end answered refused none_left failed =
+    HandshakeAlone (Failed (refusal.Init e)) end answered refused
+EndedBy (Err Threads) threads end answered refused none_left failed = HandshakeAlone Accepted end answered refused × (threads ≡ Some 0)
+EndedBy (Err Receive) threads end answered refused none_left failed =
     failed × (HandshakeAlone Open end answered refused ⊎ (Served threads end × AllGoOn answered × (refused ≡ [])))
 
 -- What was heard and said, whatever carried it: these messages were taken, these replies and notes were sent, and these replies and
@@ -91,7 +90,7 @@ pub record Dialogue {F : Type 0} (setup : Setup F) (fs fs1 : F) (outcome : Outco
   pub in_order : InOrder (Owed setup.promise fs1 setup.acl setup.owner) 0 answered later_sent notes lost_later
   pub said : sent ≡ handshake_sent ++ later_sent
   pub missed : lost ≡ map Frame lost_first ++ lost_later
-  pub ended : EndedBy outcome (MayRefuse setup.promise.may_init fs) setup.threads end answered refused none_left failed
+  pub ended : EndedBy outcome setup.threads end answered refused none_left failed
 
 -- A session between a source and a sink. Where the source failed, what it tells after the messages taken is not known.
 pub record Exchange {F : Type 0} (setup : Setup F) (fs fs1 : F) (outcome : Outcome) (before after : Progress) : Type 0 where

@@ -115,11 +115,3 @@ LeavesOut lost [] written = (written ≡ []) × (lost ≡ [])
 LeavesOut lost (f ∷ fs) written =
     ((rest : List (List ℕ)) × (written ≡ f ∷ rest) × LeavesOut lost fs rest)
     ⊎ ((rest : List (List ℕ)) × (lost ≡ f ∷ rest) × LeavesOut rest fs written)
-
--- `init` may refuse an INIT with this error, from the start values of what is offered
-pub record MayRefuse {F : Type 0} (may_init : MayInit F) (fs : F) (errno : ℕ) : Type 0 where
-  pub request : Request
-  pub offer : Offer
-  pub config : Configuration
-  pub fs1 : F
-  pub allowed : may_init fs request (start offer.capabilities.0 offer.max_readahead offer.version) (Err errno) fs1 config

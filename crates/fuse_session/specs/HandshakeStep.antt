@@ -10,12 +10,12 @@ use Rattle.fuse_reply.specs.Frame.{frame, reply}
 use Rattle.fuse_reply.specs.declared.out.Out.{Out}
 use Rattle.fuse_reply.specs.declared.out.Out.TheVariants.{Frame}
 use Rattle.fuse_session.specs.Promise.{MayInit}
-use Rattle.fuse_session.specs.Handshake.{HandshakeEnd, Handshake, LeavesOut, MayRefuse}
+use Rattle.fuse_session.specs.Handshake.{HandshakeEnd, Handshake, LeavesOut}
 use Rattle.fuse_session.specs.Handshake.HandshakeEnd.{Open, Accepted, Failed as IsFailed}
 use Rattle.fuse_session.specs.Progress.{Progress, Moves, Begins}
 use Rattle.fuse_session.specs.declared.greeting.Offer.{Offer}
 use Rattle.fuse_session.specs.declared.greeting.HandshakeError.{HandshakeError}
-use Rattle.fuse_session.specs.declared.greeting.HandshakeError.TheVariants.{InvalidData, Unsupported, Init}
+use Rattle.fuse_session.specs.declared.greeting.HandshakeError.TheVariants.{Init}
 use Rattle.fuse_session.specs.declared.handshake.HandshakeOutcome.{HandshakeOutcome}
 use Rattle.fuse_session.specs.declared.handshake.HandshakeOutcome.TheVariants as outcome
 
@@ -34,18 +34,12 @@ pub record Negotiated {F : Type 0} (may_init : MayInit F) (page : ℕ) (fs fs1 :
   pub allowed : may_init fs request (start offer.capabilities.0 offer.max_readahead offer.version) result fs1 config
   pub answered : NegotiatedBy request.unique.0 offer page config result out accepted
 
--- the filesystem may refuse so, where it did
-abbrev pub RefusedBy : (refuses : ℕ → Type 0) → HandshakeError → Type 0
-RefusedBy refuses (InvalidData d) = Unit {0}
-RefusedBy refuses (Unsupported v) = Unit {0}
-RefusedBy refuses (Init errno) = refuses errno
-
 -- how the outcome tells of the handshake's end
-abbrev pub HandshakeEnds : HandshakeOutcome → HandshakeEnd → (refuses : ℕ → Type 0) → (none_left failed : Type 0) → Type 0
-HandshakeEnds outcome.Accepted end refuses none_left failed = end ≡ Accepted
-HandshakeEnds outcome.Gone end refuses none_left failed = (end ≡ Open) × none_left
-HandshakeEnds (outcome.Refused e) end refuses none_left failed = (end ≡ IsFailed e) × RefusedBy refuses e
-HandshakeEnds outcome.Failed end refuses none_left failed = (end ≡ Open) × failed
+abbrev pub HandshakeEnds : HandshakeOutcome → HandshakeEnd → (none_left failed : Type 0) → Type 0
+HandshakeEnds outcome.Accepted end none_left failed = end ≡ Accepted
+HandshakeEnds outcome.Gone end none_left failed = (end ≡ Open) × none_left
+HandshakeEnds (outcome.Refused e) end none_left failed = end ≡ IsFailed e
+HandshakeEnds outcome.Failed end none_left failed = (end ≡ Open) × failed
 
 -- a handshake, from its first message on
 pub record HandshakeRun {F : Type 0} (may_init : MayInit F) (page : ℕ) (found : HandshakeOutcome) (fs fs1 : F) (before after : Progress) : Type 0 where
@@ -59,7 +53,7 @@ pub record HandshakeRun {F : Type 0} (may_init : MayInit F) (page : ℕ) (found 
   pub moved : Moves (length turns) sent [] (map Frame lost) before after
   pub begins : Begins turns before.source
   pub taken : found ≢ outcome.Failed → Takes turns before.source after.source
-  pub ended : HandshakeEnds found end (MayRefuse may_init fs) (NothingLeft after.source) (SourceFailed before.source after.source)
+  pub ended : HandshakeEnds found end (NothingLeft after.source) (SourceFailed before.source after.source)
 
 -- a handshake so far, after which the next message is awaited
 pub record HandshakeOn {F : Type 0} (may_init : MayInit F) (page : ℕ) (fs fs1 : F) (before after : Progress) : Type 0 where

@@ -1,7 +1,7 @@
 // Serving a filesystem, from the first message to the last.
-ghost use Rattle.std.specs.Prelude.{◌≡◌, ◌≢◌, ◌<◌, ◌⊎◌, Ok, Err, false, length};
+ghost use Rattle.std.specs.Prelude.{◌≡◌, ◌≢◌, ◌<◌, ◌⊎◌, ℕ, Ok, Err, false, length};
 ghost use Rattle.fuse_session.specs.Progress.{nothing_yet, progress};
-ghost use Rattle.fuse_session.specs.Complete.{SessionWell};
+ghost use Rattle.fuse_session.specs.Complete.{AcceptsAll, SessionWell};
 ghost use Rattle.fuse_session.specs.Exchange.{Exchange, Mounted, setup, setup_of};
 ghost use Rattle.fuse_session.specs.Headline.{Headline, Lossless};
 ghost use Rattle.fuse_session.specs.SessionEnd.{run_outcome};
@@ -131,6 +131,10 @@ pub fn mount<R: Wait + AllocGlobal, FS: Filesystem, S: Source, K: Sink + Send>(
     ensures complete { SessionWell FS.promise.may_init config.now.n_threads filesystem
         (S.told source) (S.told result.source) →
         (result.outcome ≡ Ok tt) ⊎ (result.outcome ≡ Err SessionError.Memory) }
+
+    // Where `init` refuses nothing, its error is not the outcome.
+    ensures accepted { AcceptsAll FS.promise.may_init filesystem →
+        (e : ℕ) → result.outcome ≢ Err (SessionError.Init e) }
 
     // Want of memory leaves all as it was.
     ensures memory { result.outcome ≡ Err SessionError.Memory →

@@ -13,7 +13,7 @@ use Rattle.fuse_session.specs.declared.error.SessionError.TheVariants.{Memory}
 use Rattle.fuse_serve.specs.Program.{ByteExchange, form_setup}
 use Rattle.fuse_serve.specs.Status.{status}
 use Rattle.fuse_serve.specs.Tree.{tree_promise, tree_may_init}
-use Rattle.fuse_serve.proofs.Conversing.{ByteExchange-mounted, EachAnswered-headline, SessionWell-bytes, complete-status}
+use Rattle.fuse_serve.proofs.Conversing.{AcceptsAll-tree, ByteExchange-mounted, EachAnswered-headline, SessionWell-bytes, complete-status}
 use Rattle.fuse_serve.proofs.Statuses.{zero-status}
 use Rattle.fuse_serve.proofs.Streams.{source-same, sink-same, carried}
 use Rattle.fuse_serve.proofs.program.serve_tree.Given.{Over}
@@ -74,7 +74,7 @@ exchanged g c other =
     (over_streams g c (λ a b k. Mounted (form_setup c.args.form) _ m.filesystem m.outcome (progress a k nothing_yet)
     (progress b (sink_at g c) m.transcript))
     (c.mount-source.ensures.session some_memory))
-    (stands_at g c) (exit_is g c)
+    (c.mount-source.ensures.accepted (AcceptsAll-tree _)) (stands_at g c) (exit_is g c)
 
 pub returns-clause-answered : goal.returns-clause-answered
 returns-clause-answered g c = λ well.

@@ -33,7 +33,7 @@ returns-in-NotInit g c =
     c.in-NotInit.id EIO (InvalidData (invalid.NotInit c.in-NotInit.opcode))
     c.in-Message.count c.args.channel.now c.take_message.new.self c.deliver.new.self c.in-Message.ensures
     (sym c.in-NotInit.is ∙ (c.of.ensures.greeting ∙ ap greeting c.message.ensures))
-    (subst (λ (o : Out). DeliversOnce o c.take_message.new.self c.deliver.new.self) c.refusal.ensures c.deliver.ensures) (refl, refl, refl, refl) tt
+    (subst (λ (o : Out). DeliversOnce o c.take_message.new.self c.deliver.new.self) c.refusal.ensures c.deliver.ensures) (refl, refl, refl, refl)
 
 pub returns-in-Old : goal.returns-in-Old
 returns-in-Old g c =
@@ -42,7 +42,7 @@ returns-in-Old g c =
     c.in-Message.count c.args.channel.now c.take_message.new.self c.deliver-in-Old.new.self c.in-Message.ensures
     (sym c.in-Old.is ∙ (c.of.ensures.greeting ∙ ap greeting c.message.ensures))
     (subst (λ (o : Out). DeliversOnce o c.take_message.new.self c.deliver-in-Old.new.self) c.refusal-in-Old.ensures c.deliver-in-Old.ensures)
-    (refl, refl, refl, refl) tt
+    (refl, refl, refl, refl)
 
 pub returns-in-Newer : goal.returns-in-Newer
 returns-in-Newer g c =

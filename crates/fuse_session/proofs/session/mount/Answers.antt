@@ -3,7 +3,7 @@ use Rattle.std.proofs.Common.{Ok, inl, refl, subst}
 use Rattle.fuse_session.specs.Exchange.{Outcome, Exchange, setup}
 use Rattle.fuse_session.specs.Progress.{Progress, nothing_yet, progress}
 use Rattle.fuse_session.proofs.Headlining.{Headline-from_exchange}
-use Rattle.fuse_session.proofs.Completing.{Ok-from_exchange}
+use Rattle.fuse_session.proofs.Completing.{Ok-from_exchange, never-refused}
 use Rattle.fuse_session.proofs.session.mount.Goals as goal
 
 pub returns-clause-headline : goal.returns-clause-headline
@@ -23,3 +23,10 @@ returns-clause-complete g c well =
     c.serve.result.outcome
     (subst (λ (p : Progress). Exchange s c.args.filesystem c.serve.ensures.fs1 c.serve.result.outcome p after) c.new-channel.ensures
     c.serve.ensures.exchange) well)
+
+pub returns-clause-accepted : goal.returns-clause-accepted
+returns-clause-accepted g c accepts n is =
+    let s = setup g.FS.Filesystem.promise c.args.page_size c.args.config.now c.args.owner in
+    let after = progress (g.S.Source.told c.serve.result.source) (g.K.Sink.told c.serve.result.sink) c.serve.result.transcript in
+    never-refused {setup = s} {q = after} n
+    (subst (λ (o : Outcome). Exchange s c.args.filesystem c.serve.ensures.fs1 o c.new-channel.result.progress after) is c.serve.ensures.exchange) accepts
