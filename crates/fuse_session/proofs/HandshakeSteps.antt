@@ -5,7 +5,7 @@ use Rattle.std.proofs.lemmas.List.{map-append}
 use Rattle.fuse_wire.specs.Source.{SourceState, Takes, message, NothingLeft, Failed as SourceFailed}
 use Rattle.fuse_wire.specs.declared.newtypes.RequestId.{RequestId}
 use Rattle.fuse_wire.proofs.Devices.{Takes-none, Takes-then}
-use Rattle.fuse_config.specs.Configuration.{start, init_payload, version_payload}
+use Rattle.fuse_config.specs.Configuration.{version_payload}
 use Rattle.fuse_request.specs.declared.request.Request.{Request}
 use Rattle.fuse_reply.specs.declared.out.Out.{Out}
 use Rattle.fuse_reply.specs.declared.out.Out.TheVariants.{Frame}
@@ -13,15 +13,15 @@ use Rattle.fuse_reply.specs.Answer.Answer.{Error}
 use Rattle.fuse_reply.specs.Frame.{reply, frame}
 use Rattle.fuse_session.specs.Promise.{MayInit}
 use Rattle.fuse_session.specs.Handshake.{greeting, Greets, Negotiates, HandshakeEnd, Handshake, LeavesOut}
-use Rattle.fuse_session.specs.Handshake.HandshakeEnd.{Open, Accepted, Failed}
-use Rattle.fuse_session.specs.HandshakeStep.{HandshakeRun, HandshakeOn, HandshakeEnds, Negotiated, NegotiatedBy}
+use Rattle.fuse_session.specs.Handshake.HandshakeEnd.{Open, Failed}
+use Rattle.fuse_session.specs.HandshakeStep.{HandshakeRun, HandshakeOn, HandshakeEnds, end_of}
 use Rattle.fuse_session.specs.Progress.{Progress, ChannelState, TakesNext, Moves, DeliversOnce, SinkUntouched}
 use Rattle.fuse_session.specs.declared.taken.Taken.TheVariants.{Message, Gone as NoneLeft, Failed as NoneCame}
 use Rattle.fuse_session.specs.declared.greeting.Greeting.{Greeting}
 use Rattle.fuse_session.specs.declared.greeting.Greeting.TheVariants.{Silent, Newer, Offered}
 use Rattle.fuse_session.specs.declared.greeting.Offer.{Offer}
 use Rattle.fuse_session.specs.declared.greeting.HandshakeError.{HandshakeError}
-use Rattle.fuse_session.specs.declared.greeting.HandshakeError.TheVariants.{InvalidData, Init}
+use Rattle.fuse_session.specs.declared.greeting.HandshakeError.TheVariants.{InvalidData}
 use Rattle.fuse_session.specs.declared.error.InvalidData.{InvalidData as Invalid}
 use Rattle.fuse_session.specs.declared.handshake.HandshakeOutcome.{HandshakeOutcome}
 use Rattle.fuse_session.specs.declared.handshake.HandshakeOutcome.TheVariants as outcome
@@ -168,40 +168,21 @@ accepted_outcome (Ok u) = outcome.Accepted
 accepted_outcome (Err e) = outcome.Refused e
 
 -- what `init` answered ended the handshake
-pub HandshakeRun-offered : {F : Type 0} (may_init : MayInit F) (page : ℕ) (fs fs1 : F) (request : Request) (offer : Offer) (out : Out)
+pub HandshakeRun-offered : {F : Type 0} (may_init : MayInit F) (page : ℕ) (fs fs1 : F) (request : Request) (offer : Offer) (f : List ℕ)
     (accepted : Result (Unit {0}) HandshakeError) (n : ℕ) (a b c : ChannelState)
     → TakesNext (Message n) a b → Offered request offer ≡ greeting (take n b.buffer)
-    → Negotiated may_init page fs fs1 request offer out accepted → DeliversOnce out b c
+    → Negotiates may_init page fs request offer (f ∷ []) fs1 (end_of accepted) → DeliversOnce (Frame f) b c
     → HandshakeRun may_init page (accepted_outcome accepted) fs fs1 a.progress c.progress
-HandshakeRun-offered {F} may_init page fs fs1 request offer out accepted n a b c next is negotiated hands =
-    by_result negotiated.result negotiated.allowed negotiated.answered
+HandshakeRun-offered {F} may_init page fs fs1 request offer f accepted n a b c next is negotiates hands =
+    closes (end_of accepted) f n a b c next hands
+    (one-message may_init page fs fs1 (message next.0.turn) (Offered request offer) (f ∷ []) (end_of accepted)
+    (is ∙ ap greeting next.0.bytes) (refl, negotiates))
+    (ends accepted)
   where
-    m : List ℕ
-    m = message next.0.turn
-
-    handshake : (f : List ℕ) (end : HandshakeEnd) → Negotiates may_init page fs request offer (f ∷ []) fs1 end
-        → Handshake may_init page fs (m ∷ []) (f ∷ []) fs1 end
-    handshake f end negotiates =
-        one-message may_init page fs fs1 m (Offered request offer) (f ∷ []) end (is ∙ ap greeting next.0.bytes) (refl, negotiates)
-
-    by_result : (r : Result (Unit {0}) ℕ)
-        → may_init fs request (start offer.capabilities.0 offer.max_readahead offer.version) r fs1 negotiated.config
-        → NegotiatedBy request.unique.0 offer page negotiated.config r out accepted
-        → HandshakeRun may_init page (accepted_outcome accepted) fs fs1 a.progress c.progress
-    by_result (Err errno) allowed answered =
-        subst (λ (x : Result (Unit {0}) HandshakeError). HandshakeRun may_init page (accepted_outcome x) fs fs1 a.progress c.progress) (sym answered.1)
-        (closes (Failed (Init errno)) (reply request.unique.0 (Error errno)) n a b c next
-        (subst (λ (o : Out). DeliversOnce o b c) answered.0 hands)
-        (handshake (reply request.unique.0 (Error errno)) (Failed (Init errno))
-        (record { config = negotiated.config; result = Err errno; allowed = allowed; replies = (refl, refl, answered.2) }))
-        refl)
-    by_result (Ok u) allowed answered =
-        let f : List ℕ = frame request.unique.0 (pos 0) (init_payload negotiated.config offer.capabilities.0 offer.version.1 page) in
-        subst (λ (x : Result (Unit {0}) HandshakeError). HandshakeRun may_init page (accepted_outcome x) fs fs1 a.progress c.progress) (sym answered.1)
-        (closes Accepted f n a b c next
-        (subst (λ (o : Out). DeliversOnce o b c) answered.0 hands)
-        (handshake f Accepted (record { config = negotiated.config; result = Ok u; allowed = allowed; replies = (refl, refl) }))
-        refl)
+    ends : (accepted : Result (Unit {0}) HandshakeError)
+        → HandshakeEnds (accepted_outcome accepted) (end_of accepted) (NothingLeft c.progress.source) (SourceFailed a.progress.source c.progress.source)
+    ends (Ok u) = refl
+    ends (Err e) = refl
 
 -- the next message is awaited
 pub HandshakeOn-newer : {F : Type 0} (may_init : MayInit F) (page : ℕ) (fs : F) (id : RequestId) (n : ℕ) (a b c : ChannelState)

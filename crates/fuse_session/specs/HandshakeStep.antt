@@ -1,38 +1,19 @@
 -- The handshake as it is run: what it takes, what its messages get, and how it ends.
-use Rattle.std.specs.Prelude.{◌≡◌, ◌≢◌, ◌++◌, ℕ, List, [], Option, None, Some, Result, Ok, Err, map, length, pos}
+use Rattle.std.specs.Prelude.{◌≡◌, ◌≢◌, ◌++◌, ℕ, List, [], Option, None, Some, Result, Ok, Err, map, length}
 use Rattle.fuse_wire.specs.Source.{Takes, message, NothingLeft, Failed as SourceFailed}
-use Rattle.fuse_config.specs.Values.{Configuration}
-use Rattle.fuse_config.specs.Configuration.{start, init_payload}
-use Rattle.fuse_request.specs.declared.request.Request.{Request}
-use Rattle.fuse_reply.specs.Answer.{IsAnswer}
-use Rattle.fuse_reply.specs.Answer.Answer.{Error}
-use Rattle.fuse_reply.specs.Frame.{frame, reply}
-use Rattle.fuse_reply.specs.declared.out.Out.{Out}
 use Rattle.fuse_reply.specs.declared.out.Out.TheVariants.{Frame}
 use Rattle.fuse_session.specs.Promise.{MayInit}
 use Rattle.fuse_session.specs.Handshake.{HandshakeEnd, Handshake, LeavesOut}
 use Rattle.fuse_session.specs.Handshake.HandshakeEnd.{Open, Accepted, Failed as IsFailed}
 use Rattle.fuse_session.specs.Progress.{Progress, Moves, Begins}
-use Rattle.fuse_session.specs.declared.greeting.Offer.{Offer}
 use Rattle.fuse_session.specs.declared.greeting.HandshakeError.{HandshakeError}
-use Rattle.fuse_session.specs.declared.greeting.HandshakeError.TheVariants.{Init}
 use Rattle.fuse_session.specs.declared.handshake.HandshakeOutcome.{HandshakeOutcome}
 use Rattle.fuse_session.specs.declared.handshake.HandshakeOutcome.TheVariants as outcome
 
--- what `init` answered is what goes out
-abbrev pub NegotiatedBy : (id : ℕ) → Offer → (page : ℕ) → Configuration → Result (Unit {0}) ℕ → Out → Result (Unit {0}) HandshakeError → Type 0
-NegotiatedBy id offer page config (Err e) out accepted =
-    (out ≡ Frame (reply id (Error e))) × (accepted ≡ Err (Init e)) × IsAnswer (Error e)
-NegotiatedBy id offer page config (Ok u) out accepted =
-    (out ≡ Frame (frame id (pos 0) (init_payload config offer.capabilities.0 offer.version.1 page))) × (accepted ≡ Ok tt)
-
--- `init` was called, as its promise allows
-pub record Negotiated {F : Type 0} (may_init : MayInit F) (page : ℕ) (fs fs1 : F) (request : Request) (offer : Offer) (out : Out)
-    (accepted : Result (Unit {0}) HandshakeError) : Type 0 where
-  pub config : Configuration
-  pub result : Result (Unit {0}) ℕ
-  pub allowed : may_init fs request (start offer.capabilities.0 offer.max_readahead offer.version) result fs1 config
-  pub answered : NegotiatedBy request.unique.0 offer page config result out accepted
+-- the end of a handshake where `init` accepted, or why not
+abbrev pub end_of : Result (Unit {0}) HandshakeError → HandshakeEnd
+end_of (Ok u) = Accepted
+end_of (Err e) = IsFailed e
 
 -- how the outcome tells of the handshake's end
 abbrev pub HandshakeEnds : HandshakeOutcome → HandshakeEnd → (none_left failed : Type 0) → Type 0

@@ -1,8 +1,9 @@
 // The handshake with a kernel.
-ghost use Rattle.std.specs.Prelude.{◌≡◌, ◌≤◌, ◌<◌, length, take, pos};
+ghost use Rattle.std.specs.Prelude.{◌≡◌, ◌≤◌, ◌<◌, ◌∷◌, ℕ, List, [], length, take, pos};
 ghost use Rattle.fuse_reply.specs.Answer.Answer.{Error};
 ghost use Rattle.fuse_reply.specs.Frame.{frame, reply};
-ghost use Rattle.fuse_session.specs.HandshakeStep.{HandshakeRun, Negotiated, OneStep};
+ghost use Rattle.fuse_session.specs.Handshake.{Negotiates};
+ghost use Rattle.fuse_session.specs.HandshakeStep.{HandshakeRun, OneStep, end_of};
 
 use crate::channel::Channel;
 use crate::greeting::{Greeting, HandshakeError, Offer};
@@ -55,8 +56,9 @@ fn negotiate<FS: Filesystem>(
 ) -> (Out, Result<(), HandshakeError>)
     requires page { 0 < page_size }
     requires minor { 6 ≤ offer.version.1 }
-    ensures { Negotiated FS.promise.may_init page_size filesystem.old filesystem.new request.now offer
-        result.0 result.1 }
+    ensures { (f : List ℕ) × (result.0 ≡ Out.Frame f)
+        × Negotiates FS.promise.may_init page_size filesystem.old request.now offer (f ∷ []) filesystem.new
+        (end_of result.1) }
 {
     let mut config = KernelConfig::new(offer.capabilities, offer.max_readahead, offer.version);
     match filesystem.init(request, &mut config) {

@@ -57,15 +57,17 @@ returns-in-Ok g c =
     subst (λ (x : Result (Unit {0}) HandshakeError). HandshakeRun g.FS.Filesystem.promise.may_init c.args.page_size (accepted_outcome x)
     c.args.filesystem.now c.negotiate-out.new.filesystem c.args.channel.now.progress c.deliver-in-Offered.new.self.progress) c.in-Ok.is
     (HandshakeRun-offered g.FS.Filesystem.promise.may_init c.args.page_size c.args.filesystem.now c.negotiate-out.new.filesystem
-    c.in-Offered.request c.in-Offered.offer c.negotiate-out.result.0 c.negotiate-out.result.1
+    c.in-Offered.request c.in-Offered.offer c.negotiate-out.ensures.0 c.negotiate-out.result.1
     c.in-Message.count c.args.channel.now c.take_message.new.self c.deliver-in-Offered.new.self c.in-Message.ensures
-    (sym c.in-Offered.is ∙ (c.of.ensures.greeting ∙ ap greeting c.message.ensures)) c.negotiate-out.ensures c.deliver-in-Offered.ensures)
+    (sym c.in-Offered.is ∙ (c.of.ensures.greeting ∙ ap greeting c.message.ensures)) c.negotiate-out.ensures.2
+    (subst (λ (o : Out). DeliversOnce o c.take_message.new.self c.deliver-in-Offered.new.self) c.negotiate-out.ensures.1 c.deliver-in-Offered.ensures))
 
 pub returns-in-Err : goal.returns-in-Err
 returns-in-Err g c =
     subst (λ (x : Result (Unit {0}) HandshakeError). HandshakeRun g.FS.Filesystem.promise.may_init c.args.page_size (accepted_outcome x)
     c.args.filesystem.now c.negotiate-out.new.filesystem c.args.channel.now.progress c.deliver-in-Offered.new.self.progress) c.in-Err.is
     (HandshakeRun-offered g.FS.Filesystem.promise.may_init c.args.page_size c.args.filesystem.now c.negotiate-out.new.filesystem
-    c.in-Offered.request c.in-Offered.offer c.negotiate-out.result.0 c.negotiate-out.result.1
+    c.in-Offered.request c.in-Offered.offer c.negotiate-out.ensures.0 c.negotiate-out.result.1
     c.in-Message.count c.args.channel.now c.take_message.new.self c.deliver-in-Offered.new.self c.in-Message.ensures
-    (sym c.in-Offered.is ∙ (c.of.ensures.greeting ∙ ap greeting c.message.ensures)) c.negotiate-out.ensures c.deliver-in-Offered.ensures)
+    (sym c.in-Offered.is ∙ (c.of.ensures.greeting ∙ ap greeting c.message.ensures)) c.negotiate-out.ensures.2
+    (subst (λ (o : Out). DeliversOnce o c.take_message.new.self c.deliver-in-Offered.new.self) c.negotiate-out.ensures.1 c.deliver-in-Offered.ensures))
