@@ -11,7 +11,7 @@ use Rattle.fuse_session.specs.Owed.{Owed}
 use Rattle.fuse_session.specs.Handshake.{HandshakeEnd}
 use Rattle.fuse_session.specs.HandshakeStep.{HandshakeRun}
 use Rattle.fuse_session.specs.EventLoop.{Run, RunEnds}
-use Rattle.fuse_session.specs.Exchange.{Setup, Outcome, Served, EndedBy, Exchange}
+use Rattle.fuse_session.specs.Exchange.{Setup, Outcome, RunFollows, EndedBy, Exchange}
 use Rattle.fuse_session.specs.SessionEnd.{handshake_error, run_outcome}
 use Rattle.fuse_session.specs.Progress.{Progress}
 use Rattle.fuse_session.specs.declared.error.SessionError.TheVariants.{NotConnected, Threads, Receive}
@@ -99,7 +99,7 @@ Exchange-refused (refusal.Init n) shook =
 -- why a session ended whose run ended so
 ended-run : (end : End) (threads : Option ℕ) (shook : HandshakeEnd) (answered refused : List (List ℕ))
     (none_left failed failed' : Type 0)
-    → Served threads shook → (failed → failed') → RunEnds end answered refused none_left failed
+    → RunFollows threads shook → (failed → failed') → RunEnds end answered refused none_left failed
     → EndedBy (run_outcome end) threads shook answered refused none_left failed'
 ended-run Gone threads shook answered refused none_left failed failed' served longer e =
     (served, e.0, EndsWell-all answered none_left e.1 e.2)

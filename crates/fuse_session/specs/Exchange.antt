@@ -41,9 +41,9 @@ Outcome = Result (Unit {0}) SessionError
 abbrev pub HandshakeAlone : (end' end : HandshakeEnd) → (answered refused : List (List ℕ)) → Type 0
 HandshakeAlone end' end answered refused = (end ≡ end') × (answered ≡ []) × (refused ≡ [])
 
--- the handshake was accepted, and some thread served
-abbrev pub Served : (threads : Option ℕ) → HandshakeEnd → Type 0
-Served threads end = (end ≡ Accepted) × (threads ≢ Some 0)
+-- the handshake was accepted, and some thread is to serve the run after it
+abbrev pub RunFollows : (threads : Option ℕ) → HandshakeEnd → Type 0
+RunFollows threads end = (end ≡ Accepted) × (threads ≢ Some 0)
 
 -- one message has this refusal of its header
 abbrev pub HeaderRefused : RequestError → (refused : List (List ℕ)) → Type 0
@@ -54,19 +54,19 @@ HeaderRefused e refused = (last : List ℕ) × (refused ≡ last ∷ []) × (hea
 -- handshake ended so. Threads: it was accepted, but no thread was to serve. Receive: the source failed.
 abbrev pub EndedBy : Outcome → (threads : Option ℕ) → HandshakeEnd → (answered refused : List (List ℕ)) → (none_left failed : Type 0) → Type 0
 EndedBy (Ok u) threads end answered refused none_left failed =
-    Served threads end × (refused ≡ []) × EndsWell answered none_left
+    RunFollows threads end × (refused ≡ []) × EndsWell answered none_left
 EndedBy (Err Memory) threads end answered refused none_left failed = ⊥
 EndedBy (Err NotConnected) threads end answered refused none_left failed = HandshakeAlone Open end answered refused × none_left
 EndedBy (Err (InvalidData d)) threads end answered refused none_left failed =
     HandshakeAlone (Failed (refusal.InvalidData d)) end answered refused
-    ⊎ (Served threads end × AllGoOn answered × ((e : RequestError) × (d ≡ Header e) × HeaderRefused e refused))
+    ⊎ (RunFollows threads end × AllGoOn answered × ((e : RequestError) × (d ≡ Header e) × HeaderRefused e refused))
 EndedBy (Err (Unsupported v)) threads end answered refused none_left failed =
     HandshakeAlone (Failed (refusal.Unsupported v)) end answered refused
 EndedBy (Err (Init e)) threads end answered refused none_left failed =
     HandshakeAlone (Failed (refusal.Init e)) end answered refused
 EndedBy (Err Threads) threads end answered refused none_left failed = HandshakeAlone Accepted end answered refused × (threads ≡ Some 0)
 EndedBy (Err Receive) threads end answered refused none_left failed =
-    failed × (HandshakeAlone Open end answered refused ⊎ (Served threads end × AllGoOn answered × (refused ≡ [])))
+    failed × (HandshakeAlone Open end answered refused ⊎ (RunFollows threads end × AllGoOn answered × (refused ≡ [])))
 
 -- What was heard and said, whatever carried it: these messages were taken, these replies and notes were sent, and these replies and
 -- notes were lost. `none_left` says that no message was left, and `failed` that the source failed.
