@@ -1,7 +1,5 @@
 // What a request comes to: an error that the product fixes, or what the filesystem answers.
 ghost use Rattle.std.specs.Prelude.{◌≡◌, ℕ};
-ghost use Rattle.fuse_reply.specs.Answer.Answer.{Error};
-ghost use Rattle.fuse_reply.specs.Frame.{reply};
 ghost use Rattle.fuse_request.specs.Header.{header_of, request_of};
 ghost use Rattle.fuse_request.specs.Operation.{plain};
 ghost use Rattle.fuse_session.specs.Owed.{Owed, OwedBy, Owed-destroy};
@@ -11,24 +9,16 @@ ghost use Rattle.fuse_session.specs.Verdict.{served};
 use crate::Filesystem;
 use crate::access::AccessRule;
 use crate::judge::unserved_error;
+use crate::refusal::refusal;
 use crate::work::Work;
-use fuse_reply::{Out, ReplyAttr, ReplyData, ReplyEmpty, ReplyEntry};
+use fuse_reply::{Out, ReplyAttr, ReplyData, ReplyEntry};
 use fuse_request::{AnyRequest, Operation};
-use fuse_wire::{Errno, RequestId};
 use std::alloc::Global;
 
 /// A filesystem, served to those whom the rule admits.
 pub(crate) struct Service<FS> {
     pub(crate) filesystem: FS,
     pub(crate) rule: AccessRule,
-}
-
-/// The reply of an error.
-#[inline(always)]
-fn refusal(alloc: Global, id: RequestId, error: Errno) -> Out
-    ensures { result ≡ Out.Frame (reply id.0 (Error error)) }
-{
-    ReplyEmpty::new(alloc, id).error(error).into_out()
 }
 
 impl<FS: Filesystem> Work for Service<FS> {

@@ -1,16 +1,16 @@
 // The handshake with a kernel.
 ghost use Rattle.std.specs.Prelude.{◌≡◌, ◌≤◌, ◌<◌, ◌∷◌, ℕ, List, [], length, take, pos};
-ghost use Rattle.fuse_reply.specs.Answer.Answer.{Error};
-ghost use Rattle.fuse_reply.specs.Frame.{frame, reply};
+ghost use Rattle.fuse_reply.specs.Frame.{frame};
 ghost use Rattle.fuse_session.specs.Handshake.{Negotiates};
 ghost use Rattle.fuse_session.specs.HandshakeStep.{HandshakeRun, OneStep, end_of};
 
 use crate::channel::Channel;
 use crate::greeting::{Greeting, HandshakeError, Offer};
+use crate::refusal::refusal;
 use crate::taken::Taken;
 use crate::{Filesystem, InvalidData};
 use fuse_config::{KernelConfig, version_reply};
-use fuse_reply::{Out, ReplyData, ReplyEmpty};
+use fuse_reply::{Out, ReplyData};
 use fuse_request::Request;
 use fuse_wire::{Errno, RequestId, Sink, Source};
 use std::alloc::Global;
@@ -37,13 +37,6 @@ fn init_frame(alloc: Global, id: RequestId, payload: &[u8; 64], length: usize) -
     ReplyData::new(alloc, id)
         .data(&payload[..length])
         .into_out()
-}
-
-/// The reply of an error.
-fn refusal(alloc: Global, id: RequestId, error: Errno) -> Out
-    ensures { result ≡ Out.Frame (reply id.0 (Error error)) }
-{
-    ReplyEmpty::new(alloc, id).error(error).into_out()
 }
 
 /// Asks the filesystem, and makes its answer the reply.

@@ -21,6 +21,7 @@ mod judge;
 pub mod laws;
 #[cfg(test)]
 mod order_tests;
+mod refusal;
 #[cfg(test)]
 mod refusal_tests;
 mod session;
