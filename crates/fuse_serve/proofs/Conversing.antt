@@ -115,7 +115,7 @@ ByteExchange-mounted form exit outcome input input' output output' sink broken v
   written = WritesFrames-stands x.moved.appended x.notes output output' sink broken x.moved.written stands;
   replied = x.moved.replied;
   set_aside = x.moved.set_aside;
-  first_lost = TornFromFirst-tail x.lost output.bytes sink.tail x.moved.tail;
+  first_lost = TornFromFirst-tail x.lost output.bytes output' sink broken (ap (λ (o : ByteSinkState). o.bytes) x.moved.written.origin) stands x.moved.tail;
   whole = torn-none x.moved.appended x.notes output output' sink broken x.moved.written stands;
   counted = rose-counted (length x.lost) output output' sink broken x.moved.written.origin x.moved.cause stands;
 } where

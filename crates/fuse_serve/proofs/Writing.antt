@@ -99,19 +99,39 @@ torn-none written notes output output' sink broken appends stands is =
     ∥∥₁_elim stands (hlevel props) (λ s. (parts written notes output output' sink broken appends s).3 is)
 
 -- what is torn is of the first frame that was lost
-first-torn : (lost : List Out) (tail : Option Tail) → LeavesTail lost (Some Whole) tail → TornFromFirst lost (torn_in tail)
-first-torn [] tail ends = ap torn_in ends
-first-torn (Frame f ∷ lost) None ends = absurd ends
-first-torn (Frame f ∷ lost) (Some Whole) ends = absurd ends
-first-torn (Frame f ∷ lost) (Some (Torn torn)) ends = ends
-first-torn (Noting id mark ∷ lost) tail ends = first-torn lost tail ends
-first-torn (Deferred seq id ∷ lost) tail ends = first-torn lost tail ends
+first-torn : (lost : List Out) (broken : Bool) (tail : Option Tail) → (tail ≡ Some Whole → broken ≡ false)
+    → ((torn : List ℕ) → tail ≡ Some (Torn torn) → broken ≡ true) → LeavesTail lost (Some Whole) tail → TornFromFirst lost broken (torn_in tail)
+first-torn [] broken tail whole failed ends = (whole ends, ap torn_in ends)
+first-torn (Frame f ∷ lost) broken None whole failed ends = absurd ends
+first-torn (Frame f ∷ lost) broken (Some Whole) whole failed ends = absurd ends
+first-torn (Frame f ∷ lost) broken (Some (Torn torn)) whole failed ends = (failed torn refl, ends)
+first-torn (Noting id mark ∷ lost) broken tail whole failed ends = first-torn lost broken tail whole failed ends
+first-torn (Deferred seq id ∷ lost) broken tail whole failed ends = first-torn lost broken tail whole failed ends
 
--- and nothing is where the output tells nothing
-pub TornFromFirst-tail : (lost : List Out) (first : Option (List ℕ)) (tail : Option Tail) → LeavesTail lost (tail_since false first first) tail
-    → MatchOption first (torn_in tail ≡ []) (λ held. TornFromFirst lost (torn_in tail))
-TornFromFirst-tail lost None tail ends = ap torn_in (LeavesTail-settled lost None tail (λ is. let no : ⊥ = cc in no) ends)
-TornFromFirst-tail lost (Some first) tail ends = first-torn lost tail ends
+-- a stream ends with a whole frame where no write failed
+whole-tail : (broken : Bool) (torn : List ℕ) → Some Whole ≡ Some (tail_of broken torn) → broken ≡ false
+whole-tail true torn is = absurd (let no : ⊥ = cc in no)
+whole-tail false torn is = refl
+
+-- and with a part of one where a write did
+torn-tail : (broken : Bool) (some torn : List ℕ) → Some (Torn some) ≡ Some (tail_of broken torn) → broken ≡ true
+torn-tail true some torn is = refl
+torn-tail false some torn is = absurd (let no : ⊥ = cc in no)
+
+-- nothing is torn where the output tells nothing
+pub TornFromFirst-tail : (lost : List Out) (first : Option (List ℕ)) (output' : ByteSinkState) (sink : SinkState) (broken : Bool)
+    → sink.origin.bytes ≡ first → ∥ Stands sink output' broken ∥₁ → LeavesTail lost (tail_since false first first) sink.tail
+    → MatchOption first (torn_in sink.tail ≡ []) (λ held. TornFromFirst lost broken (torn_in sink.tail))
+TornFromFirst-tail lost None output' sink broken origin stands ends =
+    ap torn_in (LeavesTail-settled lost None sink.tail (λ is. let no : ⊥ = cc in no) ends)
+TornFromFirst-tail lost (Some first) output' sink broken origin stands ends =
+    first-torn lost broken sink.tail
+    (λ is. ∥∥₁_elim stands (hlevel props) (λ s. whole-tail broken s.torn (sym is ∙ told s)))
+    (λ torn is. ∥∥₁_elim stands (hlevel props) (λ s. torn-tail broken torn s.torn (sym is ∙ told s)))
+    ends
+  where
+    told : (s : Stands sink output' broken) → sink.tail ≡ Some (tail_of broken s.torn)
+    told s = s.tail ∙ ap (option_map (λ held. tail_of broken s.torn)) origin
 
 -- a write that failed was counted by the output
 pub Rose-broken : (output output' : ByteSinkState) (sink : SinkState) (broken : Bool)

@@ -43,12 +43,12 @@ pub record WritesFrames (written : List (List ℕ)) (torn : List ℕ) (output ou
   pub split : IfSome output.bytes (λ held. frames (concat written ++ torn) ≡ written)
   pub part : ∥ IsTorn torn ∥₁
 
--- these bytes are torn from the first frame that was lost, and are none where no frame was
-abbrev pub TornFromFirst : (lost : List Out) → (torn : List ℕ) → Type 0
-TornFromFirst [] torn = torn ≡ []
-TornFromFirst (Frame f ∷ lost) torn = IsTornFrom f torn
-TornFromFirst (Note id mark ∷ lost) torn = TornFromFirst lost torn
-TornFromFirst (Deferred seq id ∷ lost) torn = TornFromFirst lost torn
+-- a write failed exactly where a frame was lost, and these bytes are torn from the first such frame
+abbrev pub TornFromFirst : (lost : List Out) → (broken : Bool) → (torn : List ℕ) → Type 0
+TornFromFirst [] broken torn = (broken ≡ false) × (torn ≡ [])
+TornFromFirst (Frame f ∷ lost) broken torn = (broken ≡ true) × IsTornFrom f torn
+TornFromFirst (Note id mark ∷ lost) broken torn = TornFromFirst lost broken torn
+TornFromFirst (Deferred seq id ∷ lost) broken torn = TornFromFirst lost broken torn
 
 -- With status 0 each message read has its one reply.
 pub record EachAnswered (form : ServeForm) (input input' : ByteSourceState) (output output' : ByteSinkState) : Type 0 where
@@ -101,7 +101,7 @@ pub record ByteExchange (form : ServeForm) (exit : ℕ) (input input' : ByteSour
   pub replied : replies appended ≡ sent
   pub set_aside : AllByRecursion NoticeOrReply appended
   -- where the output tells its bytes, those torn are of the first frame that was lost; no others are
-  pub first_lost : MatchOption output.bytes (torn ≡ []) (λ held. TornFromFirst lost torn)
+  pub first_lost : MatchOption output.bytes (torn ≡ []) (λ held. TornFromFirst lost broken torn)
   -- nothing is torn where no write failed, and what was lost or failed to be written was counted by the output
   pub whole : broken ≡ false → torn ≡ []
   pub counted : (0 < length lost) ⊎ (broken ≡ true) → Rose output.faults output'.faults
