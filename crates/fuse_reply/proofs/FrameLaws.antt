@@ -12,9 +12,9 @@ use Rattle.fuse_wire.proofs.NumberLaws.{number-to_le_bytes_4, number-append_righ
 use Rattle.fuse_wire.specs.ErrorNumbers.{ENOMEM}
 use Rattle.fuse_reply.specs.Sizes.{out_header_size, max_payload}
 use Rattle.fuse_reply.specs.Answer.{Answer, IsAnswer}
-use Rattle.fuse_reply.specs.Answer.Answer.{Error, Empty, Data, Entry, Attr}
-use Rattle.fuse_reply.specs.Frame.{frame, reply, payload, answer_status, frame_status, is_set_aside, IsReply}
-use Rattle.fuse_reply.specs.Attributes.{entry_payload, attr_payload}
+use Rattle.fuse_reply.specs.Answer.Answer.{Error}
+use Rattle.fuse_reply.specs.Payload.{payload}
+use Rattle.fuse_reply.specs.Frame.{frame, reply, answer_status, frame_status, is_set_aside, IsReply}
 use Rattle.fuse_reply.specs.Reply.{RepliesWith}
 use Rattle.fuse_reply.specs.declared.out.Out.TheVariants.{Frame}
 use Rattle.fuse_reply.proofs.PayloadLength.{payload-fits}
@@ -64,20 +64,13 @@ not_set_aside-frame_error id errno p small =
 pub not_set_aside-reply : (id : ℕ) (a : Answer) → IsAnswer a → is_set_aside (reply id a) ≡ false
 not_set_aside-reply id (Error zero) valid = not_set_aside-frame_zero id []
 not_set_aside-reply id (Error (suc errno)) valid = not_set_aside-frame_error id errno [] valid.1
-not_set_aside-reply id Empty valid = not_set_aside-frame_zero id []
-not_set_aside-reply id (Data bytes) valid = not_set_aside-frame_zero id bytes
-not_set_aside-reply id (Entry entry_valid attr_valid generation attr) valid =
-    not_set_aside-frame_zero id (entry_payload entry_valid attr_valid generation attr)
-not_set_aside-reply id (Attr valid attr) fits = not_set_aside-frame_zero id (attr_payload valid attr)
+not_set_aside-reply id a valid = not_set_aside-frame_zero id (payload a)
 
 -- the status of an answer is in the range of 4 bytes
 answer_status-fits : (a : Answer) → IsAnswer a → FitsSigned w32 (answer_status a)
 answer_status-fits (Error zero) valid = omega arith
 answer_status-fits (Error (suc errno)) valid = omega (arith, valid.1)
-answer_status-fits Empty valid = omega arith
-answer_status-fits (Data bytes) valid = omega arith
-answer_status-fits (Entry entry_valid attr_valid generation attr) valid = omega arith
-answer_status-fits (Attr valid attr) fits = omega arith
+answer_status-fits a valid = omega arith
 
 -- the status of a reply is its answer's
 pub frame_status-reply : (id : ℕ) (a : Answer) → IsAnswer a → frame_status (reply id a) ≡ answer_status a

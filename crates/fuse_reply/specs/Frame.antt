@@ -4,8 +4,8 @@ use Rattle.std.specs.Int.{w32, w64, to_le_bytes, cast_unsigned}
 use Rattle.fuse_wire.specs.Numbers.{number, signed}
 use Rattle.fuse_reply.specs.Sizes.{out_header_size}
 use Rattle.fuse_reply.specs.Answer.{Answer, IsAnswer}
-use Rattle.fuse_reply.specs.Answer.Answer.{Error, Empty, Data, Entry, Attr}
-use Rattle.fuse_reply.specs.Attributes.{entry_payload, attr_payload}
+use Rattle.fuse_reply.specs.Answer.Answer.{Error}
+use Rattle.fuse_reply.specs.Payload.{payload}
 
 -- len4 error4 unique8, where the length counts the header too
 abbrev pub out_header : (id : ℕ) (status : ℤ) (payload_length : ℕ) → List ℕ
@@ -19,21 +19,10 @@ frame id status payload = out_header id status (length payload) ++ payload
 abbrev pub frame_of : ℕ × ℤ × List ℕ → List ℕ
 frame_of parts = frame parts.0 parts.1 parts.2
 
--- the payload of an answer
-abbrev pub payload : Answer → List ℕ
-payload (Error errno) = []
-payload Empty = []
-payload (Data bytes) = bytes
-payload (Entry entry_valid attr_valid generation attr) = entry_payload entry_valid attr_valid generation attr
-payload (Attr valid attr) = attr_payload valid attr
-
 -- the status of an answer: zero, or an error's number below zero
 abbrev pub answer_status : Answer → ℤ
 answer_status (Error errno) = neg_ℤ (pos errno)
-answer_status Empty = pos 0
-answer_status (Data bytes) = pos 0
-answer_status (Entry entry_valid attr_valid generation attr) = pos 0
-answer_status (Attr valid attr) = pos 0
+answer_status a = pos 0
 
 -- the frame that carries an answer to the request of that id
 abbrev pub reply : (id : ℕ) → Answer → List ℕ

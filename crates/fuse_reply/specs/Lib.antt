@@ -1,6 +1,8 @@
 pub mod Sizes
-pub mod Answer
 pub mod Attributes
+pub mod Listing
+pub mod Answer
+pub mod Payload
 pub mod Frame
 pub mod Reply
 pub mod Deliver

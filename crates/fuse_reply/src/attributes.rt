@@ -5,6 +5,7 @@ ghost use Rattle.fuse_reply.specs.Answer.Answer.{Entry, Attr};
 ghost use Rattle.fuse_reply.specs.Attributes.{nanos_per_second, kind_bits, mode, size_fields, second_fields};
 ghost use Rattle.fuse_reply.specs.Attributes.{narrow_fields, attr_block, entry_front, entry_payload};
 ghost use Rattle.fuse_reply.specs.Attributes.{attr_front, attr_payload};
+ghost use Rattle.fuse_reply.specs.Listing.{entry_type};
 
 use fuse_wire::{Duration, FileAttr, FileType, Generation, INodeNo, time_from_system_time};
 
@@ -24,6 +25,13 @@ fn bits_of(kind: FileType) -> u16
         FileType::Symlink => 0xa000,
         FileType::Socket => 0xc000,
     }
+}
+
+/// The type of an entry of a directory: `DT_` of `dirent.h`.
+pub fn type_of(kind: FileType) -> u32
+    ensures { result ≡ entry_type kind }
+{
+    (bits_of(kind) >> 12) as u32
 }
 
 /// The whole `st_mode`.

@@ -13,8 +13,11 @@ use std::marker::Model;
 /// How many bytes a frame's header has: those of `struct fuse_out_header`.
 const OUT_HEADER_SIZE: usize = 16;
 
+/// How many payload bytes a frame can carry.
+pub(crate) const MAX_PAYLOAD: usize = u32::MAX as usize - OUT_HEADER_SIZE;
+
 /// How many payload bytes a frame holds without an allocation.
-const INLINE_SIZE: usize = 144;
+pub(crate) const INLINE_SIZE: usize = 144;
 
 /// A whole frame: its header, `struct fuse_out_header`, and its payload. A contract sees its bytes.
 #[derive(Debug, Drop)]
@@ -93,6 +96,35 @@ impl Packed {
         Ok(Packed::around(id, 0, payload))
     }
 
+    /// The frame of status 0 and these bytes, the one part after the other, as by `new`. Each is copied once, to where
+    /// the frame stands.
+    #[inline(always)]
+    pub(crate) fn of_parts(
+        alloc: Global,
+        id: RequestId,
+        front: &[u8],
+        back: &[u8],
+    ) -> Result<Packed, NoMemory>
+        requires { length front.now + length back.now ≤ max_payload }
+        ensures ok { IfOk result (λ packed. packed ≡ frame id.0 (pos 0) (front.now ++ back.now)) }
+        ensures inline { length front.now + length back.now ≤ inline_size → IsOk result }
+    {
+        let mut payload = SmallVec::new(alloc);
+        payload.reserve_exact(front.len() + back.len())?;
+        payload.extend_from_slice(front)?;
+        payload.extend_from_slice(back)?;
+        Ok(Packed::around(id, 0, payload))
+    }
+
+    /// The frame of status 0 and a payload that was put together where it lies. It is not copied.
+    #[inline(always)]
+    pub(crate) fn of_held(id: RequestId, payload: SmallVec<u8, INLINE_SIZE>) -> Packed
+        requires { length payload.items ≤ max_payload }
+        ensures { result ≡ frame id.0 (pos 0) payload.items }
+    {
+        Packed::around(id, 0, payload)
+    }
+
     /// A frame without a payload.
     #[inline(always)]
     pub(crate) fn bare(alloc: Global, id: RequestId, status: i32) -> Packed
@@ -108,6 +140,15 @@ impl Packed {
         ensures { result ≡ frame id.0 (pos 0) payload.now }
     {
         Packed::new(alloc, id, 0, payload).unwrap()
+    }
+
+    /// The frame of status 0 and a payload in two parts, which is held without an allocation.
+    #[inline(always)]
+    pub(crate) fn short_parts(alloc: Global, id: RequestId, front: &[u8], back: &[u8]) -> Packed
+        requires { length front.now + length back.now ≤ inline_size }
+        ensures { result ≡ frame id.0 (pos 0) (front.now ++ back.now) }
+    {
+        Packed::of_parts(alloc, id, front, back).unwrap()
     }
 
     /// Sends the frame.

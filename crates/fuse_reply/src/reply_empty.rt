@@ -14,6 +14,7 @@ pub struct Nothing;
 pub type ReplyEmpty = Reply<Nothing>;
 
 impl Reply<Nothing> {
+    #[tactic(auto, using(crate::proofs::AreReplies::empty_is_reply))]
     /// It is done.
     pub fn ok(self) -> Replied
         ensures { result ≡ Out.Frame (reply self Empty) }

@@ -1,0 +1,30 @@
+// A reply of a lock.
+ghost use Rattle.std.specs.Prelude.{◌≡◌};
+ghost use Rattle.fuse_reply.specs.Frame.{reply};
+ghost use Rattle.fuse_reply.specs.Answer.{IsAnswer};
+ghost use Rattle.fuse_reply.specs.Answer.Answer.{Lock};
+ghost use Rattle.fuse_reply.specs.declared.out.Out.{Out};
+
+use crate::payloads::lock_bytes;
+use crate::{Packed, Replied, Reply};
+
+/// The kind of a reply that carries a lock.
+#[derive(Debug)]
+pub struct Locks;
+
+/// The reply to a request that asks which lock stands in the way of one.
+pub type ReplyLock = Reply<Locks>;
+
+impl Reply<Locks> {
+    #[tactic(auto, using(crate::proofs::AreReplies::lock_is_reply))]
+    /// This lock stands in the way: from the byte `start` up to and with the byte `end`, of the type `typ` (`F_RDLCK`,
+    /// `F_WRLCK`, or `F_UNLCK` where none stands in the way), held by the process `pid`. Each may be any number of its
+    /// type.
+    pub fn locked(self, start: u64, end: u64, typ: i32, pid: u32) -> Replied
+        ensures reply { result ≡ Out.Frame (reply self (Lock start end typ pid)) }
+        ensures answer { IsAnswer (Lock start end typ pid) }
+    {
+        let (alloc, id) = self.into_parts();
+        Replied::by(Packed::short(alloc, id, &lock_bytes(start, end, typ, pid)))
+    }
+}

@@ -1,0 +1,33 @@
+// A reply of an open file.
+ghost use Rattle.std.specs.Prelude.{◌≡◌, bit_and};
+ghost use Rattle.fuse_reply.specs.Payload.{FOPEN_PASSTHROUGH};
+ghost use Rattle.fuse_reply.specs.Frame.{reply};
+ghost use Rattle.fuse_reply.specs.Answer.{IsAnswer};
+ghost use Rattle.fuse_reply.specs.Answer.Answer.{Open};
+ghost use Rattle.fuse_reply.specs.declared.out.Out.{Out};
+
+use crate::payloads::open_bytes;
+use crate::{Packed, Replied, Reply};
+use bitflags::Flags;
+use fuse_wire::{FileHandle, FopenFlags};
+
+/// The kind of a reply that carries an open file.
+#[derive(Debug)]
+pub struct OpenFiles;
+
+/// The reply to a request that opens a file or a directory.
+pub type ReplyOpen = Reply<OpenFiles>;
+
+impl Reply<OpenFiles> {
+    #[tactic(auto, using(crate::proofs::AreReplies::open_is_reply))]
+    /// It is open under this number, which the kernel names it by from now on, and is treated as the flags say. The flag
+    /// `FOPEN_PASSTHROUGH` is for a file of the kernel's own, which no reply here can name.
+    pub fn opened(self, fh: FileHandle, flags: FopenFlags) -> Replied
+        requires { bit_and flags.0 FOPEN_PASSTHROUGH ≡ 0 }
+        ensures reply { result ≡ Out.Frame (reply self (Open fh.0 flags.0)) }
+        ensures answer { IsAnswer (Open fh.0 flags.0) }
+    {
+        let (alloc, id) = self.into_parts();
+        Replied::by(Packed::short(alloc, id, &open_bytes(fh, flags.bits())))
+    }
+}

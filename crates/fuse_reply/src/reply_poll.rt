@@ -1,0 +1,30 @@
+// A reply of what a file is ready for.
+ghost use Rattle.std.specs.Prelude.{◌≡◌};
+ghost use Rattle.fuse_reply.specs.Frame.{reply};
+ghost use Rattle.fuse_reply.specs.Answer.{IsAnswer};
+ghost use Rattle.fuse_reply.specs.Answer.Answer.{Poll};
+ghost use Rattle.fuse_reply.specs.declared.out.Out.{Out};
+
+use crate::payloads::word_bytes;
+use crate::{Packed, Replied, Reply};
+use bitflags::Flags;
+use fuse_wire::PollEvents;
+
+/// The kind of a reply that carries what a file is ready for.
+#[derive(Debug)]
+pub struct Events;
+
+/// The reply to a request that asks what a file is ready for.
+pub type ReplyPoll = Reply<Events>;
+
+impl Reply<Events> {
+    #[tactic(auto, using(crate::proofs::AreReplies::poll_is_reply))]
+    /// It is ready for these, now. Bits without a name are sent as they are.
+    pub fn poll(self, revents: PollEvents) -> Replied
+        ensures reply { result ≡ Out.Frame (reply self (Poll revents.0)) }
+        ensures answer { IsAnswer (Poll revents.0) }
+    {
+        let (alloc, id) = self.into_parts();
+        Replied::by(Packed::short(alloc, id, &word_bytes(revents.bits())))
+    }
+}

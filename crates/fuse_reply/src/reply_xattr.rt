@@ -1,0 +1,42 @@
+// A reply of an extended attribute.
+ghost use Rattle.std.specs.Prelude.{◌≡◌, ◌≤◌, length};
+ghost use Rattle.fuse_reply.specs.Sizes.{max_payload, inline_size};
+ghost use Rattle.fuse_reply.specs.Frame.{reply};
+ghost use Rattle.fuse_reply.specs.Reply.{RepliesWith};
+ghost use Rattle.fuse_reply.specs.Answer.{IsAnswer};
+ghost use Rattle.fuse_reply.specs.Answer.Answer.{Data, XattrSize};
+ghost use Rattle.fuse_reply.specs.declared.out.Out.{Out};
+
+use crate::payloads::word_bytes;
+use crate::{Packed, Replied, Reply, ReplyData};
+
+/// The kind of a reply that carries an extended attribute, or its size.
+#[derive(Debug)]
+pub struct Xattrs;
+
+/// The reply to a request for an extended attribute, or for the names of all.
+pub type ReplyXattr = Reply<Xattrs>;
+
+impl Reply<Xattrs> {
+    #[tactic(auto, using(crate::proofs::AreReplies::xattr_size_is_reply))]
+    /// It has so many bytes, any u32: `struct fuse_getxattr_out`. A request that asks for 0 bytes is answered so.
+    pub fn size(self, size: u32) -> Replied
+        ensures reply { result ≡ Out.Frame (reply self (XattrSize size)) }
+        ensures answer { IsAnswer (XattrSize size) }
+    {
+        let (alloc, id) = self.into_parts();
+        Replied::by(Packed::short(alloc, id, &word_bytes(size)))
+    }
+
+    /// These are the bytes: the attribute, or the names, a zero byte after each. Where they are more than 144 and no
+    /// memory is to be had for them, it failed for that.
+    pub fn data(self, bytes: &[u8]) -> Replied
+        requires { length bytes.now ≤ max_payload }
+        ensures replies { RepliesWith self (Data bytes.now) result }
+        ensures answer { IsAnswer (Data bytes.now) }
+        ensures inline { length bytes.now ≤ inline_size → result ≡ Out.Frame (reply self (Data bytes.now)) }
+    {
+        let (alloc, id) = self.into_parts();
+        ReplyData::new(alloc, id).data(bytes)
+    }
+}
