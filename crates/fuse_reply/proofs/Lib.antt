@@ -1,5 +1,6 @@
 pub mod FrameLength
 pub mod PayloadLength
+pub mod ListingLaws
 pub mod FrameLaws
 pub mod Splitting
 pub mod NoticeLaws

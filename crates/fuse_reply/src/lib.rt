@@ -3,6 +3,7 @@
 #![tactic(auto)]
 
 mod attributes;
+mod entries;
 pub mod laws;
 mod out;
 mod packed;
@@ -13,10 +14,13 @@ mod reply_attr;
 mod reply_bmap;
 mod reply_create;
 mod reply_data;
+mod reply_directory;
+mod reply_directory_plus;
 mod reply_empty;
 mod reply_entry;
 mod reply_frame;
 mod reply_ioctl;
+mod reply_listing;
 mod reply_lock;
 mod reply_lseek;
 mod reply_open;
@@ -35,10 +39,13 @@ pub use reply_attr::{Attrs, ReplyAttr};
 pub use reply_bmap::{Blocks, ReplyBmap};
 pub use reply_create::{NewFiles, ReplyCreate};
 pub use reply_data::{Bytes, ReplyData};
+pub use reply_directory::{DirEntries, ReplyDirectory};
+pub use reply_directory_plus::{PlusEntries, ReplyDirectoryPlus};
 pub use reply_empty::{Nothing, ReplyEmpty};
 pub use reply_entry::{Entries, ReplyEntry};
 pub use reply_frame::ReplyFrame;
 pub use reply_ioctl::{IoctlResults, ReplyIoctl};
+pub use reply_listing::{EntryKind, ReplyListing};
 pub use reply_lock::{Locks, ReplyLock};
 pub use reply_lseek::{Offsets, ReplyLseek};
 pub use reply_open::{OpenFiles, ReplyOpen};

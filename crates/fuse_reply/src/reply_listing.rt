@@ -1,0 +1,87 @@
+// A reply of entries of a directory, of either kind.
+ghost use Rattle.std.specs.Prelude.{◌≡◌, []};
+ghost use Rattle.fuse_wire.specs.ErrorNumbers.{EIO};
+ghost use Rattle.fuse_reply.specs.Frame.{reply};
+ghost use Rattle.fuse_reply.specs.Answer.{IsAnswer};
+ghost use Rattle.fuse_reply.specs.Answer.Answer.{Error};
+ghost use Rattle.fuse_reply.specs.declared.out.Out.{Out};
+
+use crate::packed::INLINE_SIZE;
+use crate::{Replied, Reply};
+use fuse_wire::{Errno, RequestId};
+use smallvec::SmallVec;
+use std::alloc::Global;
+use std::marker::Model;
+
+/// A kind of entries of a directory.
+pub trait EntryKind {
+    ghost use Rattle.std.specs.Prelude.{ℕ, List, []};
+
+    /// The bytes are entries of this kind, one after the other.
+    ghost lists: { List ℕ → Type 0 };
+
+    /// No bytes are no entries.
+    ghost none: { lists [] };
+}
+
+/// The reply to a request that is answered by entries of a directory. It holds the entries that were added, of at most
+/// `size` bytes, and of no more than a frame can carry, which is `u32::MAX - 16`. Up to 144 bytes take no memory. It
+/// must be spent, once. A contract sees the request's id, the size, and the bytes of the entries.
+#[derive(Debug)]
+pub struct ReplyListing<Kind: EntryKind> {
+    pub(crate) reply: Reply<Kind>,
+    pub(crate) size: usize,
+    pub(crate) held: SmallVec<u8, INLINE_SIZE>,
+}
+
+impl<Kind: EntryKind> Model for ReplyListing<Kind> {
+    ghost use Rattle.std.specs.Prelude.{◌≤◌, length, min};
+    ghost use Rattle.fuse_reply.specs.Sizes.{max_payload};
+    ghost use Rattle.fuse_reply.specs.Listing.{Listing};
+
+    ghost Value = { Listing };
+
+    ghost view = { λ r. record { id = r.reply; size = r.size; held = r.held.items } };
+
+    ghost invariant = { λ r. Kind.lists r.held.items × (length r.held.items ≤ min r.size max_payload) };
+}
+
+impl<Kind: EntryKind> ReplyListing<Kind> {
+    /// The reply to the request of this id, with no entries yet. `size` is in bytes: as many as the request asks for.
+    pub fn new(alloc: Global, id: RequestId, size: usize) -> ReplyListing<Kind>
+        ensures { result ≡ record { id = id.0; size = size; held = [] } }
+    {
+        ReplyListing {
+            reply: Reply::new(alloc, id),
+            size,
+            held: SmallVec::new(alloc),
+        }
+    }
+
+    /// How many bytes its entries may have, as it was given.
+    pub fn size(&self) -> usize
+        ensures { result ≡ self.now.size }
+    {
+        self.size
+    }
+
+    /// It failed.
+    pub fn error(self, error: Errno) -> Replied
+        ensures reply { result ≡ Out.Frame (reply self.id (Error error)) }
+        ensures answer { IsAnswer (Error error) }
+    {
+        let ReplyListing {
+            reply,
+            size: _,
+            held: _,
+        } = self;
+        reply.error(error)
+    }
+
+    /// Nothing answered it: an error of input or output.
+    pub fn unanswered(self) -> Replied
+        ensures { result ≡ Out.Frame (reply self.id (Error EIO)) }
+    {
+        self.error(Errno::EIO)
+    }
+}
