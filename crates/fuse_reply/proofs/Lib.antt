@@ -1,6 +1,7 @@
 pub mod FrameLength
 pub mod PayloadLength
 pub mod ListingLaws
+pub mod ListingSplit
 pub mod FrameLaws
 pub mod Splitting
 pub mod NoticeLaws

@@ -89,7 +89,3 @@ length-direntplus e =
       length-entry_payload e.valid e.valid e.generation e.attr,
       length-dirent (without_lookup e),
     )
-
--- a length with its zero bytes is a multiple of 8
-padded : (n : ℕ) → (24 + n + padding n) % 8 ≡ 0
-padded n = omega arith

@@ -1,5 +1,5 @@
 -- Entries of a directory, as READDIR and READDIRPLUS list them (`struct fuse_dirent` and `struct fuse_direntplus` of `fuse.h`).
-use Rattle.std.specs.Prelude.{◌≡◌, ℕ, ◌+◌, ◌-◌, ◌/◌, ◌%◌, ◌≤◌, ◌^◌, ◌++◌, List, length, replicate, flat_map, min}
+use Rattle.std.specs.Prelude.{◌≡◌, ℕ, ◌+◌, ◌-◌, ◌/◌, ◌%◌, ◌≤◌, ◌^◌, ◌++◌, List, [], ◌∷◌, length, replicate, flat_map, min}
 use Rattle.std.specs.Prelude.{Bool, true, false, Result, Ok, Err}
 use Rattle.std.specs.Int.{w32, w64, to_le_bytes}
 use Rattle.fuse_wire.specs.declared.file_attr.FileAttr.{FileAttr}
@@ -71,3 +71,9 @@ Adds (Ok false) entry before after =
     Fits before.size (length before.held) (length entry) × (after ≡ record before { held = before.held ++ entry })
 Adds (Ok true) entry before after = (Fits before.size (length before.held) (length entry) → ⊥) × (after ≡ before)
 Adds (Err e) entry before after = after ≡ before
+
+-- each entry fits behind those before it, and behind so many bytes that were held first
+abbrev pub EachFits : {E : Type 0} → (E → List ℕ) → (size held : ℕ) → List E → Type 0
+EachFits spelling size held [] = Unit {0}
+EachFits spelling size held (e ∷ entries) =
+    Fits size held (length (spelling e)) × EachFits spelling size (held + length (spelling e)) entries

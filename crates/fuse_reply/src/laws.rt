@@ -1,14 +1,16 @@
 //! Laws of the definitions. Each function here does nothing: its contract is the law.
-ghost use Rattle.std.specs.Prelude.{◌≡◌, ◌<◌, ◌≤◌, ◌≤ℤ◌, ◌^◌, ◌++◌, ◌∷◌};
-ghost use Rattle.std.specs.Prelude.{ℕ, ℤ, List, true, false, length, map, pos, neg_ℤ};
+ghost use Rattle.std.specs.Prelude.{◌≡◌, ◌<◌, ◌≤◌, ◌≤ℤ◌, ◌%◌, ◌^◌, ◌++◌, ◌∷◌};
+ghost use Rattle.std.specs.Prelude.{ℕ, ℤ, List, [], true, false, length, map, pos, neg_ℤ};
 ghost use Rattle.std.specs.List.{AllByRecursion, concat};
 ghost use Rattle.fuse_wire.specs.Frames.{frame_length, frames, IsFrame};
 ghost use Rattle.fuse_wire.specs.Numbered.{SaysSame};
 ghost use Rattle.fuse_reply.specs.Sizes.{max_payload};
-ghost use Rattle.fuse_reply.specs.Answer.{Answer, IsAnswer};
+ghost use Rattle.fuse_reply.specs.Answer.{Answer, IsAnswer, IsDirEntry, IsPlusEntry};
 ghost use Rattle.fuse_reply.specs.Answer.Answer.{Error};
 ghost use Rattle.fuse_reply.specs.Frame.{frame, frame_of, frame_status, is_set_aside};
 ghost use Rattle.fuse_reply.specs.Frame.{answer_status, reply, reply_frames, IsReply};
+ghost use Rattle.fuse_reply.specs.Listing.{DirEntry, PlusEntry, EachFits};
+ghost use Rattle.fuse_reply.specs.Listing.{dirent, direntplus, listing, plus_listing};
 ghost use Rattle.fuse_reply.specs.Notice.{Notice, IsNotice, notice, notify_code};
 
 use crate::{Out, OutEnd};
@@ -57,6 +59,30 @@ pub fn frames_count_themselves()
         → frames (concat (map frame_of parts)) ≡ map frame_of parts }
     ensures replies { (answers : List (ℕ × Answer)) → AllByRecursion (λ (id, answer). IsAnswer answer) answers
         → frames (concat (reply_frames answers)) ≡ reply_frames answers }
+{}
+
+/// Entries of a directory are a multiple of 8 bytes long, and at most the size where each fits behind those before it.
+/// One more puts its bytes behind the others'. No other entries have the same bytes.
+pub fn listings_give_their_entries_back()
+    ensures eighths { (entries : List DirEntry) → length (listing entries) % 8 ≡ 0 }
+    ensures within { (size : ℕ) (entries : List DirEntry) → EachFits dirent size 0 entries
+        → length (listing entries) ≤ size }
+    ensures gains { (entries : List DirEntry) (e : DirEntry) → listing (entries ++ e ∷ []) ≡ listing entries ++ dirent e }
+    ensures back { (entries others : List DirEntry) → AllByRecursion IsDirEntry entries
+        → AllByRecursion IsDirEntry others → listing entries ≡ listing others → entries ≡ others }
+{}
+
+/// The same of entries with what a lookup answers, but that no others have the same bytes: these split in one way into
+/// the bytes of each, of which the attributes keep no time of creation and no flags.
+pub fn plus_listings_split_in_one_way()
+    ensures eighths { (entries : List PlusEntry) → length (plus_listing entries) % 8 ≡ 0 }
+    ensures within { (size : ℕ) (entries : List PlusEntry) → EachFits direntplus size 0 entries
+        → length (plus_listing entries) ≤ size }
+    ensures gains { (entries : List PlusEntry) (e : PlusEntry)
+        → plus_listing (entries ++ e ∷ []) ≡ plus_listing entries ++ direntplus e }
+    ensures split { (entries others : List PlusEntry) → AllByRecursion IsPlusEntry entries
+        → AllByRecursion IsPlusEntry others → plus_listing entries ≡ plus_listing others
+        → map direntplus entries ≡ map direntplus others }
 {}
 
 /// What became of a message is equal where it is the same.
