@@ -9,7 +9,8 @@ use Rattle.fuse_reply.specs.Reply.{RepliesWith}
 use Rattle.fuse_reply.specs.declared.out.Out.{Out}
 use Rattle.fuse_reply.specs.declared.out.Out.TheVariants.{Frame}
 use Rattle.fuse_session.specs.Promise.{MayAnswer}
-use Rattle.fuse_session.specs.Owed.{Answered, IsOfKind}
+use Rattle.fuse_session.specs.Kind.{IsOfKind}
+use Rattle.fuse_session.specs.Owed.{Answered}
 
 -- the reply came to this answer, which the promise allows
 pub Answered-replies : {F : Type 0} {may_answer : MayAnswer F} {fs : F} {request : Request} {c : Call} {id : ℕ} {out : Out} (a : Answer)

@@ -1,6 +1,7 @@
 pub mod Promise
 pub mod Incoming
 pub mod Verdict
+pub mod Kind
 pub mod Owed
 pub mod OneEach
 pub mod Progress

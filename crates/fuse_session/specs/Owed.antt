@@ -3,7 +3,7 @@ use Rattle.std.specs.Prelude.{◌≡◌, ◌⊎◌, ◌==◌, ℕ, List, IsTrue,
 use Rattle.std.proofs.Common.{sym, subst}
 use Rattle.fuse_wire.specs.ErrorNumbers.{ENOMEM}
 use Rattle.fuse_request.specs.Call.{Call}
-use Rattle.fuse_request.specs.Call.Call.{Lookup, GetAttr, Read, Poll}
+use Rattle.fuse_request.specs.Call.Call.{Poll}
 use Rattle.fuse_request.specs.Header.{header, header_fields, body, request_of}
 use Rattle.fuse_request.specs.Opcode.{FUSE_DESTROY}
 use Rattle.fuse_request.specs.Operation.{operation}
@@ -11,25 +11,18 @@ use Rattle.fuse_request.specs.declared.any_request.Header.{Header}
 use Rattle.fuse_request.specs.declared.error.RequestError.{RequestError}
 use Rattle.fuse_request.specs.declared.request.Request.{Request}
 use Rattle.fuse_reply.specs.Answer.{Answer, IsAnswer}
-use Rattle.fuse_reply.specs.Answer.Answer.{Empty, Error, Data, Entry, Attr}
+use Rattle.fuse_reply.specs.Answer.Answer.{Empty, Error}
 use Rattle.fuse_reply.specs.Reply.{RepliesWith}
 use Rattle.fuse_reply.specs.Frame.{reply}
 use Rattle.fuse_reply.specs.declared.out.Out.{Out}
 use Rattle.fuse_reply.specs.declared.out.Out.TheVariants.{Frame, Note, Deferred}
 use Rattle.fuse_config.specs.declared.session_acl.SessionACL.{SessionACL}
+use Rattle.fuse_session.specs.Kind.{IsOfKind}
 use Rattle.fuse_session.specs.Promise.{Promise, MayAnswer}
 use Rattle.fuse_session.specs.Incoming.{incoming, incoming_by}
 use Rattle.fuse_session.specs.Incoming.Incoming.{Destroy, Request as IsRequest}
 use Rattle.fuse_session.specs.Verdict.{Verdict, verdict, verdict_by, serving, admitted_operation, id_of}
 use Rattle.fuse_session.specs.Verdict.Verdict.{Broken, Ends, Fixed, Forgets, Calls}
-
--- an answer that a reply of the call can give
-abbrev pub IsOfKind : Call → Answer → Type 0
-IsOfKind c (Error errno) = Unit {0}
-IsOfKind (Lookup parent name) (Entry entry_valid attr_valid generation attr) = Unit {0}
-IsOfKind (GetAttr ino fh) (Attr valid attr) = Unit {0}
-IsOfKind (Read ino fh offset size flags lock_owner) (Data bytes) = Unit {0}
-IsOfKind c a = ⊥
 
 -- the filesystem's promise allows this answer to the call
 pub record Allowed {F : Type 0} (may_answer : MayAnswer F) (fs : F) (request : Request) (c : Call) (a : Answer) : Type 0 where
