@@ -1,5 +1,5 @@
 // Entries of a directory, put one behind the other.
-ghost use Rattle.std.specs.Prelude.{◌≡◌, ◌≤◌, ◌<◌, ◌+◌, ◌^◌, ◌++◌, length, replicate, max};
+ghost use Rattle.std.specs.Prelude.{◌≡◌, ◌≤◌, ◌<◌, ◌+◌, ◌*◌, ◌^◌, ◌++◌, length, replicate, max, min};
 ghost use Rattle.std.specs.Prelude.{Ok, true, false, IsOk, OnOk, OnErr};
 ghost use Rattle.smallvec.specs.SmallVec.{small_vec_len, HasRoomFor};
 ghost use Rattle.fuse_reply.specs.Sizes.{inline_size, max_payload};
@@ -55,6 +55,7 @@ fn make_room(
     requires { small_vec_len held.old + more ≤ limit }
     ensures room { OnOk result (HasRoomFor held.new more) }
     ensures same { held.new.items ≡ held.old.items }
+    ensures doubles { held.old.capacity < held.new.capacity → min (2 * held.old.capacity) limit ≤ held.new.capacity }
     ensures within { held.new.capacity ≤ max held.old.capacity limit }
     ensures err { OnErr result (held.new ≡ held.old) }
     ensures inline { small_vec_len held.old + more ≤ inline_size → IsOk result }

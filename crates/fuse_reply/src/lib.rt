@@ -3,7 +3,11 @@
 #![tactic(auto)]
 
 mod attributes;
+#[cfg(test)]
+mod directory_tests;
 mod entries;
+#[cfg(test)]
+mod fixed_tests;
 pub mod laws;
 mod out;
 mod packed;

@@ -1,5 +1,9 @@
 // What goes out, as bytes.
-use crate::{Out, OutEnd, Packed, ReplyAttr, ReplyData, ReplyEmpty, ReplyEntry};
+ghost use Rattle.std.specs.Prelude.{◌<◌, ◌^◌, length};
+
+use crate::{
+    Out, OutEnd, Packed, Reply, ReplyAttr, ReplyData, ReplyEmpty, ReplyEntry, ReplyOpen, ReplyXattr,
+};
 use fuse_wire::{
     Duration, Errno, FileAttr, FileType, Generation, INodeNo, MemorySink, RequestId, Sending,
     SystemTime,
@@ -9,17 +13,17 @@ use std::process::Abort;
 use std::test::Fail;
 
 /// The request that is answered.
-const ID: RequestId = RequestId(0xdead_beef);
+pub const ID: RequestId = RequestId(0xdead_beef);
 
 /// Sends what goes out to an empty sink.
-fn sent(alloc: Global, out: Out) -> (MemorySink, OutEnd) {
+pub fn sent(alloc: Global, out: Out) -> (MemorySink, OutEnd) {
     let mut sink = MemorySink::new(alloc, Vec::new(alloc));
     let end = out.send(&mut sink);
     (sink, end)
 }
 
 /// One frame of these bytes goes out, and no note.
-fn sends_frame<A: Abort>(rt: &A, alloc: Global, out: Out, expected: &[u8]) {
+pub fn sends_frame<A: Abort>(rt: &A, alloc: Global, out: Out, expected: &[u8]) {
     let (sink, end) = sent(alloc, out);
     assert_eq!(rt; end, OutEnd::Written);
     assert_eq!(rt; sink.frames().len(), 1);
@@ -27,6 +31,25 @@ fn sends_frame<A: Abort>(rt: &A, alloc: Global, out: Out, expected: &[u8]) {
         assert_eq!(rt; frame.as_slice(), expected);
     }
     assert_eq!(rt; sink.notes().len(), 0);
+}
+
+/// One frame goes out, of status 0 and this payload, and no note.
+pub fn carries<A: Abort>(rt: &A, alloc: Global, out: Out, payload: &[u8])
+    requires { length payload.now < 2 ^ 31 }
+{
+    let (sink, end) = sent(alloc, out);
+    assert_eq!(rt;
+        (end, sink.frames().len(), sink.notes().len()),
+        (OutEnd::Written, 1, 0)
+    );
+    let [l0, l1, l2, l3] = (16 + payload.len() as u32).to_le_bytes();
+    let header = [
+        l0, l1, l2, l3, 0, 0, 0, 0, 0xef, 0xbe, 0xad, 0xde, 0, 0, 0, 0,
+    ];
+    for frame in sink.frames() {
+        assert_eq!(rt; frame.as_slice().get(..16), Some(header.as_slice()));
+        assert_eq!(rt; frame.as_slice().get(16..), Some(payload));
+    }
 }
 
 /// One frame goes out, which has these bytes from `at` to `end`.
@@ -40,7 +63,7 @@ fn sends_part<A: Abort>(rt: &A, alloc: Global, out: Out, at: usize, end: usize, 
 }
 
 /// The attributes that are sent.
-fn attributes() -> FileAttr {
+pub fn attributes() -> FileAttr {
     let time = SystemTime(0x1234 * 1_000_000_000 + 0x5678);
     FileAttr {
         ino: INodeNo(0x11),
@@ -62,7 +85,7 @@ fn attributes() -> FileAttr {
 }
 
 /// Their bytes.
-const ATTRIBUTES: [u8; 88] = [
+pub const ATTRIBUTES: [u8; 88] = [
     0x11, 0, 0, 0, 0, 0, 0, 0, 0x22, 0, 0, 0, 0, 0, 0, 0, 0x33, 0, 0, 0, 0, 0, 0, 0, 0x34, 0x12, 0,
     0, 0, 0, 0, 0, 0x34, 0x12, 0, 0, 0, 0, 0, 0, 0x34, 0x12, 0, 0, 0, 0, 0, 0, 0x78, 0x56, 0, 0,
     0x78, 0x56, 0, 0, 0x78, 0x56, 0, 0, 0xa4, 0x81, 0, 0, 0x55, 0, 0, 0, 0x66, 0, 0, 0, 0x77, 0, 0,
@@ -91,28 +114,41 @@ fn answers_by_a_status(rt: HostRuntime) {
     sends_frame(&rt, alloc, silent.into_out(), &unanswered);
 }
 
-#[test]
-fn fails_by_a_status(rt: HostRuntime) {
-    let alloc = rt.alloc();
+/// Each kind of reply fails alike.
+fn fails<A: Abort, Kind>(rt: &A, alloc: Global, error: Reply<Kind>, silent: Reply<Kind>) {
     let failed = [
         16, 0, 0, 0, 0xbe, 0xff, 0xff, 0xff, 0xef, 0xbe, 0xad, 0xde, 0, 0, 0, 0,
     ];
     let unanswered = [
         16, 0, 0, 0, 0xfb, 0xff, 0xff, 0xff, 0xef, 0xbe, 0xad, 0xde, 0, 0, 0, 0,
     ];
-    let error = Errno::from_i32(66);
-    let entry = ReplyEntry::new(alloc, ID).error(error);
-    sends_frame(&rt, alloc, entry.into_out(), &failed);
-    let entry = ReplyEntry::new(alloc, ID).unanswered();
-    sends_frame(&rt, alloc, entry.into_out(), &unanswered);
-    let attr = ReplyAttr::new(alloc, ID).error(error);
-    sends_frame(&rt, alloc, attr.into_out(), &failed);
-    let attr = ReplyAttr::new(alloc, ID).unanswered();
-    sends_frame(&rt, alloc, attr.into_out(), &unanswered);
-    let bytes = ReplyData::new(alloc, ID).error(error);
-    sends_frame(&rt, alloc, bytes.into_out(), &failed);
-    let bytes = ReplyData::new(alloc, ID).unanswered();
-    sends_frame(&rt, alloc, bytes.into_out(), &unanswered);
+    sends_frame(
+        rt,
+        alloc,
+        error.error(Errno::from_i32(66)).into_out(),
+        &failed,
+    );
+    sends_frame(rt, alloc, silent.unanswered().into_out(), &unanswered);
+}
+
+#[test]
+fn fails_by_a_status(rt: HostRuntime) {
+    let alloc = rt.alloc();
+    fails(
+        &rt,
+        alloc,
+        ReplyEntry::new(alloc, ID),
+        Reply::new(alloc, ID),
+    );
+    fails(&rt, alloc, ReplyAttr::new(alloc, ID), Reply::new(alloc, ID));
+    fails(&rt, alloc, ReplyData::new(alloc, ID), Reply::new(alloc, ID));
+    fails(&rt, alloc, ReplyOpen::new(alloc, ID), Reply::new(alloc, ID));
+    fails(
+        &rt,
+        alloc,
+        ReplyXattr::new(alloc, ID),
+        Reply::new(alloc, ID),
+    );
 }
 
 #[test]
@@ -197,6 +233,22 @@ fn carries_each_time_in_its_place(rt: HostRuntime) {
     let times = [
         0xfe, 0xff, 0xff, 0xff, 0xff, 0xff, 0xff, 0xff, 1, 0, 0, 0, 0, 0, 0, 0, 0xff, 0xff, 0xff,
         0xff, 0xff, 0xff, 0xff, 0xff, 0, 0x08, 0xaf, 0x2f, 2, 0, 0, 0, 0xff, 0xc9, 0x9a, 0x3b,
+    ];
+    let reply = ReplyAttr::new(alloc, ID).attr(&Duration::new(1, 0), &attr);
+    sends_part(&rt, alloc, reply.into_out(), 56, 92, &times);
+}
+
+#[test]
+fn times_past_the_range_of_their_fields_are_cut_to_it(rt: HostRuntime) {
+    let alloc = rt.alloc();
+    let mut attr = attributes();
+    attr.atime = SystemTime(9_223_372_036_854_775_808 * 1_000_000_000);
+    attr.mtime = SystemTime(-9_223_372_036_854_775_808 * 1_000_000_000 - 1);
+    attr.ctime = SystemTime(9_223_372_036_854_775_807 * 1_000_000_000 + 999_999_999);
+    let times = [
+        0xff, 0xff, 0xff, 0xff, 0xff, 0xff, 0xff, 0x7f, 0, 0, 0, 0, 0, 0, 0, 0x80, 0xff, 0xff,
+        0xff, 0xff, 0xff, 0xff, 0xff, 0x7f, 0xff, 0xc9, 0x9a, 0x3b, 0, 0, 0, 0, 0xff, 0xc9, 0x9a,
+        0x3b,
     ];
     let reply = ReplyAttr::new(alloc, ID).attr(&Duration::new(1, 0), &attr);
     sends_part(&rt, alloc, reply.into_out(), 56, 92, &times);
