@@ -1,5 +1,5 @@
 -- Entries of a directory, one after the other: how long they are together, and that they split in one way.
-use Rattle.std.proofs.Common.{◌≡◌, ℕ, zero, suc, ◌+◌, ◌-◌, ◌*◌, ◌/◌, ◌%◌, ◌^◌, ◌==◌, ◌<◌, ◌≤◌, min, List, [], ◌∷◌, ◌++◌, length, take, drop, map, flat_map, replicate}
+use Rattle.std.proofs.Common.{◌≡◌, ℕ, ◌+◌, ◌%◌, ◌^◌, ◌==◌, ◌<◌, ◌≤◌, min, List, [], ◌∷◌, ◌++◌, length, take, drop, map, flat_map, replicate}
 use Rattle.std.proofs.Common.{refl, ap, sym, ◌∙◌, subst, arith, length-append, append_assoc, if◌then◌else◌}
 use Rattle.std.specs.Int.{w32, w64, to_le_bytes}
 use Rattle.std.specs.List.{AllByRecursion}
@@ -43,7 +43,8 @@ eighths-listing = eighths dirent (λ e. ap (λ n. n % 8) (length-dirent e) ∙ p
 
 pub eighths-plus_listing : (entries : List PlusEntry) → length (plus_listing entries) % 8 ≡ 0
 eighths-plus_listing =
-    eighths direntplus (λ e. ap (λ n. n % 8) (length-direntplus e) ∙ eighths-add 128 (24 + length e.name + padding (length e.name)) refl (padded (length e.name)))
+    eighths direntplus (λ e. ap (λ n. n % 8) (length-direntplus e)
+    ∙ eighths-add 128 (24 + length e.name + padding (length e.name)) refl (padded (length e.name)))
 
 -- entries that each fit are at most the size together
 within-behind : {E : Type 0} (spelling : E → List ℕ) (size held : ℕ) (entries : List E) → held ≤ size → EachFits spelling size held entries
@@ -118,7 +119,8 @@ number-type : (e : DirEntry) (rest : List ℕ) → IsDirEntry e → number (dire
 unfolding dirent dirent_head
 number-type e rest valid =
     let after : List ℕ = e.name ++ replicate (padding (length e.name)) 0 ++ rest in
-    number-append_right (to_le_bytes w64 e.ino ++ to_le_bytes w64 e.offset ++ to_le_bytes w32 (length e.name)) (to_le_bytes w32 (entry_type e.kind) ++ after) 0 4
+    number-append_right (to_le_bytes w64 e.ino ++ to_le_bytes w64 e.offset ++ to_le_bytes w32 (length e.name))
+    (to_le_bytes w32 (entry_type e.kind) ++ after) 0 4
     ∙ number-to_le_bytes_4 (entry_type e.kind) after (entry_type-fits e.kind)
 
 -- the kind of a type

@@ -6,7 +6,8 @@ use Rattle.fuse_reply.specs.Answer.{Answer, IsAnswer}
 use Rattle.fuse_reply.specs.Answer.Answer.{Error, Empty, Data, Entry, Attr, Open, Create, Write, XattrSize, Statfs, Lock, Bmap, Lseek, Ioctl, Poll}
 use Rattle.fuse_reply.specs.Answer.Answer.{Directory, DirectoryPlus}
 use Rattle.fuse_reply.specs.Attributes.{size_fields, second_fields, narrow_fields, attr_block, entry_front, entry_payload, attr_front, attr_payload}
-use Rattle.fuse_reply.specs.Payload.{payload, open_payload, create_payload, word_payload, statfs_counts, statfs_sizes, statfs_payload, lock_payload, ioctl_front}
+use Rattle.fuse_reply.specs.Payload.{payload, open_payload, create_payload, word_payload, statfs_counts, statfs_sizes, statfs_payload}
+use Rattle.fuse_reply.specs.Payload.{lock_payload, ioctl_front}
 
 -- an entry has 128 bytes
 pub length-entry_payload : (entry_valid attr_valid generation : ℕ) (attr : FileAttr) → length (entry_payload entry_valid attr_valid generation attr) ≡ 128

@@ -1,4 +1,5 @@
 // What directory replies carry, as bytes.
+use crate::laws::{listings_give_their_entries_back, plus_listings_split_in_one_way};
 use crate::tests::{ATTRIBUTES, ID, attributes, carries, sends_frame, sent};
 use crate::{OutEnd, ReplyDirectory, ReplyDirectoryPlus};
 use fuse_wire::{Duration, Errno, FileType, Generation, INodeNo, NoMemory};
@@ -47,6 +48,8 @@ fn a_shorter_entry_may_fit_where_another_did_not(rt: HostRuntime) {
 
 #[test]
 fn a_directory_without_entries_is_a_status(rt: HostRuntime) {
+    listings_give_their_entries_back();
+    plus_listings_split_in_one_way();
     let alloc = rt.alloc();
     let mut reply = ReplyDirectory::new(alloc, ID, 0);
     let full = reply.add(INodeNo(1), 1, FileType::Directory, b"");

@@ -67,7 +67,8 @@ pub fn listings_give_their_entries_back()
     ensures eighths { (entries : List DirEntry) → length (listing entries) % 8 ≡ 0 }
     ensures within { (size : ℕ) (entries : List DirEntry) → EachFits dirent size 0 entries
         → length (listing entries) ≤ size }
-    ensures gains { (entries : List DirEntry) (e : DirEntry) → listing (entries ++ e ∷ []) ≡ listing entries ++ dirent e }
+    ensures gains { (entries : List DirEntry) (e : DirEntry)
+        → listing (entries ++ e ∷ []) ≡ listing entries ++ dirent e }
     ensures back { (entries others : List DirEntry) → AllByRecursion IsDirEntry entries
         → AllByRecursion IsDirEntry others → listing entries ≡ listing others → entries ≡ others }
 {}
