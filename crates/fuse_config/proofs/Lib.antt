@@ -1,1 +1,2 @@
 pub mod InitLaws
+pub mod PowersOfTen

@@ -26,6 +26,10 @@ passthrough = 2 ^ 37
 abbrev pub known_without_ext : ℕ
 known_without_ext = 2 ^ 43 - 1 - init_ext
 
+-- the most bytes that a WRITE may carry
+abbrev pub largest_write : ℕ
+largest_write = 16777216
+
 -- before the filesystem has its say
 abbrev pub start : ℕ → ℕ → Version → Configuration
 start offered readahead version = record {
@@ -36,7 +40,7 @@ start offered readahead version = record {
   max_readahead = readahead;
   max_background = 16;
   congestion_threshold = None;
-  max_write = 16777216;
+  max_write = largest_write;
   time_granularity = 1;
   max_stack_depth = 0;
 }

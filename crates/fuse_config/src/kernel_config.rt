@@ -2,18 +2,28 @@
 ghost use Rattle.std.specs.Prelude.{◌≡◌, ◌≤◌, ◌<◌, length, take};
 ghost use Rattle.std.specs.Int.RustNames.{bit_and};
 ghost use Rattle.fuse_config.specs.Configuration.{start, known_without_ext, threshold_of, max_pages_of, granted_of};
+ghost use Rattle.fuse_config.specs.Setters.{add_capabilities, known_not_offered, power_of_ten_below, set_congestion_threshold};
+ghost use Rattle.fuse_config.specs.Setters.{set_max_background, set_max_readahead, set_max_stack_depth, set_max_write};
+ghost use Rattle.fuse_config.specs.Setters.{set_time_granularity};
 ghost use Rattle.fuse_config.specs.Configuration.{init_layout, init_payload, init_payload_length, version_payload};
 
 use bitflags::Flags;
 use fuse_wire::consts::{FUSE_KERNEL_MINOR_VERSION, FUSE_KERNEL_VERSION};
 use fuse_wire::{Duration, InitFlags, Version};
 use std::marker::Model;
+use std::mem;
 
 /// How many requests the kernel may have waiting in the background, if nothing else is set.
 const DEFAULT_MAX_BACKGROUND: u16 = 16;
 
-/// The most bytes that a WRITE may carry, if nothing else is set.
-const DEFAULT_MAX_WRITE: u32 = 16777216;
+/// The most bytes that a WRITE may carry, and what it may carry if nothing else is set.
+const LARGEST_WRITE: u32 = 16777216;
+
+/// How many filesystems may be stacked, by the kernel's `fs.h`.
+const FILESYSTEM_MAX_STACK_DEPTH: u32 = 2;
+
+/// A second, in nanoseconds.
+const NANOS_OF_A_SECOND: u128 = 1_000_000_000;
 
 /// The first minor version whose INIT reply has all its fields.
 const LONG_REPLY_MINOR: u32 = 23;
@@ -77,7 +87,7 @@ impl KernelConfig {
             max_readahead,
             max_background: DEFAULT_MAX_BACKGROUND,
             congestion_threshold: None,
-            max_write: DEFAULT_MAX_WRITE,
+            max_write: LARGEST_WRITE,
             time_granularity: Duration::new(0, 1),
             max_stack_depth: 0,
         }
@@ -95,6 +105,101 @@ impl KernelConfig {
         ensures { result ≡ self.now.kernel_abi }
     {
         self.kernel_abi
+    }
+
+    /// Sets how many filesystems may be stacked on this one: at most 2, as the kernel's `fs.h` has it. It counts where
+    /// `FUSE_PASSTHROUGH` is granted. The answer is the value before; more than 2 is refused with 2.
+    pub fn set_max_stack_depth(&mut self, depth: u32) -> Result<u32, u32>
+        ensures { (self.new, result) ≡ set_max_stack_depth depth self.old }
+    {
+        if depth > FILESYSTEM_MAX_STACK_DEPTH {
+            return Err(FILESYSTEM_MAX_STACK_DEPTH);
+        }
+        Ok(mem::replace(&mut self.max_stack_depth, depth))
+    }
+
+    /// Sets the granularity of times: a power of ten in nanoseconds, at most a second. The answer is the value before.
+    /// A span of 0 is refused with a nanosecond, one above a second with a second, and any other that is no power of
+    /// ten with the power below it.
+    pub fn set_time_granularity(&mut self, granularity: Duration) -> Result<Duration, Duration>
+        ensures { (self.new, result) ≡ set_time_granularity granularity self.old }
+    {
+        let nanos = granularity.as_nanos();
+        if nanos == 0 {
+            return Err(Duration::new(0, 1));
+        }
+        if nanos > NANOS_OF_A_SECOND {
+            return Err(Duration::new(1, 0));
+        }
+        let power = power_of_ten_below(nanos as u32);
+        if nanos != u128::from(power) {
+            return Err(Duration::new(0, power));
+        }
+        Ok(mem::replace(&mut self.time_granularity, granularity))
+    }
+
+    /// Sets how many bytes a WRITE may carry: 1 to 16777216. The answer is the value before; 0 is refused with 1, and
+    /// more with 16777216.
+    pub fn set_max_write(&mut self, bytes: u32) -> Result<u32, u32>
+        ensures { (self.new, result) ≡ set_max_write bytes self.old }
+    {
+        if bytes == 0 {
+            return Err(1);
+        }
+        if bytes > LARGEST_WRITE {
+            return Err(LARGEST_WRITE);
+        }
+        Ok(mem::replace(&mut self.max_write, bytes))
+    }
+
+    /// Sets how many bytes the kernel may read ahead: 1 to its own readahead. The answer is the value before; 0 is
+    /// refused with 1, even where the kernel's own is 0, and more with the kernel's own.
+    pub fn set_max_readahead(&mut self, bytes: u32) -> Result<u32, u32>
+        ensures { (self.new, result) ≡ set_max_readahead bytes self.old }
+    {
+        if bytes == 0 {
+            return Err(1);
+        }
+        if bytes > self.kernel_readahead {
+            return Err(self.kernel_readahead);
+        }
+        Ok(mem::replace(&mut self.max_readahead, bytes))
+    }
+
+    /// Requests capabilities that the kernel offers, beside those requested before. Where some are not offered nothing
+    /// is requested, and the error has those of them that this library knows, which may be none.
+    pub fn add_capabilities(&mut self, capabilities: InitFlags) -> Result<(), InitFlags>
+        ensures { (self.new, result) ≡ add_capabilities capabilities self.old }
+    {
+        if !self.offered.contains(capabilities) {
+            return Err(capabilities.intersection(known_beside(self.offered)));
+        }
+        self.requested.insert(capabilities);
+        Ok(())
+    }
+
+    /// Sets how many requests the kernel may have waiting in the background. The answer is the value before; 0 is
+    /// refused with 1.
+    pub fn set_max_background(&mut self, requests: u16) -> Result<u16, u16>
+        ensures { (self.new, result) ≡ set_max_background requests self.old }
+    {
+        if requests == 0 {
+            return Err(1);
+        }
+        Ok(mem::replace(&mut self.max_background, requests))
+    }
+
+    /// Sets how many requests may wait in the background before the kernel calls the filesystem congested. What is
+    /// above `max_background` counts as that. The answer is the threshold before, set or not; 0 is refused with 1.
+    pub fn set_congestion_threshold(&mut self, requests: u16) -> Result<u16, u16>
+        ensures { (self.new, result) ≡ set_congestion_threshold requests self.old }
+    {
+        if requests == 0 {
+            return Err(1);
+        }
+        let previous = self.threshold();
+        self.congestion_threshold = Some(requests);
+        Ok(previous)
     }
 
     /// How many requests may wait before the kernel calls the filesystem congested.
@@ -169,6 +274,27 @@ impl KernelConfig {
             .union(InitFlags::FUSE_INIT_EXT)
             .intersection(offered)
     }
+}
+
+/// The known capabilities that are not among these.
+fn known_beside(offered: InitFlags) -> InitFlags
+    ensures { result.0 ≡ known_not_offered offered.0 }
+{
+    offered.complement()
+}
+
+/// The greatest power of ten that is at most this number, which is at most 10^9.
+fn power_of_ten_below(number: u32) -> u32
+    requires least { 0 < number }
+    requires most { number ≤ 1000000000 }
+    ensures value { result ≡ power_of_ten_below number }
+    ensures below { result ≤ number }
+{
+    let mut power = 1_000_000_000;
+    while power > number {
+        power /= 10;
+    }
+    power
 }
 
 /// The fields of the INIT reply after the version.

@@ -1,10 +1,11 @@
 //! Laws of the definitions. Each function here does nothing, or gives a default: its contract is the law, which holds of all
 //! configurations.
-ghost use Rattle.std.specs.Prelude.{◌≡◌, ◌≤◌, ℕ};
+ghost use Rattle.std.specs.Prelude.{◌≡◌, ◌≤◌, ◌<◌, ◌*◌, ◌^◌, ℕ};
 ghost use Rattle.std.specs.Int.RustNames.{bit_and};
 ghost use Rattle.fuse_wire.specs.Numbered.{SaysSame};
 ghost use Rattle.fuse_config.specs.Values.{Configuration};
 ghost use Rattle.fuse_config.specs.Configuration.{granted_of, threshold_of};
+ghost use Rattle.fuse_config.specs.Setters.{power_of_ten_below, second};
 ghost use Rattle.fuse_config.specs.declared.session_acl.SessionACL.TheVariants.{Owner};
 
 use crate::{Config, SessionACL};
@@ -31,4 +32,10 @@ pub fn grants_only_what_was_offered()
 /// The kernel calls the filesystem congested where as many requests wait as may wait, or before.
 pub fn the_threshold_is_at_most_the_background()
     ensures { (config : Configuration) → threshold_of config ≤ config.max_background }
+{}
+
+/// The granularity that a refused one is answered with is the greatest power of ten below it.
+pub fn the_power_below_is_the_greatest()
+    ensures { (nanos : ℕ) → 0 < nanos → nanos ≤ second → (exponent : ℕ) ×
+        (power_of_ten_below nanos ≡ 10 ^ exponent) × (10 ^ exponent ≤ nanos) × (nanos < 10 * 10 ^ exponent) }
 {}
