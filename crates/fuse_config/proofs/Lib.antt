@@ -1,2 +1,5 @@
 pub mod InitLaws
 pub mod PowersOfTen
+pub mod Fronts
+pub mod ConflictLaws
+pub mod ReadBack

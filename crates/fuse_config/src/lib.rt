@@ -3,12 +3,21 @@
 #![tactic(auto)]
 
 mod config;
+mod conflict;
 mod kernel_config;
 pub mod laws;
+mod mount_option;
+mod option_text;
 mod session_acl;
 #[cfg(test)]
 mod tests;
 
 pub use config::Config;
+pub use conflict::{Conflict, check_option_conflicts};
 pub use kernel_config::{KernelConfig, version_reply};
+pub use mount_option::{
+    InvalidOption, MountOption, MountOptionGroup, conflicts_with, option_group, option_to_flag,
+    option_to_string,
+};
+pub use option_text::OptionText;
 pub use session_acl::SessionACL;

@@ -51,8 +51,12 @@ fn answers_a_later_version(rt: HostRuntime) -> Result<(), Fail> {
 
 #[test]
 fn serves_the_owner_by_one_thread(rt: HostRuntime) -> Result<(), Fail> {
-    let config = Config::new();
+    let config = Config::new(rt.alloc());
     assert_eq!(rt; config.acl, SessionACL::Owner);
     assert_eq!(rt; config.n_threads, None);
+    assert_eq!(rt;
+        (config.mount_options.as_slice().len(), config.clone_fd),
+        (0, false)
+    );
     Ok(())
 }

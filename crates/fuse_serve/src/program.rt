@@ -56,10 +56,9 @@ fn serve_tree<R: Wait + AllocGlobal, I: ByteSource, O: ByteSink + Send>(
     ensures complete { InputWell form (I.told input) (I.told result.input) (O.told output) (O.told result.output) →
         (result.status ≡ 0) ⊎ (result.status ≡ 9) }
 {
-    let config = Config {
-        acl: form.acl,
-        n_threads: Some(form.threads),
-    };
+    let mut config = Config::new(rt.alloc());
+    config.acl = form.acl;
+    config.n_threads = Some(form.threads);
     let Ended {
         filesystem: _,
         source,

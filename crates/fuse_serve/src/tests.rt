@@ -318,10 +318,9 @@ fn all_after_a_failed_write_is_lost(rt: HostRuntime) -> Result<(), Fail> {
 #[test]
 fn all_after_a_failed_write_counts_as_lost(rt: HostRuntime) -> Result<(), Fail> {
     let (input, output) = two_lookups(rt.alloc())?;
-    let config = Config {
-        acl: SessionACL::All,
-        n_threads: Some(1),
-    };
+    let mut config = Config::new(rt.alloc());
+    config.acl = SessionACL::All;
+    config.n_threads = Some(1);
     let Ended {
         filesystem: _,
         source,

@@ -127,10 +127,8 @@ fn serves<R: Wait + AllocGlobal + Abort>(
     notes: &[(RequestId, u64)],
 ) -> Result<(), AllocError> {
     let alloc = rt.alloc();
-    let config = Config {
-        acl,
-        n_threads: None,
-    };
+    let mut config = Config::new(rt.alloc());
+    config.acl = acl;
     let source = after_init(alloc, requests)?;
     let sink = MemorySink::new(alloc, Vec::new(alloc));
     let Ended {

@@ -33,7 +33,15 @@ fn serves<R: Wait + AllocGlobal + Abort>(
         calls: received.saturating_sub(1),
         notes: &[],
     };
-    Ok(serves_source(rt, &Config::new(), source, sink, frames, outcome, counts))
+    Ok(serves_source(
+        rt,
+        &Config::new(rt.alloc()),
+        source,
+        sink,
+        frames,
+        outcome,
+        counts,
+    ))
 }
 
 /// The source still holds this message, and no other.
@@ -156,7 +164,7 @@ fn a_note_that_is_refused_is_lost(rt: HostRuntime) -> Result<(), Fail> {
         inner: MemorySink::new(alloc, Vec::new(alloc)),
         faults: 0,
     };
-    let (course, _, sink) = run(&rt, source, sink, &Config::new());
+    let (course, _, sink) = run(&rt, source, sink, &Config::new(rt.alloc()));
     let expected = Course {
         outcome: Ok(()),
         transcript: Transcript {
@@ -179,7 +187,7 @@ fn serves_nothing<R: Wait + AllocGlobal>(rt: &R) -> (Result<(), SessionError>, u
     let alloc = rt.alloc();
     let source = MemorySource::new(Vec::new(alloc));
     let sink = MemorySink::new(alloc, Vec::new(alloc));
-    let (course, _, _) = run(rt, source, sink, &Config::new());
+    let (course, _, _) = run(rt, source, sink, &Config::new(rt.alloc()));
     (course.outcome, course.destroyed)
 }
 

@@ -87,7 +87,7 @@ fn each_message_is_answered_before_the_next_is_taken(rt: HostRuntime) -> Result<
     let sink = Answering {
         answered: &answered,
     };
-    let (course, source, _) = run(&rt, source, sink, &Config::new());
+    let (course, source, _) = run(&rt, source, sink, &Config::new(rt.alloc()));
     let answered = answered.load(Ordering::SeqCst);
     assert_eq!(rt; (course.outcome, source.faults), (Ok(()), 0));
     assert_eq!(rt; (course.transcript.received, answered), (7, 7));

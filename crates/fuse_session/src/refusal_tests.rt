@@ -44,10 +44,8 @@ fn refuses<R: Wait + AllocGlobal + Abort>(
     rows: &[Refusal],
 ) -> Result<(), Fail> {
     let alloc = rt.alloc();
-    let config = Config {
-        acl,
-        n_threads: None,
-    };
+    let mut config = Config::new(rt.alloc());
+    config.acl = acl;
     let source = after_init(alloc, rows)?;
     let sink = MemorySink::new(alloc, Vec::new(alloc));
     let (course, _, sink) = run(rt, source, sink, &config);

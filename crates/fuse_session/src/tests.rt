@@ -102,7 +102,7 @@ fn header_error(error: RequestError) -> Result<(), SessionError> {
 
 #[test]
 fn ends_at_a_faulty_header(rt: HostRuntime) -> Result<(), Fail> {
-    let config = Config::new();
+    let config = Config::new(rt.alloc());
     let mut wrong = INIT_7_8;
     wrong[0] = 0x27;
     let mut short = [0; 20];
@@ -136,7 +136,7 @@ fn agrees_on_a_version(rt: HostRuntime) -> Result<(), Fail> {
     latest[55] = 0x40;
     latest[56] = 0x20;
     let old = Err(SessionError::Unsupported(Version(7, 5)));
-    let config = Config::new();
+    let config = Config::new(rt.alloc());
     serves(&rt, &config, &[&INIT_7_8], 1, &[&ACCEPTED], Ok(()))?;
     serves(&rt, &config, &[&latest], 1, &[&full], Ok(()))?;
     serves(
@@ -159,7 +159,7 @@ fn agrees_on_a_version(rt: HostRuntime) -> Result<(), Fail> {
 
 #[test]
 fn awaits_init(rt: HostRuntime) -> Result<(), Fail> {
-    let config = Config::new();
+    let config = Config::new(rt.alloc());
     let unknown = InvalidData::Operation(RequestError::UnknownOperation(7));
     let unknown = Err(SessionError::InvalidData(unknown));
     let destroy = Err(SessionError::InvalidData(InvalidData::NotInit(FUSE_DESTROY)));
@@ -187,14 +187,12 @@ fn awaits_init(rt: HostRuntime) -> Result<(), Fail> {
 
 #[test]
 fn serves_after_init(rt: HostRuntime) -> Result<(), Fail> {
-    let config = Config::new();
+    let config = Config::new(rt.alloc());
     let unknown = message(NO_OPCODE, 2, 1, 5);
     let destroy = message(FUSE_DESTROY, 2, 0, 0);
     let done = [16, 0, 0, 0, 0, 0, 0, 0, 2, 0, 0, 0, 0, 0, 0, 0];
-    let idle = Config {
-        acl: SessionACL::Owner,
-        n_threads: Some(0),
-    };
+    let mut idle = Config::new(rt.alloc());
+    idle.n_threads = Some(0);
     let no_threads = Err(SessionError::Threads);
     serves(
         &rt,
@@ -227,7 +225,7 @@ fn contents_for(id: u8) -> [u8; 216] {
 fn calls_the_filesystem_once_for_each_message(rt: HostRuntime) -> Result<(), Fail> {
     serves_calls(
         &rt,
-        &Config::new(),
+        &Config::new(rt.alloc()),
         &[
             &INIT_7_8,
             &lookup(2, 0),
@@ -257,10 +255,8 @@ fn calls_the_filesystem_once_for_each_message(rt: HostRuntime) -> Result<(), Fai
 
 #[test]
 fn refuses_before_the_filesystem_is_called(rt: HostRuntime) -> Result<(), Fail> {
-    let owner = Config {
-        acl: SessionACL::Owner,
-        n_threads: Some(1),
-    };
+    let mut owner = Config::new(rt.alloc());
+    owner.n_threads = Some(1);
     serves_calls(
         &rt,
         &owner,
@@ -301,10 +297,9 @@ fn serves_any_owner_pages_and_threads(rt: HostRuntime) -> Result<(), Fail> {
         (1, u32::MAX, Some(usize::MAX)),
     ];
     for (owner, page_size, n_threads) in &rows {
-        let config = Config {
-            acl: SessionACL::RootAndOwner,
-            n_threads: *n_threads,
-        };
+        let mut config = Config::new(rt.alloc());
+        config.acl = SessionACL::RootAndOwner;
+        config.n_threads = *n_threads;
         let source = source_of(alloc, &[&INIT_7_8])?;
         let sink = MemorySink::new(alloc, Vec::new(alloc));
         let fresh = Counting::new(None);
@@ -325,7 +320,7 @@ fn reads_whole<R: Wait + AllocGlobal + Abort>(
     let source = source_of(alloc, &[&INIT_7_8, &read(2, 0, 0, size)])?;
     let sink = MemorySink::new(alloc, Vec::new(alloc));
     let full = Counting::new(Some(contents.clone()?));
-    let (course, _, sink) = run_with(rt, full, source, sink, 0, 4096, &Config::new());
+    let (course, _, sink) = run_with(rt, full, source, sink, 0, 4096, &Config::new(rt.alloc()));
     assert_eq!(rt; course.outcome, Ok(()));
     let frame = sink.frames().last().ok_or("no frame")?.as_slice();
     assert_eq!(rt; frame.len(), contents.len().saturating_add(16));

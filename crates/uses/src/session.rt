@@ -22,9 +22,7 @@ pub fn serve_one_file<R: Wait + AllocGlobal, S: Source, K: Sink + Send>(
         Headline promise 4096 All 0 filesystem
         (S.told source) (S.told result.source) (K.told sink) (K.told result.sink) }
 {
-    let config = Config {
-        acl: SessionACL::All,
-        n_threads: None,
-    };
+    let mut config = Config::new(rt.alloc());
+    config.acl = SessionACL::All;
     mount(rt, filesystem, source, sink, 0, 4096, &config)
 }

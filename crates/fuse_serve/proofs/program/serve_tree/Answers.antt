@@ -20,25 +20,25 @@ use Rattle.fuse_serve.proofs.program.serve_tree.Given.{Over}
 use Rattle.fuse_serve.proofs.program.serve_tree.Goals as goal
 
 -- what the input tells at first and at last, and the output
-abbrev first_in : (g : Over) → goal.After-into_inner-2 g → ByteSourceState
+abbrev first_in : (g : Over) → goal.After-drop-config g → ByteSourceState
 first_in g c = g.I.ByteSource.told c.args.input
 
-abbrev last_in : (g : Over) → goal.After-into_inner-2 g → ByteSourceState
+abbrev last_in : (g : Over) → goal.After-drop-config g → ByteSourceState
 last_in g c = g.I.ByteSource.told c.into_inner.result
 
-abbrev first_out : (g : Over) → goal.After-into_inner-2 g → ByteSinkState
+abbrev first_out : (g : Over) → goal.After-drop-config g → ByteSinkState
 first_out g c = g.O.ByteSink.told c.args.output
 
-abbrev last_out : (g : Over) → goal.After-into_inner-2 g → ByteSinkState
+abbrev last_out : (g : Over) → goal.After-drop-config g → ByteSinkState
 last_out g c = g.O.ByteSink.told c.into_inner-2.result
 
 -- what the sink tells at last
-abbrev sink_at : (g : Over) → goal.After-into_inner-2 g → SinkState
+abbrev sink_at : (g : Over) → goal.After-drop-config g → SinkState
 sink_at g c =
     let m = c.mount-source.result in sink_told (g.O.ByteSink.told m.sink.origin.value) (g.O.ByteSink.told m.sink.inner) m.sink.broken m.sink.refused
 
 -- what holds of the streams that were mounted holds of what the program was given and hands back
-over_streams : (g : Over) (c : goal.After-into_inner-2 g) (P : SourceState → SourceState → SinkState → Type 0)
+over_streams : (g : Over) (c : goal.After-drop-config g) (P : SourceState → SourceState → SinkState → Type 0)
     → P (stream_told (g.I.ByteSource.told c.new.result.inner)) (stream_told (g.I.ByteSource.told c.mount-source.result.source.inner))
     (sink_told (g.O.ByteSink.told c.new-2.result.origin.value) (g.O.ByteSink.told c.new-2.result.inner) c.new-2.result.broken c.new-2.result.refused)
     → P (stream_told (first_in g c)) (stream_told (last_in g c)) (sink_told (first_out g c) (first_out g c) false 0)
@@ -50,21 +50,21 @@ over_streams g c P p =
     c.new-2.result.refused 0 c.new-2.ensures.origin c.new-2.ensures.held c.new-2.ensures.broken c.new-2.ensures.fresh) p
 
 -- how the output stands at last
-stands_at : (g : Over) (c : goal.After-into_inner-2 g) → ∥ Stands (sink_at g c) (last_out g c) c.mount-source.result.sink.broken ∥₁
+stands_at : (g : Over) (c : goal.After-drop-config g) → ∥ Stands (sink_at g c) (last_out g c) c.mount-source.result.sink.broken ∥₁
 stands_at g c =
     let m = c.mount-source.result in
     subst (λ (k : SinkState). ∥ Stands k (last_out g c) m.sink.broken ∥₁)
     (sink-same g.O.ByteSink.told m.sink.origin.value c.into_inner-2.result m.sink.origin.value m.sink.inner m.sink.broken m.sink.broken
     m.sink.refused m.sink.refused refl c.into_inner-2.ensures.held refl refl) c.into_inner-2.ensures.stands
 
-exit_is : (g : Over) (c : goal.After-into_inner-2 g)
+exit_is : (g : Over) (c : goal.After-drop-config g)
     → c.status_of.result ≡ status c.mount-source.result.outcome c.mount-source.result.transcript.lost c.mount-source.result.sink.broken
 exit_is g c =
     let m = c.mount-source.result in
     subst (λ (b : Bool). c.status_of.result ≡ status m.outcome m.transcript.lost b) c.broken-broken.ensures c.status_of.ensures
 
 -- the session over the bytes, where there was memory for it
-exchanged : (g : Over) (c : goal.After-into_inner-2 g) → c.status_of.result ≢ 9
+exchanged : (g : Over) (c : goal.After-drop-config g) → c.status_of.result ≢ 9
     → ByteExchange c.args.form c.status_of.result (first_in g c) (last_in g c) (first_out g c) (last_out g c)
 exchanged g c other =
     let m = c.mount-source.result in
