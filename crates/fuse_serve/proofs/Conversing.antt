@@ -45,6 +45,9 @@ EndedBy-map : (o : Outcome) (threads : Option ℕ) (end : HandshakeEnd) (answere
     (P Q F G : Type 0) → (P → Q) → (F → G)
     → EndedBy o threads end answered refused P F → EndedBy o threads end answered refused Q G
 EndedBy-map (Ok u) threads end answered refused P Q F G none failed e = (e.0, e.1, EndsWell-map answered P Q none e.2)
+EndedBy-map (Err (session.Conflict i j)) threads end answered refused P Q F G none failed e = e
+EndedBy-map (Err session.AutoUnmount) threads end answered refused P Q F G none failed e = e
+EndedBy-map (Err session.CloneFd) threads end answered refused P Q F G none failed e = e
 EndedBy-map (Err session.Memory) threads end answered refused P Q F G none failed e = e
 EndedBy-map (Err session.NotConnected) threads end answered refused P Q F G none failed e = (e.0, none e.1)
 EndedBy-map (Err (session.InvalidData d)) threads end answered refused P Q F G none failed e = e

@@ -6,11 +6,16 @@ use Rattle.std.specs.Prelude.{◌||◌}
 use Rattle.fuse_wire.specs.Faults.{last_count}
 use Rattle.fuse_session.specs.Exchange.{Outcome}
 use Rattle.fuse_session.specs.declared.error.SessionError.{SessionError}
-use Rattle.fuse_session.specs.declared.error.SessionError.TheVariants.{Memory, NotConnected, InvalidData, Unsupported, Init, Threads, Receive}
+use Rattle.fuse_session.specs.declared.error.SessionError.TheVariants.{Conflict, AutoUnmount, CloneFd, Memory}
+use Rattle.fuse_session.specs.declared.error.SessionError.TheVariants.{NotConnected, InvalidData, Unsupported, Init, Threads, Receive}
+use Rattle.fuse_session.specs.Refused.{Untouched}
 use Rattle.fuse_serve.specs.Status.{status, failure_status, IsSessionStatus}
 
 -- no failure has the status 0
 failure-some : (e : SessionError) → failure_status e ≡ 0 → ⊥
+failure-some (Conflict i j) h = omega arith
+failure-some AutoUnmount h = omega arith
+failure-some CloneFd h = omega arith
 failure-some Memory h = omega arith
 failure-some NotConnected h = omega arith
 failure-some (InvalidData d) h = omega arith
@@ -39,6 +44,9 @@ zero-status (Err e) lost broken h = absurd (failure-some e h)
 
 -- no failure has the status 8
 failure-eight : (e : SessionError) → failure_status e ≡ 8 → ⊥
+failure-eight (Conflict i j) h = omega arith
+failure-eight AutoUnmount h = omega arith
+failure-eight CloneFd h = omega arith
 failure-eight Memory h = omega arith
 failure-eight NotConnected h = omega arith
 failure-eight (InvalidData d) h = omega arith
@@ -53,6 +61,15 @@ eight-status (Err e) lost broken h = absurd (failure-eight e h)
 eight-status (Ok u) (suc less) broken h = inl (omega arith)
 eight-status (Ok u) zero true h = inr refl
 eight-status (Ok u) zero false h = absurd (omega arith)
+
+-- where nothing was taken the status is 9
+pub nine-untouched : (outcome : Outcome) (lost : ℕ) (broken : Bool) → Untouched outcome → status outcome lost broken ≡ 9
+nine-untouched (Ok u) lost broken none = absurd none
+nine-untouched (Err (Conflict i j)) lost broken none = refl
+nine-untouched (Err AutoUnmount) lost broken none = refl
+nine-untouched (Err CloneFd) lost broken none = refl
+nine-untouched (Err Memory) lost broken none = refl
+nine-untouched (Err _) lost broken none = absurd none
 
 ok-only : (worse : Bool) → (ok-status worse ≡ 0) ⊎ (ok-status worse ≡ 8)
 ok-only true = inr refl
@@ -75,6 +92,9 @@ ok-session true = inr (inr (inr (inr (inr (inl refl)))))
 ok-session false = inl refl
 
 failure-session : (e : SessionError) → IsSessionStatus (failure_status e)
+failure-session (Conflict i j) = inr (inr (inr (inr (inr (inr (inl refl))))))
+failure-session AutoUnmount = inr (inr (inr (inr (inr (inr (inl refl))))))
+failure-session CloneFd = inr (inr (inr (inr (inr (inr (inl refl))))))
 failure-session Memory = inr (inr (inr (inr (inr (inr (inl refl))))))
 failure-session NotConnected = inr (inl refl)
 failure-session (InvalidData d) = inr (inr (inl refl))

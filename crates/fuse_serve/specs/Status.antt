@@ -1,9 +1,14 @@
 -- The exit status of a session's outcome.
 use Rattle.std.specs.Prelude.{◌≡◌, ◌⊎◌, ℕ, Bool, Result, Ok, Err, nat_lt, ◌||◌, if◌then◌else◌}
 use Rattle.fuse_session.specs.declared.error.SessionError.{SessionError}
-use Rattle.fuse_session.specs.declared.error.SessionError.TheVariants.{Memory, NotConnected, InvalidData, Unsupported, Init, Threads, Receive}
+use Rattle.fuse_session.specs.declared.error.SessionError.TheVariants.{Conflict, AutoUnmount, CloneFd, Memory}
+use Rattle.fuse_session.specs.declared.error.SessionError.TheVariants.{NotConnected, InvalidData, Unsupported, Init, Threads, Receive}
 
+-- the program lists no options, so that they are never refused; nothing would be read or written either
 abbrev pub failure_status : SessionError → ℕ
+failure_status (Conflict first second) = 9
+failure_status AutoUnmount = 9
+failure_status CloneFd = 9
 failure_status Memory = 9
 failure_status NotConnected = 3
 failure_status (InvalidData d) = 4

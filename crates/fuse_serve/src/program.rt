@@ -34,7 +34,13 @@ fn status_of(outcome: &Result<(), SessionError>, lost: u64, broken: bool) -> u8
         Err(SessionError::InvalidData(_) | SessionError::Init(_)) => 4,
         Err(SessionError::Unsupported(_)) => 5,
         Err(SessionError::Receive) => 7,
-        Err(SessionError::Memory) => 9,
+        // The program lists no options, so that they are never refused.
+        Err(
+            SessionError::Conflict { .. }
+            | SessionError::AutoUnmount
+            | SessionError::CloneFd
+            | SessionError::Memory,
+        ) => 9,
         Err(SessionError::Threads) => 10,
     }
 }

@@ -212,6 +212,9 @@ left-none s left told none = subst (λ (o : Option (List (List ℕ))). IfSome o 
 pub Ok-from_exchange : {F : Type 0} {setup : Setup F} {fs fs1 : F} {p q : Progress} (o : Outcome) → Exchange setup fs fs1 o p q
     → SessionWell setup.promise.may_init setup.threads fs p.source q.source → o ≡ Ok tt
 Ok-from_exchange (Ok u) exchange well = refl
+Ok-from_exchange (Err (session.Conflict first second)) exchange well = absurd exchange.dialogue.ended
+Ok-from_exchange (Err session.AutoUnmount) exchange well = absurd exchange.dialogue.ended
+Ok-from_exchange (Err session.CloneFd) exchange well = absurd exchange.dialogue.ended
 Ok-from_exchange (Err session.Memory) exchange well = absurd exchange.dialogue.ended
 Ok-from_exchange {F} {setup} {fs} {fs1} {p} {q} (Err session.NotConnected) exchange well =
     let e = exchange.dialogue.ended in

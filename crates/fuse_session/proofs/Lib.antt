@@ -10,3 +10,4 @@ mod HandshakeSteps
 mod Exchanging
 mod Headlining
 mod Completing
+pub mod Refusing

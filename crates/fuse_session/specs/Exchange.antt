@@ -17,7 +17,8 @@ use Rattle.fuse_session.specs.Handshake.HandshakeEnd.{Open, Accepted, Failed}
 use Rattle.fuse_session.specs.Progress.{Progress, Moves, Begins}
 use Rattle.fuse_session.specs.declared.error.InvalidData.TheVariants.{Header}
 use Rattle.fuse_session.specs.declared.error.SessionError.{SessionError}
-use Rattle.fuse_session.specs.declared.error.SessionError.TheVariants.{Memory, NotConnected, InvalidData, Unsupported, Init, Threads, Receive}
+use Rattle.fuse_session.specs.declared.error.SessionError.TheVariants.{Conflict, AutoUnmount, CloneFd, Memory}
+use Rattle.fuse_session.specs.declared.error.SessionError.TheVariants.{NotConnected, InvalidData, Unsupported, Init, Threads, Receive}
 use Rattle.fuse_session.specs.declared.greeting.HandshakeError.TheVariants as refusal
 
 -- what a session is set up with
@@ -55,6 +56,9 @@ HeaderRefused e refused = (last : List ℕ) × (refused ≡ last ∷ []) × (hea
 abbrev pub EndedBy : Outcome → (threads : Option ℕ) → HandshakeEnd → (answered refused : List (List ℕ)) → (none_left failed : Type 0) → Type 0
 EndedBy (Ok u) threads end answered refused none_left failed =
     RunFollows threads end × (refused ≡ []) × EndsWell answered none_left
+EndedBy (Err (Conflict first second)) threads end answered refused none_left failed = ⊥
+EndedBy (Err AutoUnmount) threads end answered refused none_left failed = ⊥
+EndedBy (Err CloneFd) threads end answered refused none_left failed = ⊥
 EndedBy (Err Memory) threads end answered refused none_left failed = ⊥
 EndedBy (Err NotConnected) threads end answered refused none_left failed = HandshakeAlone Open end answered refused × none_left
 EndedBy (Err (InvalidData d)) threads end answered refused none_left failed =

@@ -13,3 +13,4 @@ pub mod SessionEnd
 pub mod Headline
 pub mod Complete
 pub mod Decided
+pub mod Refused

@@ -17,11 +17,24 @@ pub enum InvalidData {
     NotInit(u32),
 }
 
-/// Why a session ended early.
+/// Why a session ended early, in the order in which the causes are looked at.
 #[derive(Clone, Copy, Debug, PartialEq, Eq)]
 pub enum SessionError {
-    /// No memory was to be had for the receive buffer. Nothing was received, nothing was sent, and the filesystem was
-    /// not called.
+    /// Two of the options conflict: `first` is the least place, counted from 0, whose option conflicts with a later one,
+    /// and `second` the least such later place. Nothing was received, nothing was sent, and the filesystem was not
+    /// called.
+    Conflict {
+        /// The place of the first of the two.
+        first: usize,
+        /// The place of the second.
+        second: usize,
+    },
+    /// `AutoUnmount` is listed, which asks that others than the owner are served, and they are not. Nothing was done, as
+    /// for a conflict.
+    AutoUnmount,
+    /// `clone_fd` is set with more than one thread, and no device is opened here. Nothing was done, as for a conflict.
+    CloneFd,
+    /// No memory was to be had for the receive buffer. Nothing was done, as for a conflict.
     Memory,
     /// No message was left before an INIT was accepted.
     NotConnected,

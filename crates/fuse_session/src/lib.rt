@@ -19,6 +19,7 @@ mod handshake;
 mod incoming;
 mod judge;
 pub mod laws;
+mod options;
 #[cfg(test)]
 mod order_tests;
 mod refusal;

@@ -1,9 +1,10 @@
 // Serving a filesystem, from the first message to the last.
-ghost use Rattle.std.specs.Prelude.{◌≡◌, ◌≢◌, ◌<◌, ◌⊎◌, ℕ, Ok, Err, false, length};
+ghost use Rattle.std.specs.Prelude.{◌≡◌, ◌≢◌, ◌<◌, ◌⊎◌, ◌↔◌, ℕ, Ok, Err, false, length};
 ghost use Rattle.fuse_session.specs.Progress.{nothing_yet, progress};
 ghost use Rattle.fuse_session.specs.Complete.{AcceptsAll, SessionWell};
 ghost use Rattle.fuse_session.specs.Exchange.{Exchange, Mounted, setup, setup_of};
 ghost use Rattle.fuse_session.specs.Headline.{Headline, Lossless};
+ghost use Rattle.fuse_session.specs.Refused.{OfOptions, OptionsWell, RefusedAs, Untouched};
 ghost use Rattle.fuse_session.specs.SessionEnd.{run_outcome};
 
 use crate::access::AccessRule;
@@ -11,16 +12,17 @@ use crate::channel::Channel;
 use crate::dispatch::Service;
 use crate::event_loop::{End, run_inline};
 use crate::handshake::{HandshakeOutcome, handshake};
+use crate::options::prepare;
 use crate::{Filesystem, InvalidData, SessionError, Transcript};
 use fuse_config::Config;
 use fuse_wire::consts::BUFFER_SIZE;
-use fuse_wire::{Sink, Source, receive_buffer};
+use fuse_wire::{Sink, Source};
 use std::sync::Wait;
 
 /// How a session ended. It hands back all that the session was given.
 #[derive(Debug)]
 pub struct Ended<FS, S, K> {
-    /// The filesystem, after its `destroy` unless no memory was to be had.
+    /// The filesystem, after its `destroy` unless the options were refused or no memory was to be had.
     pub filesystem: FS,
     /// The source, with the messages that were not taken.
     pub source: S,
@@ -100,9 +102,9 @@ fn serve<R: Wait + AllocGlobal, FS: Filesystem, S: Source, K: Sink>(
 /// Serves a filesystem: the handshake with the kernel, then each message, until the source ends or the kernel sends
 /// DESTROY. Each message is answered before the next is taken. `owner` is the user whose session it is, and `config`
 /// says whose requests are served. `page_size` is in bytes, and not 0: the kernel is told how many pages a request may
-/// span. The receive buffer is the only memory that it takes itself, before the first message; without it the outcome
-/// is `Memory`. `destroy` is called once, unless no memory was to be had. A frame or a note that the sink refuses is
-/// counted as lost, and not sent again.
+/// span. First of all the options of `config` are looked at, and then the receive buffer is taken, the only memory that
+/// it takes itself; where they are refused, or there is no memory, the outcome says so, and nothing else was done.
+/// Otherwise `destroy` is called once. A frame or a note that the sink refuses is counted as lost, and not sent again.
 pub fn mount<R: Wait + AllocGlobal, FS: Filesystem, S: Source, K: Sink + Send>(
     rt: &R,
     filesystem: FS,
@@ -122,13 +124,13 @@ pub fn mount<R: Wait + AllocGlobal, FS: Filesystem, S: Source, K: Sink + Send>(
         (K.told sink) (K.told result.sink) }
 
     // What was taken, sent, lost and counted on every end, why it ended so, and that `destroy` was called once.
-    ensures session { result.outcome ≢ Err SessionError.Memory →
+    ensures session { ¬ (Untouched result.outcome) →
         Mounted (setup FS.promise page_size config.now owner) filesystem result.filesystem result.outcome
         (progress (S.told source) (K.told sink) nothing_yet)
         (progress (S.told result.source) (K.told result.sink) result.transcript) }
 
     // It ends well where nothing is amiss, or else for want of memory.
-    ensures complete { SessionWell FS.promise.may_init config.now.n_threads filesystem
+    ensures complete { OptionsWell config.now → SessionWell FS.promise.may_init config.now.n_threads filesystem
         (S.told source) (S.told result.source) →
         (result.outcome ≡ Ok tt) ⊎ (result.outcome ≡ Err SessionError.Memory) }
 
@@ -136,19 +138,23 @@ pub fn mount<R: Wait + AllocGlobal, FS: Filesystem, S: Source, K: Sink + Send>(
     ensures accepted { AcceptsAll FS.promise.may_init filesystem →
         (e : ℕ) → result.outcome ≢ Err (SessionError.Init e) }
 
-    // Want of memory leaves all as it was.
-    ensures memory { result.outcome ≡ Err SessionError.Memory →
+    // Options are refused exactly where a cause holds, and none that is looked at before it.
+    ensures options { (e : SessionError) → OfOptions e →
+        (result.outcome ≡ Err e) ↔ RefusedAs config.now e }
+
+    // Refused options, and want of memory, leave all as it was.
+    ensures untouched { Untouched result.outcome →
         (result.filesystem ≡ filesystem) × (result.source ≡ source) × (result.sink ≡ sink)
         × (result.transcript ≡ nothing_yet) }
 {
-    let buffer = match receive_buffer(rt.alloc()) {
+    let buffer = match prepare(rt.alloc(), config) {
         Ok(buffer) => buffer,
-        Err(_) => {
+        Err(error) => {
             return Ended {
                 filesystem,
                 source,
                 sink,
-                outcome: Err(SessionError::Memory),
+                outcome: Err(error),
                 transcript: Transcript::new(),
             };
         }

@@ -9,12 +9,14 @@ use Rattle.fuse_session.specs.Complete.{SessionWell}
 use Rattle.fuse_session.specs.Exchange.{Mounted}
 use Rattle.fuse_session.specs.Headline.{Headline, Lossless}
 use Rattle.fuse_session.specs.Progress.{nothing_yet, progress}
+use Rattle.fuse_session.specs.Refused.{Untouched}
 use Rattle.fuse_session.specs.declared.error.SessionError.TheVariants.{Memory}
 use Rattle.fuse_serve.specs.Program.{ByteExchange, form_setup}
 use Rattle.fuse_serve.specs.Status.{status}
 use Rattle.fuse_serve.specs.Tree.{tree_promise, tree_may_init}
+use Rattle.fuse_session.proofs.Refusing.{OptionsWell-none_listed}
 use Rattle.fuse_serve.proofs.Conversing.{AcceptsAll-tree, ByteExchange-mounted, EachAnswered-headline, SessionWell-bytes, complete-status}
-use Rattle.fuse_serve.proofs.Statuses.{zero-status}
+use Rattle.fuse_serve.proofs.Statuses.{nine-untouched, zero-status}
 use Rattle.fuse_serve.proofs.Streams.{source-same, sink-same, carried}
 use Rattle.fuse_serve.proofs.program.serve_tree.Given.{Over}
 use Rattle.fuse_serve.proofs.program.serve_tree.Goals as goal
@@ -68,12 +70,12 @@ exchanged : (g : Over) (c : goal.After-drop-config g) → c.status_of.result ≢
     → ByteExchange c.args.form c.status_of.result (first_in g c) (last_in g c) (first_out g c) (last_out g c)
 exchanged g c other =
     let m = c.mount-source.result in
-    let some_memory : m.outcome ≢ Err Memory = λ memory. other (exit_is g c ∙ ap (λ o. status o m.transcript.lost m.sink.broken) memory) in
+    let begun : ¬ (Untouched m.outcome) = λ none. other (exit_is g c ∙ nine-untouched m.outcome m.transcript.lost m.sink.broken none) in
     ByteExchange-mounted c.args.form c.status_of.result m.outcome (first_in g c) (last_in g c) (first_out g c) (last_out g c)
     (sink_at g c) m.sink.broken m.transcript _ m.filesystem
     (over_streams g c (λ a b k. Mounted (form_setup c.args.form) _ m.filesystem m.outcome (progress a k nothing_yet)
     (progress b (sink_at g c) m.transcript))
-    (c.mount-source.ensures.session some_memory))
+    (c.mount-source.ensures.session begun))
     (c.mount-source.ensures.accepted (AcceptsAll-tree _)) (stands_at g c) (exit_is g c)
 
 pub returns-clause-answered : goal.returns-clause-answered
@@ -95,7 +97,7 @@ returns-clause-complete g c = λ fine.
     let m = c.mount-source.result in
     let ended =
     over_streams g c (λ a b k. SessionWell tree_may_init (Some c.args.form.threads) _ a b → (m.outcome ≡ Ok tt) ⊎ (m.outcome ≡ Err Memory))
-    c.mount-source.ensures.complete
+    (c.mount-source.ensures.complete (OptionsWell-none_listed _ c.new-config.ensures.mount_options c.new-config.ensures.clone_fd))
     (SessionWell-bytes c.args.form (first_in g c) (last_in g c) (first_out g c) (last_out g c) _ fine) in
     complete-status c.args.form c.status_of.result m.transcript.lost m.sink.broken m.outcome (first_in g c) (last_in g c) (first_out g c) (last_out g c)
     (exit_is g c) (exchanged g c) fine.output_still ended

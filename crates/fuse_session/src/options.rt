@@ -1,0 +1,58 @@
+// What a session looks at before anything is taken.
+ghost use Rattle.std.specs.Prelude.{◌≡◌, ◌↔◌, IfErr, IfOk, IsTrue, MatchResult, length};
+ghost use Rattle.std.specs.List.{list_any};
+ghost use Rattle.fuse_session.specs.Refused.{ManyThreads, NotBegun, OptionsWell, RefusedAs, is_auto_unmount};
+
+use crate::SessionError;
+use fuse_config::{Config, Conflict, MountOption, SessionACL, check_option_conflicts};
+use fuse_wire::consts::BUFFER_SIZE;
+use fuse_wire::receive_buffer;
+use std::alloc::Global;
+
+/// The receive buffer of a session. The options are looked at first.
+pub(crate) fn prepare(alloc: Global, config: &Config) -> Result<Vec<u8>, SessionError>
+    ensures ok { IfOk result (λ buffer. length buffer.items ≡ BUFFER_SIZE) }
+    ensures well { IfOk result (λ _. OptionsWell config.now) }
+    ensures refused { IfErr result (λ e. NotBegun config.now e) }
+{
+    check_options(config)?;
+    match receive_buffer(alloc) {
+        Ok(buffer) => Ok(buffer),
+        Err(_) => Err(SessionError::Memory),
+    }
+}
+
+/// Looks at the options. The errors are tried in the order of `SessionError`.
+fn check_options(config: &Config) -> Result<(), SessionError>
+    ensures { MatchResult result (λ _. OptionsWell config.now) (RefusedAs config.now) }
+{
+    if let Err(Conflict { first, second }) = check_option_conflicts(config) {
+        return Err(SessionError::Conflict { first, second });
+    }
+    if config.acl == SessionACL::Owner && lists_auto_unmount(config.mount_options.as_slice()) {
+        return Err(SessionError::AutoUnmount);
+    }
+    if config.clone_fd && are_many(config.n_threads) {
+        return Err(SessionError::CloneFd);
+    }
+    Ok(())
+}
+
+/// Whether `AutoUnmount` is among the options.
+fn lists_auto_unmount(options: &[MountOption]) -> bool
+    ensures { result ≡ list_any is_auto_unmount options.now }
+{
+    options
+        .iter()
+        .any(|option| matches!(option, MountOption::AutoUnmount))
+}
+
+/// Whether more than one thread is to serve.
+fn are_many(threads: Option<usize>) -> bool
+    ensures { IsTrue result ↔ ManyThreads threads }
+{
+    match threads {
+        Some(threads) => threads > 1,
+        None => false,
+    }
+}
