@@ -19,6 +19,8 @@ mod handshake;
 mod incoming;
 mod judge;
 pub mod laws;
+#[cfg(test)]
+mod option_tests;
 mod options;
 #[cfg(test)]
 mod order_tests;
