@@ -1,5 +1,6 @@
 -- Which options their own texts name.
-use Rattle.std.proofs.Common.{◌≡◌, ◌≢◌, ◌||◌, ◌↔◌, ℕ, List, [], ◌∷◌, Option, Some, None, Bool, true, false, IsTrue, not, is_some, option_map, unwrap_or, if◌then◌else◌, refl}
+use Rattle.std.proofs.Common.{◌≡◌, ◌≢◌, ◌||◌, ◌↔◌, ℕ, List, [], ◌∷◌, Option, Some, None}
+use Rattle.std.proofs.Common.{Bool, true, false, IsTrue, not, is_some, option_map, unwrap_or, if◌then◌else◌, refl}
 use Rattle.std.specs.Str.{bytes_eq}
 use Rattle.fuse_config.specs.declared.mount_option.MountOption.{MountOption}
 use Rattle.fuse_config.specs.declared.mount_option.MountOption.TheVariants.{FSName, Subtype, CUSTOM, AutoUnmount, DefaultPermissions}
