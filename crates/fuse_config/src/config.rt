@@ -15,7 +15,8 @@ pub struct Config {
     pub acl: SessionACL,
     /// How many threads serve them. None is one; none can be served by 0.
     pub n_threads: Option<usize>,
-    /// Each thread has a device of its own.
+    /// Each thread is to have a device of its own. No device is opened here, so a session of more than one thread
+    /// refuses it.
     pub clone_fd: bool,
 }
 
