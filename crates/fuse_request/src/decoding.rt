@@ -25,13 +25,12 @@ use fuse_args::ArgumentIterator;
 use fuse_wire::INodeNo;
 use std::marker::PhantomData;
 
-/// A part of a body. The decoding ends with `InsufficientData` where it is not all there.
+/// A part of a body, by a name. The decoding ends with `InsufficientData` where it is not all there.
 macro_rules! whole {
-    ($part:expr) => {
-        match $part {
-            Some(part) => part,
-            None => return Err(RequestError::InsufficientData),
-        }
+    ($name:ident = $part:expr) => {
+        let Some($name) = $part else {
+            return Err(RequestError::InsufficientData);
+        };
     };
 }
 
@@ -71,50 +70,68 @@ fn lookup_to_link<'a>(
     ensures operation { Is result (lookup_to_link opcode body.now) }
     ensures node { Keeps result node }
 {
-    let mut arguments = ArgumentIterator::new(body);
+    let mut parts = ArgumentIterator::new(body);
     let operation = match opcode {
-        FUSE_LOOKUP => Operation::Lookup(Lookup {
-            name: whole!(arguments.fetch_str()),
-        }),
-        FUSE_FORGET => Operation::Forget(Forget {
-            nlookup: whole!(arguments.fetch_u64()),
-        }),
-        FUSE_GETATTR => Operation::GetAttr(GetAttr {
-            arguments: whole!(arguments.fetch_getattr()),
-        }),
-        FUSE_SETATTR => Operation::SetAttr(SetAttr {
-            arguments: whole!(arguments.fetch_setattr()),
-        }),
+        FUSE_LOOKUP => {
+            whole!(name = parts.fetch_str());
+            Operation::Lookup(Lookup { name })
+        }
+        FUSE_FORGET => {
+            whole!(nlookup = parts.fetch_u64());
+            Operation::Forget(Forget { nlookup })
+        }
+        FUSE_GETATTR => {
+            whole!(arguments = parts.fetch_getattr());
+            Operation::GetAttr(GetAttr { arguments })
+        }
+        FUSE_SETATTR => {
+            whole!(arguments = parts.fetch_setattr());
+            Operation::SetAttr(SetAttr { arguments })
+        }
         FUSE_READLINK => Operation::ReadLink(ReadLink),
-        FUSE_SYMLINK => Operation::SymLink(SymLink {
-            link_name: whole!(arguments.fetch_str()),
-            target: whole!(arguments.fetch_str()),
-        }),
-        FUSE_MKNOD => Operation::MkNod(MkNod {
-            arguments: whole!(arguments.fetch_mknod()),
-            name: whole!(arguments.fetch_str()),
-        }),
-        FUSE_MKDIR => Operation::MkDir(MkDir {
-            arguments: whole!(arguments.fetch_mkdir()),
-            name: whole!(arguments.fetch_str()),
-        }),
-        FUSE_UNLINK => Operation::Unlink(Unlink {
-            name: whole!(arguments.fetch_str()),
-        }),
-        FUSE_RMDIR => Operation::RmDir(RmDir {
-            name: whole!(arguments.fetch_str()),
-        }),
-        FUSE_RENAME => Operation::Rename(Rename {
-            node,
-            newdir: whole!(arguments.fetch_u64()),
-            old_name: whole!(arguments.fetch_str()),
-            new_name: whole!(arguments.fetch_str()),
-        }),
-        FUSE_LINK => Operation::Link(Link {
-            node,
-            oldnodeid: whole!(arguments.fetch_u64()),
-            new_name: whole!(arguments.fetch_str()),
-        }),
+        FUSE_SYMLINK => {
+            whole!(link_name = parts.fetch_str());
+            whole!(target = parts.fetch_str());
+            Operation::SymLink(SymLink { link_name, target })
+        }
+        FUSE_MKNOD => {
+            whole!(arguments = parts.fetch_mknod());
+            whole!(name = parts.fetch_str());
+            Operation::MkNod(MkNod { arguments, name })
+        }
+        FUSE_MKDIR => {
+            whole!(arguments = parts.fetch_mkdir());
+            whole!(name = parts.fetch_str());
+            Operation::MkDir(MkDir { arguments, name })
+        }
+        FUSE_UNLINK => {
+            whole!(name = parts.fetch_str());
+            Operation::Unlink(Unlink { name })
+        }
+        FUSE_RMDIR => {
+            whole!(name = parts.fetch_str());
+            Operation::RmDir(RmDir { name })
+        }
+        FUSE_RENAME => {
+            whole!(newdir = parts.fetch_u64());
+            whole!(old_name = parts.fetch_str());
+            whole!(new_name = parts.fetch_str());
+            Operation::Rename(Rename {
+                node,
+                newdir,
+                old_name,
+                new_name,
+            })
+        }
+        FUSE_LINK => {
+            whole!(oldnodeid = parts.fetch_u64());
+            whole!(new_name = parts.fetch_str());
+            Operation::Link(Link {
+                node,
+                oldnodeid,
+                new_name,
+            })
+        }
         unknown => return Err(RequestError::UnknownOperation(unknown)),
     };
     Ok(operation)
@@ -127,55 +144,66 @@ fn open_to_flush(opcode: u32, body: &[u8]) -> Result<Operation<'_>, RequestError
     ensures operation { Is result (open_to_flush opcode body.now) }
     ensures node { (node : INodeNo) → Keeps result node }
 {
-    let mut arguments = ArgumentIterator::new(body);
+    let mut parts = ArgumentIterator::new(body);
     let operation = match opcode {
-        FUSE_OPEN => Operation::Open(Open {
-            arguments: whole!(arguments.fetch_open()),
-            kind: PhantomData,
-        }),
-        FUSE_READ => Operation::Read(Read {
-            arguments: whole!(arguments.fetch_read()),
-        }),
-        FUSE_WRITE => {
-            let part = whole!(arguments.fetch_write());
-            let written = whole!(exactly(&mut arguments, part.size));
-            Operation::Write(Write {
-                arguments: part,
-                written,
+        FUSE_OPEN => {
+            whole!(arguments = parts.fetch_open());
+            Operation::Open(Open {
+                arguments,
+                kind: PhantomData,
             })
         }
+        FUSE_READ => {
+            whole!(arguments = parts.fetch_read());
+            Operation::Read(Read { arguments })
+        }
+        FUSE_WRITE => {
+            whole!(arguments = parts.fetch_write());
+            whole!(written = exactly(&mut parts, arguments.size));
+            Operation::Write(Write { arguments, written })
+        }
         FUSE_STATFS => Operation::StatFs(StatFs),
-        FUSE_RELEASE => Operation::Release(Release {
-            arguments: whole!(arguments.fetch_release()),
-            kind: PhantomData,
-        }),
-        FUSE_FSYNC => Operation::FSync(FSync {
-            arguments: whole!(arguments.fetch_fsync()),
-            kind: PhantomData,
-        }),
+        FUSE_RELEASE => {
+            whole!(arguments = parts.fetch_release());
+            Operation::Release(Release {
+                arguments,
+                kind: PhantomData,
+            })
+        }
+        FUSE_FSYNC => {
+            whole!(arguments = parts.fetch_fsync());
+            Operation::FSync(FSync {
+                arguments,
+                kind: PhantomData,
+            })
+        }
         FUSE_SETXATTR => {
-            let part = whole!(arguments.fetch_setxattr());
-            let name = whole!(arguments.fetch_str());
-            let value = whole!(exactly(&mut arguments, part.size));
+            whole!(arguments = parts.fetch_setxattr());
+            whole!(name = parts.fetch_str());
+            whole!(value = exactly(&mut parts, arguments.size));
             Operation::SetXAttr(SetXAttr {
-                arguments: part,
+                arguments,
                 name,
                 value,
             })
         }
-        FUSE_GETXATTR => Operation::GetXAttr(GetXAttr {
-            arguments: whole!(arguments.fetch_getxattr()),
-            name: whole!(arguments.fetch_str()),
-        }),
-        FUSE_LISTXATTR => Operation::ListXAttr(ListXAttr {
-            arguments: whole!(arguments.fetch_getxattr()),
-        }),
-        FUSE_REMOVEXATTR => Operation::RemoveXAttr(RemoveXAttr {
-            name: whole!(arguments.fetch_str()),
-        }),
-        FUSE_FLUSH => Operation::Flush(Flush {
-            arguments: whole!(arguments.fetch_flush()),
-        }),
+        FUSE_GETXATTR => {
+            whole!(arguments = parts.fetch_getxattr());
+            whole!(name = parts.fetch_str());
+            Operation::GetXAttr(GetXAttr { arguments, name })
+        }
+        FUSE_LISTXATTR => {
+            whole!(arguments = parts.fetch_getxattr());
+            Operation::ListXAttr(ListXAttr { arguments })
+        }
+        FUSE_REMOVEXATTR => {
+            whole!(name = parts.fetch_str());
+            Operation::RemoveXAttr(RemoveXAttr { name })
+        }
+        FUSE_FLUSH => {
+            whole!(arguments = parts.fetch_flush());
+            Operation::Flush(Flush { arguments })
+        }
         unknown => return Err(RequestError::UnknownOperation(unknown)),
     };
     Ok(operation)
@@ -188,52 +216,78 @@ fn init_to_bmap(opcode: u32, body: &[u8]) -> Result<Operation<'_>, RequestError>
     ensures operation { Is result (init_to_bmap opcode body.now) }
     ensures node { (node : INodeNo) → Keeps result node }
 {
-    let mut arguments = ArgumentIterator::new(body);
+    let mut parts = ArgumentIterator::new(body);
     let operation = match opcode {
-        FUSE_INIT => Operation::Init(Init {
-            arguments: whole!(arguments.fetch_init()),
-        }),
-        FUSE_OPENDIR => Operation::OpenDir(OpenDir {
-            arguments: whole!(arguments.fetch_open()),
-            kind: PhantomData,
-        }),
-        FUSE_READDIR => Operation::ReadDir(ReadDir {
-            arguments: whole!(arguments.fetch_read()),
-            kind: PhantomData,
-        }),
-        FUSE_RELEASEDIR => Operation::ReleaseDir(ReleaseDir {
-            arguments: whole!(arguments.fetch_release()),
-            kind: PhantomData,
-        }),
-        FUSE_FSYNCDIR => Operation::FSyncDir(FSyncDir {
-            arguments: whole!(arguments.fetch_fsync()),
-            kind: PhantomData,
-        }),
-        FUSE_GETLK => Operation::GetLk(GetLk {
-            arguments: whole!(arguments.fetch_getlk()),
-            sleep: (),
-        }),
-        FUSE_SETLK => Operation::SetLk(SetLk {
-            arguments: whole!(arguments.fetch_getlk()),
-            sleep: false,
-        }),
-        FUSE_SETLKW => Operation::SetLk(SetLk {
-            arguments: whole!(arguments.fetch_getlk()),
-            sleep: true,
-        }),
-        FUSE_ACCESS => Operation::Access(Access {
-            arguments: whole!(arguments.fetch_access()),
-        }),
-        FUSE_CREATE => Operation::Create(Create {
-            arguments: whole!(arguments.fetch_create()),
-            name: whole!(arguments.fetch_str()),
-        }),
-        FUSE_INTERRUPT => Operation::Interrupt(Interrupt {
-            unique: whole!(arguments.fetch_u64()),
-        }),
-        FUSE_BMAP => Operation::BMap(BMap {
-            arguments: whole!(arguments.fetch_bmap()),
-        }),
+        FUSE_INIT => {
+            whole!(arguments = parts.fetch_init());
+            Operation::Init(Init { arguments })
+        }
+        FUSE_OPENDIR => {
+            whole!(arguments = parts.fetch_open());
+            Operation::OpenDir(OpenDir {
+                arguments,
+                kind: PhantomData,
+            })
+        }
+        FUSE_READDIR => {
+            whole!(arguments = parts.fetch_read());
+            Operation::ReadDir(ReadDir {
+                arguments,
+                kind: PhantomData,
+            })
+        }
+        FUSE_RELEASEDIR => {
+            whole!(arguments = parts.fetch_release());
+            Operation::ReleaseDir(ReleaseDir {
+                arguments,
+                kind: PhantomData,
+            })
+        }
+        FUSE_FSYNCDIR => {
+            whole!(arguments = parts.fetch_fsync());
+            Operation::FSyncDir(FSyncDir {
+                arguments,
+                kind: PhantomData,
+            })
+        }
+        FUSE_GETLK => {
+            whole!(arguments = parts.fetch_getlk());
+            Operation::GetLk(GetLk {
+                arguments,
+                sleep: (),
+            })
+        }
+        FUSE_SETLK => {
+            whole!(arguments = parts.fetch_getlk());
+            Operation::SetLk(SetLk {
+                arguments,
+                sleep: false,
+            })
+        }
+        FUSE_SETLKW => {
+            whole!(arguments = parts.fetch_getlk());
+            Operation::SetLk(SetLk {
+                arguments,
+                sleep: true,
+            })
+        }
+        FUSE_ACCESS => {
+            whole!(arguments = parts.fetch_access());
+            Operation::Access(Access { arguments })
+        }
+        FUSE_CREATE => {
+            whole!(arguments = parts.fetch_create());
+            whole!(name = parts.fetch_str());
+            Operation::Create(Create { arguments, name })
+        }
+        FUSE_INTERRUPT => {
+            whole!(unique = parts.fetch_u64());
+            Operation::Interrupt(Interrupt { unique })
+        }
+        FUSE_BMAP => {
+            whole!(arguments = parts.fetch_bmap());
+            Operation::BMap(BMap { arguments })
+        }
         unknown => return Err(RequestError::UnknownOperation(unknown)),
     };
     Ok(operation)
@@ -250,48 +304,59 @@ fn destroy_to_cuse_init<'a>(
     ensures operation { Is result (destroy_to_cuse_init opcode body.now) }
     ensures node { Keeps result node }
 {
-    let mut arguments = ArgumentIterator::new(body);
+    let mut parts = ArgumentIterator::new(body);
     let operation = match opcode {
         FUSE_DESTROY => Operation::Destroy(Destroy),
         FUSE_IOCTL => {
-            let part = whole!(arguments.fetch_ioctl());
-            let in_bytes = whole!(at_least(&mut arguments, part.in_size));
+            whole!(arguments = parts.fetch_ioctl());
+            whole!(in_bytes = at_least(&mut parts, arguments.in_size));
             Operation::IoCtl(IoCtl {
-                arguments: part,
+                arguments,
                 in_bytes,
             })
         }
-        FUSE_POLL => Operation::Poll(Poll {
-            arguments: whole!(arguments.fetch_poll()),
-        }),
+        FUSE_POLL => {
+            whole!(arguments = parts.fetch_poll());
+            Operation::Poll(Poll { arguments })
+        }
         FUSE_NOTIFY_REPLY => Operation::NotifyReply(NotifyReply),
         FUSE_BATCH_FORGET => {
-            let part = whole!(arguments.fetch_batch_forget());
-            let rows = whole!(arguments.fetch_slice(part.count as usize));
+            whole!(arguments = parts.fetch_batch_forget());
+            whole!(rows = parts.fetch_slice(arguments.count as usize));
             Operation::BatchForget(BatchForget { rows })
         }
-        FUSE_FALLOCATE => Operation::FAllocate(FAllocate {
-            arguments: whole!(arguments.fetch_fallocate()),
-        }),
-        FUSE_READDIRPLUS => Operation::ReadDirPlus(ReadDirPlus {
-            arguments: whole!(arguments.fetch_read()),
-            kind: PhantomData,
-        }),
-        FUSE_RENAME2 => Operation::Rename2(Rename2 {
-            node,
-            arguments: whole!(arguments.fetch_rename2()),
-            old_name: whole!(arguments.fetch_str()),
-            new_name: whole!(arguments.fetch_str()),
-        }),
-        FUSE_LSEEK => Operation::Lseek(Lseek {
-            arguments: whole!(arguments.fetch_lseek()),
-        }),
-        FUSE_COPY_FILE_RANGE => Operation::CopyFileRange(CopyFileRange {
-            node,
-            arguments: whole!(arguments.fetch_copy_file_range()),
-        }),
+        FUSE_FALLOCATE => {
+            whole!(arguments = parts.fetch_fallocate());
+            Operation::FAllocate(FAllocate { arguments })
+        }
+        FUSE_READDIRPLUS => {
+            whole!(arguments = parts.fetch_read());
+            Operation::ReadDirPlus(ReadDirPlus {
+                arguments,
+                kind: PhantomData,
+            })
+        }
+        FUSE_RENAME2 => {
+            whole!(arguments = parts.fetch_rename2());
+            whole!(old_name = parts.fetch_str());
+            whole!(new_name = parts.fetch_str());
+            Operation::Rename2(Rename2 {
+                node,
+                arguments,
+                old_name,
+                new_name,
+            })
+        }
+        FUSE_LSEEK => {
+            whole!(arguments = parts.fetch_lseek());
+            Operation::Lseek(Lseek { arguments })
+        }
+        FUSE_COPY_FILE_RANGE => {
+            whole!(arguments = parts.fetch_copy_file_range());
+            Operation::CopyFileRange(CopyFileRange { node, arguments })
+        }
         CUSE_INIT => {
-            whole!(arguments.fetch_cuse_init());
+            whole!(_nothing = parts.fetch_cuse_init());
             Operation::CuseInit(CuseInit)
         }
         unknown => return Err(RequestError::UnknownOperation(unknown)),
