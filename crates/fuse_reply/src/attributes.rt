@@ -9,9 +9,6 @@ ghost use Rattle.fuse_reply.specs.Listing.{entry_type};
 
 use fuse_wire::{Duration, FileAttr, FileType, Generation, INodeNo, time_from_system_time};
 
-/// How many nanoseconds a second has.
-const SECOND: u128 = 1_000_000_000;
-
 /// The type bits of `st_mode`.
 fn bits_of(kind: FileType) -> u16
     ensures { result ≡ kind_bits kind }
@@ -47,8 +44,7 @@ fn span_parts(span: &Duration) -> (u64, u32)
     ensures nanos { result.1 ≡ span.now % nanos_per_second }
     ensures range { IsSpan span.now }
 {
-    let all = span.as_nanos();
-    ((all / SECOND) as u64, (all % SECOND) as u32)
+    (span.as_secs(), span.subsec_nanos())
 }
 
 #[tactic(auto, unfolding(crate::specs::Attributes::size_fields))]

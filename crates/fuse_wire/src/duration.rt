@@ -1,5 +1,5 @@
 //! Spans of time.
-ghost use Rattle.std.specs.Prelude.{◌≡◌, ◌+◌, ◌*◌, ◌<◌, ◌^◌};
+ghost use Rattle.std.specs.Prelude.{◌≡◌, ◌+◌, ◌*◌, ◌/◌, ◌%◌, ◌<◌, ◌^◌};
 
 use std::marker::Model;
 
@@ -32,6 +32,21 @@ impl Duration {
         ensures { result ≡ secs * 1000000000 + nanos }
     {
         Duration { secs, nanos }
+    }
+
+    /// The whole seconds of it.
+    pub fn as_secs(&self) -> u64
+        ensures { result ≡ self.now / 1000000000 }
+    {
+        self.secs
+    }
+
+    /// The nanoseconds above the whole seconds, below 10^9.
+    pub fn subsec_nanos(&self) -> u32
+        ensures nanos { result ≡ self.now % 1000000000 }
+        ensures within { result < 1000000000 }
+    {
+        self.nanos
     }
 
     /// All of it in nanoseconds, below 2^64 * 10^9.

@@ -19,12 +19,21 @@ pub enum TimeOrNow {
 /// How many nanoseconds a second has.
 const SECOND: i128 = 1_000_000_000;
 
+/// The same, for times that an i64 counts: those from 1678 to 2262.
+const SHORT_SECOND: i64 = 1_000_000_000;
+
 /// The whole seconds of a time, rounded down, and the nanoseconds above them, from 0 to 999999999: what
 /// `struct fuse_attr` carries. A time past the last second of an i64 gives the last nanosecond of that one, and a time
 /// before the first second gives its start.
 pub fn time_from_system_time(time: &SystemTime) -> (i64, u32)
     ensures { result ≡ time_out time.now.0 }
 {
+    if let Ok(short) = i64::try_from(time.0) {
+        return (
+            short.div_euclid(SHORT_SECOND),
+            short.rem_euclid(SHORT_SECOND) as u32,
+        );
+    }
     let secs = time.0.div_euclid(SECOND);
     let nanos = time.0.rem_euclid(SECOND);
     if secs > i64::MAX as i128 {
