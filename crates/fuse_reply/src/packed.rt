@@ -82,20 +82,6 @@ impl Packed {
         }
     }
 
-    /// The frame of status 0 and these bytes, as by `new`. It stands where they are copied to, so that they are not
-    /// moved again.
-    #[inline(always)]
-    pub(crate) fn of_data(alloc: Global, id: RequestId, bytes: &[u8]) -> Result<Packed, NoMemory>
-        requires { length bytes.now ≤ max_payload }
-        ensures ok { IfOk result (λ packed. packed ≡ frame id.0 (pos 0) bytes.now) }
-        ensures inline { length bytes.now ≤ inline_size → IsOk result }
-    {
-        let mut payload = SmallVec::new(alloc);
-        payload.reserve_exact(bytes.len())?;
-        payload.extend_from_slice(bytes)?;
-        Ok(Packed::around(id, 0, payload))
-    }
-
     /// The frame of status 0 and these bytes, the one part after the other, as by `new`. Each is copied once, to where
     /// the frame stands.
     #[inline(always)]

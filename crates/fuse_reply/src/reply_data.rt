@@ -7,8 +7,10 @@ ghost use Rattle.fuse_reply.specs.Answer.{IsAnswer};
 ghost use Rattle.fuse_reply.specs.Answer.Answer.{Data};
 ghost use Rattle.fuse_reply.specs.declared.out.Out.{Out};
 
+use crate::packed::INLINE_SIZE;
 use crate::{Packed, Replied, Reply};
-use fuse_wire::{Errno, NoMemory};
+use fuse_wire::Errno;
+use smallvec::SmallVec;
 
 /// The kind of a reply that carries bytes.
 #[derive(Debug)]
@@ -27,9 +29,12 @@ impl Reply<Bytes> {
         ensures inline { length bytes.now ≤ inline_size → result ≡ Out.Frame (reply self (Data bytes.now)) }
     {
         let (alloc, id) = self.into_parts();
-        match Packed::of_data(alloc, id, bytes) {
-            Ok(packed) => Replied::by(packed),
-            Err(NoMemory) => Replied::failed(alloc, id, Errno::ENOMEM),
+        if bytes.len() <= INLINE_SIZE {
+            return Replied::by(Packed::short(alloc, id, bytes));
         }
+        let Ok(held) = Vec::from_slice(alloc, bytes) else {
+            return Replied::failed(alloc, id, Errno::ENOMEM);
+        };
+        Replied::by(Packed::of_held(id, SmallVec::from_vec(held)))
     }
 }
