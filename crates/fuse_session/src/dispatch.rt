@@ -34,21 +34,22 @@ impl<FS: Filesystem> Work for Service<FS> {
         let node = request.nodeid();
         let filesystem = &self.filesystem;
         let request = &request.request();
+        // Each arm returns: as the value of the match, a frame would be moved once more.
         match operation {
             Operation::Lookup(lookup) => {
                 let reply = ReplyEntry::new(alloc, id);
-                filesystem
+                return filesystem
                     .lookup(request, node, lookup.name(), reply)
-                    .into_out()
+                    .into_out();
             }
             Operation::Forget(forget) => {
-                Out::note(id, filesystem.forget(request, node, forget.nlookup()))
+                return Out::note(id, filesystem.forget(request, node, forget.nlookup()));
             }
             Operation::GetAttr(getattr) => {
                 let reply = ReplyAttr::new(alloc, id);
-                filesystem
+                return filesystem
                     .getattr(request, node, getattr.file_handle(), reply)
-                    .into_out()
+                    .into_out();
             }
             Operation::Read(read) => match read.offset() {
                 Ok(offset) => {
@@ -56,14 +57,15 @@ impl<FS: Filesystem> Work for Service<FS> {
                     let fh = read.file_handle();
                     let owner = read.lock_owner();
                     let (size, flags) = (read.size(), read.flags());
-                    let replied = filesystem.read(
-                        request, node, fh, offset, size, flags, owner, reply,
-                    );
-                    replied.into_out()
+                    return filesystem
+                        .read(
+                            request, node, fh, offset, size, flags, owner, reply,
+                        )
+                        .into_out();
                 }
-                Err(error) => refusal(alloc, id, error),
+                Err(error) => return refusal(alloc, id, error),
             },
-            other => refusal(alloc, id, unserved_error(&other)),
+            other => return refusal(alloc, id, unserved_error(&other)),
         }
     }
 
