@@ -58,9 +58,7 @@ impl<FS: Filesystem> Work for Service<FS> {
                     let owner = read.lock_owner();
                     let (size, flags) = (read.size(), read.flags());
                     return filesystem
-                        .read(
-                            request, node, fh, offset, size, flags, owner, reply,
-                        )
+                        .read(request, node, fh, offset, size, flags, owner, reply)
                         .into_out();
                 }
                 Err(error) => return refusal(alloc, id, error),
