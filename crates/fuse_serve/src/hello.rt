@@ -129,10 +129,10 @@ impl Filesystem for Hello {
         if parent != INodeNo::ROOT {
             return reply.error(Errno::ENOENT);
         }
-        match named(name) {
-            Some(found) => reply.entry(&a_second(), &found, Generation(0)),
-            None => reply.error(Errno::ENOENT),
-        }
+        let Some(found) = named(name) else {
+            return reply.error(Errno::ENOENT);
+        };
+        reply.entry(&a_second(), &found, Generation(0))
     }
 
     fn forget(&self, _request: &Request, _ino: INodeNo, nlookup: u64) -> u64 {
@@ -146,12 +146,13 @@ impl Filesystem for Hello {
         _fh: Option<FileHandle>,
         reply: ReplyAttr,
     ) -> Replied {
-        match node_attr(ino.0) {
-            Some(found) => reply.attr(&a_second(), &found),
-            None => reply.error(Errno::ENOENT),
-        }
+        let Some(found) = node_attr(ino.0) else {
+            return reply.error(Errno::ENOENT);
+        };
+        reply.attr(&a_second(), &found)
     }
 
+    #[inline(always)]
     fn read(
         &self,
         _request: &Request,
@@ -163,10 +164,10 @@ impl Filesystem for Hello {
         _lock_owner: Option<LockOwner>,
         reply: ReplyData,
     ) -> Replied {
-        match contents(ino.0) {
-            Some(all) => reply.data(part(all, offset, size)),
-            None => reply.error(Errno::ENOENT),
-        }
+        let Some(all) = contents(ino.0) else {
+            return reply.error(Errno::ENOENT);
+        };
+        reply.data(part(all, offset, size))
     }
 
     fn destroy(&mut self) {}

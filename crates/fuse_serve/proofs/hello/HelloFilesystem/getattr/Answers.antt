@@ -7,14 +7,14 @@ use Rattle.fuse_session.proofs.Answering.{Answered-frame, Answered-error}
 use Rattle.fuse_serve.specs.Tree.{attributes}
 use Rattle.fuse_serve.proofs.hello.HelloFilesystem.getattr.Goals as goal
 
-pub returns-in-Some : goal.returns-in-Some
-returns-in-Some c =
+pub returns : goal.returns
+returns c =
     Answered-frame (Attr 1000000000 c.in-Some.found) tt (lit< tt, c.attr.ensures.answer.1)
     (ap (λ (found : Option FileAttr). Some (attributes found)) (sym c.node_attr.ensures ∙ c.in-Some.is))
     (c.attr.ensures.reply ∙ ap (λ (valid : ℕ). Frame (reply c.args.reply (Attr valid c.in-Some.found))) c.a_second.ensures)
 
-pub returns-in-None : goal.returns-in-None
-returns-in-None c =
+pub returns-in_default : goal.returns-in_default
+returns-in_default c =
     Answered-error 2 (lit< tt) (lit< tt)
-    (ap (λ (found : Option FileAttr). Some (attributes found)) (sym c.node_attr.ensures ∙ c.in-None.is))
+    (ap (λ (found : Option FileAttr). Some (attributes found)) (sym c.node_attr.ensures ∙ c.in_default.is))
     c.error.ensures.reply

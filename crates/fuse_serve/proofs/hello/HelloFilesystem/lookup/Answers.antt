@@ -22,16 +22,16 @@ returns-then-ne c =
     (ap (λ (b : Bool). Some (entry (if b then named c.args.name.now else None))) (is-false (c.args.parent.0 == 1) c.if-ne.ensures))
     c.error.ensures.reply
 
-pub returns-in-Some : goal.returns-in-Some
-returns-in-Some c =
+pub returns : goal.returns
+returns c =
     Answered-frame (Entry 1000000000 1000000000 0 c.in-Some.found) tt (lit< tt, lit< tt, lit< tt, c.entry.ensures.answer.3)
     (ap (λ (b : Bool). Some (entry (if b then named c.args.name.now else None))) (is-true (c.args.parent.0 == 1) c.if-ne.ensures)
     ∙ ap (λ (found : Option FileAttr). Some (entry found)) (sym c.named.ensures ∙ c.in-Some.is))
     (c.entry.ensures.reply ∙ ap (λ (valid : ℕ). Frame (reply c.args.reply (Entry valid valid 0 c.in-Some.found))) c.a_second.ensures)
 
-pub returns-in-None : goal.returns-in-None
-returns-in-None c =
+pub returns-in_default : goal.returns-in_default
+returns-in_default c =
     Answered-error 2 (lit< tt) (lit< tt)
     (ap (λ (b : Bool). Some (entry (if b then named c.args.name.now else None))) (is-true (c.args.parent.0 == 1) c.if-ne.ensures)
-    ∙ ap (λ (found : Option FileAttr). Some (entry found)) (sym c.named.ensures ∙ c.in-None.is))
-    c.error-in-None.ensures.reply
+    ∙ ap (λ (found : Option FileAttr). Some (entry found)) (sym c.named.ensures ∙ c.in_default.is))
+    c.error-in_default.ensures.reply

@@ -5,17 +5,17 @@ use Rattle.fuse_session.proofs.Answering.{Answered-replies, Answered-error}
 use Rattle.fuse_serve.specs.Tree.{bytes}
 use Rattle.fuse_serve.proofs.hello.HelloFilesystem.read.Goals as goal
 
-pub returns-in-Some : goal.returns-in-Some
-returns-in-Some c =
+pub returns : goal.returns
+returns c =
     Answered-replies (Data c.part.result.now) tt c.data.ensures.answer
     (ap (λ (all : Option (List ℕ)). Some (bytes c.args.offset c.args.size all))
     (sym c.contents.ensures ∙ ap (λ r. option_map (λ all. all.now) r) c.in-Some.is)
     ∙ ap (λ (part : List ℕ). Some (Data part)) (sym c.part.ensures))
     c.data.ensures.replies
 
-pub returns-in-None : goal.returns-in-None
-returns-in-None c =
+pub returns-in_default : goal.returns-in_default
+returns-in_default c =
     Answered-error 2 (lit< tt) (lit< tt)
     (ap (λ (all : Option (List ℕ)). Some (bytes c.args.offset c.args.size all))
-    (sym c.contents.ensures ∙ ap (λ r. option_map (λ all. all.now) r) c.in-None.is))
+    (sym c.contents.ensures ∙ ap (λ r. option_map (λ all. all.now) r) c.in_default.is))
     c.error.ensures.reply
