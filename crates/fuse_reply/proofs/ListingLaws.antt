@@ -1,5 +1,5 @@
 -- Entries of a directory: how long they are, and one more behind the others.
-use Rattle.std.proofs.Common.{◌≡◌, ℕ, ◌+◌, ◌-◌, ◌*◌, ◌/◌, ◌%◌, ◌<◌, ◌≤◌, List, [], ◌∷◌, ◌++◌, length, take, replicate, refl, ap, sym, ◌∙◌, arith}
+use Rattle.std.proofs.Common.{◌≡◌, ℕ, ◌+◌, ◌≤◌, List, [], ◌∷◌, ◌++◌, length, take, replicate, refl, ap, sym, ◌∙◌, arith}
 use Rattle.std.proofs.Common.{length-append, append_assoc, flat_map}
 use Rattle.std.proofs.Common.{Bool, true, false, Result, Ok, Err, OnErr, min, subst}
 use Rattle.std.specs.List.{AllByRecursion}

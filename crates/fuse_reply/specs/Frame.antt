@@ -1,5 +1,5 @@
 -- Frames: a header (`struct fuse_out_header` of `fuse.h`) and a payload.
-use Rattle.std.specs.Prelude.{◌≡◌, ◌<◌, ℕ, ◌+◌, ◌^◌, ◌++◌, ◌&&◌, List, [], map, Bool, length, nat_lt, ℤ, pos, neg_ℤ}
+use Rattle.std.specs.Prelude.{◌≡◌, ◌<◌, ℕ, ◌+◌, ◌^◌, ◌++◌, ◌&&◌, List, map, Bool, length, nat_lt, ℤ, pos, neg_ℤ}
 use Rattle.std.specs.Int.{w32, w64, to_le_bytes, cast_unsigned}
 use Rattle.fuse_wire.specs.Numbers.{number, signed}
 use Rattle.fuse_reply.specs.Sizes.{out_header_size}

@@ -1,5 +1,5 @@
 -- The tree that the program serves: a directory with two files in it, and what each call to it gives.
-use Rattle.std.specs.Prelude.{◌≡◌, ℕ, ◌==◌, List, Option, None, Some, Result, Ok, pos, codes, take, drop, false, if◌then◌else◌}
+use Rattle.std.specs.Prelude.{◌≡◌, ℕ, ◌==◌, List, Option, None, Some, Ok, pos, codes, take, drop, false, if◌then◌else◌}
 use Rattle.std.specs.List.{range_with_len}
 use Rattle.std.specs.Str.{bytes_eq}
 use Rattle.fuse_wire.specs.ErrorNumbers.{ENOENT}

@@ -1,5 +1,5 @@
 -- What was put is the entry, piece behind piece.
-use Rattle.std.proofs.Common.{◌≡◌, ◌++◌, ◌-◌, ◌%◌, length, ap, ◌∙◌, arith}
+use Rattle.std.proofs.Common.{◌++◌, ◌-◌, ◌%◌, length, ap, ◌∙◌, arith}
 use Rattle.fuse_reply.proofs.ListingLaws.{pieces}
 use Rattle.fuse_reply.proofs.entries.put_entry.Goals as goal
 

@@ -1,4 +1,4 @@
-use Rattle.std.proofs.Common.{◌∙◌, ℕ, List, sym, ap, lit<, Option, None, Some}
+use Rattle.std.proofs.Common.{◌∙◌, ℕ, List, sym, ap, lit<, Option, Some}
 use Rattle.std.specs.Prelude.{option_map}
 use Rattle.fuse_reply.specs.Answer.Answer.{Data}
 use Rattle.fuse_session.proofs.Answering.{Answered-replies, Answered-error}
