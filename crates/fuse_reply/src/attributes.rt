@@ -49,6 +49,7 @@ fn span_parts(span: &Duration) -> (u64, u32)
 
 #[tactic(auto, unfolding(crate::specs::Attributes::size_fields))]
 /// The numbers of 8 bytes.
+#[inline(always)]
 fn size_bytes(attr: &FileAttr) -> [u8; 24]
     ensures { result ≡ size_fields attr.now }
 {
@@ -63,6 +64,7 @@ fn size_bytes(attr: &FileAttr) -> [u8; 24]
 
 #[tactic(auto, unfolding(crate::specs::Attributes::second_fields))]
 /// The seconds of the three times.
+#[inline(always)]
 fn second_bytes(atime: i64, mtime: i64, ctime: i64) -> [u8; 24]
     ensures { result ≡ second_fields atime mtime ctime }
 {
@@ -77,6 +79,7 @@ fn second_bytes(atime: i64, mtime: i64, ctime: i64) -> [u8; 24]
 
 #[tactic(auto, unfolding(crate::specs::Attributes::narrow_fields))]
 /// The nanoseconds of the three times, and the numbers of 4 bytes.
+#[inline(always)]
 fn narrow_bytes(atimensec: u32, mtimensec: u32, ctimensec: u32, attr: &FileAttr) -> [u8; 40]
     ensures { result ≡ narrow_fields atimensec mtimensec ctimensec attr.now }
 {
@@ -102,6 +105,7 @@ fn in_range(attr: FileAttr)
 
 #[tactic(auto, unfolding(crate::specs::Attributes::attr_block))]
 /// The attributes as a reply carries them: `struct fuse_attr`.
+#[inline(always)]
 fn attr_bytes(attr: &FileAttr) -> [u8; 88]
     ensures bytes { result ≡ attr_block attr.now }
     ensures ranges { IsAttr attr.now }
@@ -116,6 +120,7 @@ fn attr_bytes(attr: &FileAttr) -> [u8; 88]
 
 #[tactic(auto, unfolding(crate::specs::Attributes::entry_front))]
 /// The front of `struct fuse_entry_out`, before the attributes.
+#[inline(always)]
 fn entry_front_bytes(
     entry_ttl: &Duration,
     attr_ttl: &Duration,
@@ -143,6 +148,7 @@ fn entry_front_bytes(
 
 #[tactic(auto, unfolding(crate::specs::Attributes::entry_payload))]
 /// An inode under a name as a reply carries it: `struct fuse_entry_out`.
+#[inline(always)]
 pub fn entry_bytes(
     entry_ttl: &Duration,
     attr_ttl: &Duration,
@@ -158,6 +164,7 @@ pub fn entry_bytes(
 
 #[tactic(auto, unfolding(crate::specs::Attributes::attr_front))]
 /// The front of `struct fuse_attr_out`, before the attributes.
+#[inline(always)]
 fn attr_front_bytes(ttl: &Duration) -> [u8; 16]
     ensures bytes { result ≡ attr_front ttl.now }
     ensures valid { IsSpan ttl.now }
@@ -170,6 +177,7 @@ fn attr_front_bytes(ttl: &Duration) -> [u8; 16]
 
 #[tactic(auto, unfolding(crate::specs::Attributes::attr_payload))]
 /// Attributes alone as a reply carries them: `struct fuse_attr_out`.
+#[inline(always)]
 pub fn attr_out_bytes(ttl: &Duration, attr: &FileAttr) -> [u8; 104]
     ensures bytes { result ≡ attr_payload ttl.now attr.now }
     ensures answer { IsAnswer (Attr ttl.now attr.now) }
@@ -178,6 +186,7 @@ pub fn attr_out_bytes(ttl: &Duration, attr: &FileAttr) -> [u8; 104]
 }
 
 /// One piece, and then another.
+#[inline(always)]
 fn joined<const N: usize>(front: &[u8], back: &[u8]) -> [u8; N]
     requires { length front.now + length back.now ≡ N }
     ensures { result ≡ front.now ++ back.now }

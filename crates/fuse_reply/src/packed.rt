@@ -1,5 +1,5 @@
 // A whole frame.
-ghost use Rattle.std.specs.Prelude.{◌≡◌, ◌≤◌, ◌+◌, ◌++◌, [], length, pos, IsOk, IfOk};
+ghost use Rattle.std.specs.Prelude.{◌≡◌, ◌≤◌, ◌+◌, ◌++◌, [], length, take, pos, IsOk, IfOk};
 ghost use Rattle.fuse_wire.specs.Numbers.{number};
 ghost use Rattle.fuse_wire.specs.Sink.{Sends};
 ghost use Rattle.fuse_reply.specs.Sizes.{out_header_size, max_payload, inline_size};
@@ -125,7 +125,7 @@ impl Packed {
         requires { length payload.now ≤ inline_size }
         ensures { result ≡ frame id.0 (pos 0) payload.now }
     {
-        Packed::new(alloc, id, 0, payload).unwrap()
+        Packed::short_parts(alloc, id, payload, &[])
     }
 
     /// The frame of status 0 and a payload in two parts, which is held without an allocation.
@@ -134,7 +134,11 @@ impl Packed {
         requires { length front.now + length back.now ≤ inline_size }
         ensures { result ≡ frame id.0 (pos 0) (front.now ++ back.now) }
     {
-        Packed::of_parts(alloc, id, front, back).unwrap()
+        let mut short = [0; INLINE_SIZE];
+        let count = front.len() + back.len();
+        put_at(&mut short, 0, front);
+        put_at(&mut short, front.len(), back);
+        Packed::around(id, 0, SmallVec::from_buf_and_len(alloc, short, count))
     }
 
     /// Sends the frame.
@@ -144,4 +148,13 @@ impl Packed {
     {
         sink.send(&self.header, self.payload.as_slice())
     }
+}
+
+/// Writes bytes into an array, from a place on.
+#[inline(always)]
+fn put_at(array: &mut [u8; INLINE_SIZE], at: usize, bytes: &[u8])
+    requires { at + length bytes.now ≤ inline_size }
+    ensures { take (at + length bytes.now) array.new ≡ take at array.old ++ bytes.now }
+{
+    array[at..at + bytes.len()].copy_from_slice(bytes);
 }

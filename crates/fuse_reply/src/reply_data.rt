@@ -30,7 +30,7 @@ impl Reply<Bytes> {
     {
         let (alloc, id) = self.into_parts();
         if bytes.len() <= INLINE_SIZE {
-            return Replied::by(Packed::short(alloc, id, bytes));
+            return Replied::by(Packed::new(alloc, id, 0, bytes).unwrap());
         }
         let Ok(held) = Vec::from_slice(alloc, bytes) else {
             return Replied::failed(alloc, id, Errno::ENOMEM);
