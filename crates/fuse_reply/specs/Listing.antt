@@ -64,13 +64,13 @@ pub record Listing : Type 0 where
   pub size : ℕ
   pub held : List ℕ
 
--- what became of an entry of these bytes: it is taken exactly where it fits; where it does not (true) and for want of memory,
--- nothing changes
+-- what became of an entry of these bytes: it is taken exactly where it fits; where it does not (true), and for want of memory,
+-- which only an entry that fits asks for, nothing changes
 abbrev pub Adds : {E : Type 0} → Result Bool E → (entry : List ℕ) → Listing → Listing → Type 0
 Adds (Ok false) entry before after =
     Fits before.size (length before.held) (length entry) × (after ≡ record before { held = before.held ++ entry })
 Adds (Ok true) entry before after = (Fits before.size (length before.held) (length entry) → ⊥) × (after ≡ before)
-Adds (Err e) entry before after = after ≡ before
+Adds (Err e) entry before after = Fits before.size (length before.held) (length entry) × (after ≡ before)
 
 -- each entry fits behind those before it, and behind so many bytes that were held first
 abbrev pub EachFits : {E : Type 0} → (E → List ℕ) → (size held : ℕ) → List E → Type 0

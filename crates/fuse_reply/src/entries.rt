@@ -29,6 +29,8 @@ pub fn put_entry(
         (length lookup.now + (24 + length name.now + padding (length name.now))) → ⊥ }
     ensures kept { result ≡ Ok true → held.new ≡ held.old }
     ensures err { OnErr result (held.new ≡ held.old) }
+    ensures starved { OnErr result (Fits size (length held.old.items)
+        (length lookup.now + (24 + length name.now + padding (length name.now)))) }
     ensures inline { length held.old.items
         + (length lookup.now + (24 + length name.now + padding (length name.now))) ≤ inline_size → IsOk result }
 {
