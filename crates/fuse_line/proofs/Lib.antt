@@ -1,0 +1,4 @@
+mod FilteredOrder
+mod Views
+mod Alone
+mod Keeps

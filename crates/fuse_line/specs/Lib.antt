@@ -1,0 +1,5 @@
+pub mod Hand
+pub mod MovedOnce
+pub mod Permits
+pub mod Seen
+pub mod Tells

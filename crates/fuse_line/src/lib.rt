@@ -1,0 +1,17 @@
+//! A bounded line of items that threads share. A thread has a pass, which knows what it pushed and what it took: nothing
+//! is lost and nothing comes twice, whatever the threads do. A push and a pop wait for nobody, and take no memory; a
+//! thread that finds the line empty or full can sleep until it has moved.
+#![tactic(auto)]
+
+mod class;
+mod gate;
+mod hand;
+mod line;
+mod moves;
+mod pass;
+
+pub use class::Class;
+pub use gate::Waiting;
+pub use hand::{Hand, Kind};
+pub use line::{Full, Line};
+pub use pass::Pass;

@@ -1,0 +1,136 @@
+//! A line.
+ghost use Rattle.std.specs.Prelude.{◌≡◌, ◌<◌, ℕ, List, [], ◌∷◌, false, IfErr, IfNone, IfOk, IfSome, MatchBool};
+ghost use Rattle.std.specs.Prelude.{MatchOption, MatchResult};
+ghost use Rattle.crossbeam_queue.specs.Fifo.{Held};
+ghost use Rattle.fuse_line.specs.declared.hand.Kind.TheVariants.{First, Inner, Door};
+ghost use Rattle.fuse_line.specs.Hand.{hand, joined, with_other, with_put, with_taken};
+ghost use Rattle.fuse_line.specs.Permits.{MayJoin, MayPop, MayPush, MaySplit};
+ghost use Rattle.fuse_line.specs.Tells.{IsSettled, Tells};
+
+use crate::gate::{Gate, Waiting};
+use crate::hand::Hand;
+use crate::moves::{Doors, Inners, Joins, Moved, Puts, Takes};
+use crate::{Class, Pass};
+use crossbeam_queue::RuledArrayQueue;
+use fuse_wire::NoMemory;
+use std::alloc::Global;
+use std::marker::Model;
+use std::sync::Wait;
+
+/// The line was full, and this is the item that was to be pushed.
+#[derive(Drop)]
+pub struct Full<T> {
+    pub item: T,
+}
+
+/// A line of items, oldest first, that threads share by reference. Contracts see it as its name, which knows how many
+/// places it has.
+#[derive(Drop)]
+pub struct Line<T: Class> {
+    queue: RuledArrayQueue<T, Hand<T>, Moved>,
+    gate: Gate,
+}
+
+impl<T: Class> Model for Line<T> {
+    ghost use Rattle.atomic_table.specs.Seated.{TableId};
+
+    ghost Value = { TableId };
+
+    ghost view = { λ l. l.queue.table.shared.table_id };
+}
+
+impl<T: Class> Line<T> {
+    /// A line with so many places, and its first pass.
+    pub fn new(alloc: Global, places: usize) -> Result<(Line<T>, Pass<T>), NoMemory>
+        requires { 0 < places }
+        ensures line { IfOk result (λ r. (r.1.line ≡ r.0) × (r.0.slots ≡ places)) }
+        ensures hand { IfOk result (λ r. r.1.hand ≡ hand First 0 [] []) }
+    {
+        match RuledArrayQueue::ruled(alloc, places) {
+            Ok((queue, seat)) => {
+                let gate = Gate::new();
+                Ok((Line { queue, gate }, Pass { seat }))
+            }
+            Err(_) => Err(NoMemory),
+        }
+    }
+
+    /// Another pass: a door, which comes off any pass, or an inner one, which comes off the first, and which that one
+    /// counts until it is joined back.
+    pub fn split(&self, pass: &mut Pass<T>, door: bool) -> Pass<T>
+        requires line { pass.old.line ≡ self.now }
+        requires kind { MaySplit pass.old.hand.kind door }
+        ensures line { (pass.new.line ≡ self.now) × (result.line ≡ self.now) }
+        ensures hands { MatchBool door
+            ((pass.new.hand ≡ pass.old.hand) × (result.hand ≡ hand Door 0 [] []))
+            ((pass.new.hand ≡ with_other pass.old.hand) × (result.hand ≡ hand Inner 0 [] [])) }
+    {
+        let seat = if door {
+            self.queue.another::<Doors>(&mut pass.seat)
+        } else {
+            self.queue.another::<Inners>(&mut pass.seat)
+        };
+        Pass { seat }
+    }
+
+    /// Adds what another pass knows to this one, whose items come first. The other is spent.
+    pub fn join(&self, pass: &mut Pass<T>, other: Pass<T>)
+        requires line { (pass.old.line ≡ self.now) × (other.line ≡ self.now) }
+        requires kinds { MayJoin pass.old.hand.kind other.hand.kind }
+        ensures line { pass.new.line ≡ self.now }
+        ensures hand { pass.new.hand ≡ joined pass.old.hand other.hand }
+    {
+        let Pass { seat } = other;
+        self.queue.absorb::<Joins>(&mut pass.seat, seat);
+    }
+
+    /// Pushes the item at the back. Where the line was full at a moment of this call, the item comes back.
+    pub fn push<R: Wait>(&self, rt: &R, pass: &mut Pass<T>, item: T) -> Result<(), Full<T>>
+        requires line { pass.old.line ≡ self.now }
+        requires kind { MayPush T.is_inner pass.old.hand.kind item }
+        ensures line { pass.new.line ≡ self.now }
+        ensures hand { MatchResult result
+            (λ _. pass.new.hand ≡ with_put pass.old.hand item)
+            (λ full. (full.item ≡ item) × (pass.new.hand ≡ pass.old.hand)) }
+        ensures full { IfErr result (λ _. Held self.now.slots (Tells T.is_inner pass.old.hand)) }
+    {
+        match self.queue.push_as::<Puts, R>(rt, &mut pass.seat, item) {
+            Ok(()) => {
+                self.gate.wake();
+                Ok(())
+            }
+            Err(item) => Err(Full { item }),
+        }
+    }
+
+    /// Takes the item at the front, or nothing where the line was empty at a moment of this call.
+    pub fn pop<R: Wait>(&self, rt: &R, pass: &mut Pass<T>) -> Option<T>
+        requires line { pass.old.line ≡ self.now }
+        requires kind { MayPop pass.old.hand.kind }
+        ensures line { pass.new.line ≡ self.now }
+        ensures hand { MatchOption result
+            (pass.new.hand ≡ pass.old.hand)
+            (λ item. pass.new.hand ≡ with_taken pass.old.hand item) }
+        ensures front { IfSome result (λ item. (rest : List T) × Tells T.is_inner pass.old.hand (item ∷ rest)) }
+        ensures empty { IfNone result (Held 0 (Tells T.is_inner pass.old.hand)) }
+        ensures settled { IfNone result (IsSettled T.is_inner pass.new.hand) }
+    {
+        match self.queue.pop_as::<Takes, R>(rt, &mut pass.seat) {
+            Some(item) => {
+                self.gate.wake();
+                Some(item)
+            }
+            None => None,
+        }
+    }
+
+    /// Begins to wait for a move of the line.
+    pub fn wait(&self) -> Waiting<'_> {
+        self.gate.enter()
+    }
+
+    /// Wakes whoever waits.
+    pub fn wake(&self) {
+        self.gate.wake();
+    }
+}
