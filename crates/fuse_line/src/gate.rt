@@ -1,8 +1,12 @@
 //! Where a thread sleeps until a line has moved. No clause speaks of it.
 use std::sync::Wait;
 use std::sync::atomic::{AtomicU64, Ordering};
+use std::thread;
 
-/// How many threads are about to sleep, and how often they were woken.
+// How often a thread gives its processor away before it sleeps: under load the other thread is done by then.
+const TRIES: u32 = 32;
+
+/// How many threads are about to sleep, and how often those were woken.
 #[derive(Drop)]
 pub(crate) struct Gate {
     waiting: AtomicU64,
@@ -25,32 +29,66 @@ impl Gate {
         }
     }
 
-    /// From here on this thread is woken by each move.
-    pub(crate) fn enter(&self) -> Waiting<'_> {
+    /// A wait that has yet to begin.
+    pub(crate) fn wait(&self) -> Waiting<'_> {
+        Waiting {
+            gate: self,
+            tries: 0,
+            seen: None,
+        }
+    }
+
+    // From here on each move wakes this thread: what it looks at after this, it cannot miss.
+    fn enter(&self) -> u64 {
         self.waiting.fetch_add(1, Ordering::SeqCst);
-        let seen = self.woken.load(Ordering::SeqCst);
-        Waiting { gate: self, seen }
+        self.woken.load(Ordering::SeqCst)
+    }
+
+    fn leave(&self) {
+        self.waiting.fetch_sub(1, Ordering::SeqCst);
     }
 }
 
-/// A thread that is about to sleep: each move of the line from here on wakes it. While one lives, pushes and pops of the
-/// line cost a call of the system, so let it go at once where a try succeeds.
+/// A thread that waits for a line. After each try that came to nothing it rests.
+///
+/// The rests are short at first. Then one only makes sure that each later move wakes this thread, and returns; the next
+/// one sleeps. So whoever looks at all that it waits for between two rests, at the line and at a flag of its own, misses
+/// nothing. Let it go once a try has come to something: until then moves of the line may cost a call of the system.
 pub struct Waiting<'a> {
     gate: &'a Gate,
-    seen: u64,
+    tries: u32,
+    seen: Option<u64>,
 }
 
 impl Waiting<'_> {
-    /// Sleeps until the line has moved, or `wake` was called, since this thread began to wait. It returns at once where
-    /// that has come already, and may also return for no reason.
-    pub fn sleep<R: Wait>(self, rt: &R) {
-        self.gate.woken.park(rt, (self.seen % (1 << 32)) as u32);
+    /// Rests after a try that came to nothing. It may return though nothing has moved.
+    pub fn rest<R: Wait>(&mut self, rt: &R) {
+        if self.tries < TRIES {
+            self.tries += 1;
+            thread::yield_now();
+            return;
+        }
+        match self.seen {
+            None => self.seen = Some(self.gate.enter()),
+            Some(seen) => {
+                self.gate.woken.park(rt, (seen % (1 << 32)) as u32);
+                self.gate.leave();
+                self.seen = None;
+                self.tries = 0;
+            }
+        }
     }
 }
 
 impl Drop for Waiting<'_> {
     fn drop(self) {
-        let Waiting { gate, seen: _ } = self;
-        gate.waiting.fetch_sub(1, Ordering::SeqCst);
+        let Waiting {
+            gate,
+            tries: _,
+            seen,
+        } = self;
+        if seen.is_some() {
+            gate.leave();
+        }
     }
 }

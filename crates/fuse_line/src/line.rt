@@ -16,6 +16,7 @@ use fuse_wire::NoMemory;
 use std::alloc::Global;
 use std::marker::Model;
 use std::sync::Wait;
+use std::sync::atomic::{AtomicBool, Ordering};
 
 /// The line was full, and this is the item that was to be pushed.
 #[derive(Drop)]
@@ -28,7 +29,8 @@ pub struct Full<T> {
 #[derive(Drop)]
 pub struct Line<T: Class> {
     queue: RuledArrayQueue<T, Hand<T>, Moved>,
-    gate: Gate,
+    items: Gate,
+    places: Gate,
 }
 
 impl<T: Class> Model for Line<T> {
@@ -48,8 +50,12 @@ impl<T: Class> Line<T> {
     {
         match RuledArrayQueue::ruled(alloc, places) {
             Ok((queue, seat)) => {
-                let gate = Gate::new();
-                Ok((Line { queue, gate }, Pass { seat }))
+                let line = Line {
+                    queue,
+                    items: Gate::new(),
+                    places: Gate::new(),
+                };
+                Ok((line, Pass { seat }))
             }
             Err(_) => Err(NoMemory),
         }
@@ -96,7 +102,7 @@ impl<T: Class> Line<T> {
     {
         match self.queue.push_as::<Puts, R>(rt, &mut pass.seat, item) {
             Ok(()) => {
-                self.gate.wake();
+                self.items.wake();
                 Ok(())
             }
             Err(item) => Err(Full { item }),
@@ -117,20 +123,82 @@ impl<T: Class> Line<T> {
     {
         match self.queue.pop_as::<Takes, R>(rt, &mut pass.seat) {
             Some(item) => {
-                self.gate.wake();
+                self.places.wake();
                 Some(item)
             }
             None => None,
         }
     }
 
-    /// Begins to wait for a move of the line.
-    pub fn wait(&self) -> Waiting<'_> {
-        self.gate.enter()
+    /// Pushes the item at the back, and waits for a place while the line is full.
+    pub fn push_waiting<R: Wait>(&self, rt: &R, pass: &mut Pass<T>, item: T)
+        requires line { pass.old.line ≡ self.now }
+        requires kind { MayPush T.is_inner pass.old.hand.kind item }
+        ensures line { pass.new.line ≡ self.now }
+        ensures hand { pass.new.hand ≡ with_put pass.old.hand item }
+    {
+        let mut left = item;
+        let mut waiting = self.wait_for_place();
+        for _ in rt.forever() {
+            match self.push(rt, pass, left) {
+                Ok(()) => return,
+                Err(full) => left = full.item,
+            }
+            waiting.rest(rt);
+        }
+        unreachable!()
     }
 
-    /// Wakes whoever waits.
+    /// Takes the item at the front, and waits for one while the line is empty and the flag is down. Nothing comes where
+    /// the flag was up, and after that the line was empty.
+    pub fn pop_waiting<R: Wait>(&self, rt: &R, pass: &mut Pass<T>, stop: &AtomicBool) -> Option<T>
+        requires line { pass.old.line ≡ self.now }
+        requires kind { MayPop pass.old.hand.kind }
+        ensures line { pass.new.line ≡ self.now }
+        ensures hand { MatchOption result
+            (pass.new.hand ≡ pass.old.hand)
+            (λ item. pass.new.hand ≡ with_taken pass.old.hand item) }
+        ensures front { IfSome result (λ item. (rest : List T) × Tells T.is_inner pass.old.hand (item ∷ rest)) }
+        ensures empty { IfNone result (Held 0 (Tells T.is_inner pass.old.hand)) }
+        ensures settled { IfNone result (IsSettled T.is_inner pass.new.hand) }
+    {
+        let mut waiting = self.wait_for_item();
+        for _ in rt.forever() {
+            let stopped = stop.load(Ordering::SeqCst);
+            match self.pop(rt, pass) {
+                Some(item) => return Some(item),
+                None if stopped => return None,
+                None => waiting.rest(rt),
+            }
+        }
+        unreachable!()
+    }
+
+    /// A wait for an item. `pop_waiting` is this loop:
+    ///
+    /// ```text
+    /// let mut waiting = line.wait_for_item();
+    /// for _ in rt.forever() {
+    ///     let stopped = stop.load(Ordering::SeqCst);
+    ///     match line.pop(rt, pass) {
+    ///         Some(item) => return Some(item),
+    ///         None if stopped => return None,
+    ///         None => waiting.rest(rt),
+    ///     }
+    /// }
+    /// ```
+    pub fn wait_for_item(&self) -> Waiting<'_> {
+        self.items.wait()
+    }
+
+    /// A wait for a place, for a push in the same loop.
+    pub fn wait_for_place(&self) -> Waiting<'_> {
+        self.places.wait()
+    }
+
+    /// Wakes all that wait for this line. Whoever raises a flag that they look at stores it first, and then calls this.
     pub fn wake(&self) {
-        self.gate.wake();
+        self.items.wake();
+        self.places.wake();
     }
 }

@@ -1,0 +1,5 @@
+use Rattle.std.proofs.Common.{◌≡◌}
+use Rattle.fuse_line.proofs.line.Line.pop_waiting.Given as goal
+
+abbrev pub invariant-loop : goal.invariant-loop
+invariant-loop g l = (l.pass.line ≡ l.fn.pass.line) × (l.pass.hand ≡ l.fn.pass.hand)
