@@ -9,6 +9,8 @@ mod hand;
 mod line;
 mod moves;
 mod pass;
+#[cfg(test)]
+mod tests;
 
 pub use class::Class;
 pub use gate::Waiting;

@@ -19,7 +19,7 @@ use std::sync::Wait;
 use std::sync::atomic::{AtomicBool, Ordering};
 
 /// The line was full, and this is the item that was to be pushed.
-#[derive(Drop)]
+#[derive(Debug, Drop, PartialEq, Eq)]
 pub struct Full<T> {
     pub item: T,
 }

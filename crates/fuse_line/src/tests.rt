@@ -1,0 +1,151 @@
+ghost use Rattle.std.specs.Prelude.{◌≡◌};
+ghost use Rattle.fuse_line.specs.declared.hand.Kind.TheVariants.{First, Inner};
+
+use crate::*;
+use std::sync::Wait;
+use std::sync::atomic::{AtomicBool, Ordering};
+use std::test::*;
+use std::time::{CpuClock, Duration};
+use std::{io, thread};
+
+#[derive(Clone, Copy, Debug, PartialEq, Eq)]
+struct Item {
+    number: u64,
+    inner: bool,
+}
+
+impl Class for Item {
+    ghost is_inner = { λ item. item.inner };
+
+    fn inner(&self) -> bool {
+        self.inner
+    }
+}
+
+fn job(number: u64) -> Item {
+    Item {
+        number,
+        inner: true,
+    }
+}
+
+#[test]
+fn gives_back_what_finds_no_place_and_keeps_the_order(rt: HostRuntime) -> Result<(), Fail> {
+    let (line, mut pass) = Line::new(rt.alloc(), 2)?;
+    let pushed = [
+        line.push(&rt, &mut pass, job(1)),
+        line.push(&rt, &mut pass, job(2)),
+        line.push(&rt, &mut pass, job(3)),
+    ];
+    assert_eq!(rt; pushed, [Ok(()), Ok(()), Err(Full { item: job(3) })]);
+    let popped = [
+        line.pop(&rt, &mut pass),
+        line.pop(&rt, &mut pass),
+        line.pop(&rt, &mut pass),
+    ];
+    assert_eq!(rt; popped, [Some(job(1)), Some(job(2)), None]);
+    Ok(())
+}
+
+#[test]
+fn gives_back_what_finds_no_place_or_wants_memory(rt: HostRuntime) -> Result<(), Fail> {
+    let Ok((line, mut pass)) = Line::new(rt.alloc(), 1) else {
+        return Ok(());
+    };
+    let pushed = line.push(&rt, &mut pass, job(1));
+    assert_eq!(rt; pushed, Ok(()));
+    Ok(())
+}
+
+// Pushes the numbers below count, in order.
+fn push_below<R: Wait>(rt: &R, line: &Line<Item>, mut pass: Pass<Item>, count: u64)
+    requires { (pass.line ≡ line.now) × (pass.hand.kind ≡ First) }
+{
+    for number in 0..count {
+        line.push_waiting(rt, &mut pass, job(number));
+    }
+}
+
+// How many items come in the order 0, 1, 2 and so on, until the flag is up and the line is empty.
+fn pop_in_order<R: Wait>(
+    rt: &R,
+    line: &Line<Item>,
+    mut pass: Pass<Item>,
+    stop: &AtomicBool,
+) -> (u64, u64)
+    requires { (pass.line ≡ line.now) × (pass.hand.kind ≡ Inner) }
+{
+    let mut came = 0u64;
+    let mut in_order = 0u64;
+    for _ in rt.forever() {
+        match line.pop_waiting(rt, &mut pass, stop) {
+            Some(item) => {
+                in_order = in_order.wrapping_add(u64::from(item.number == came));
+                came = came.wrapping_add(1);
+            }
+            None => break,
+        }
+    }
+    (came, in_order)
+}
+
+#[test]
+fn moves_a_million_items_in_order_through_few_places(rt: HostRuntime) -> Result<(), Fail> {
+    let count = 1_000_000;
+    for places in [2, 64] {
+        let (line, mut pass) = Line::new(rt.alloc(), places)?;
+        let taker = line.split(&mut pass, false);
+        let stop = AtomicBool::new(false);
+        let ((), moved) = thread::join(
+            &rt,
+            ||
+                requires { (pass.line ≡ line) × (pass.hand.kind ≡ First) }
+            {
+                push_below(&rt, &line, pass, count);
+                stop.store(true, Ordering::SeqCst);
+                line.wake();
+            },
+            ||
+                requires { (taker.line ≡ line) × (taker.hand.kind ≡ Inner) }
+            { pop_in_order(&rt, &line, taker, &stop) },
+        );
+        assert_eq!(rt; moved, (count, count), "through {places} places");
+    }
+    Ok(())
+}
+
+// The processor time of this thread, in milliseconds, while it waits at an empty line until the flag is up.
+fn time_of_waiting<R: Wait + CpuClock>(
+    rt: &R,
+    line: &Line<Item>,
+    mut pass: Pass<Item>,
+    stop: &AtomicBool,
+) -> io::Result<u128>
+    requires { (pass.line ≡ line.now) × (pass.hand.kind ≡ Inner) }
+{
+    let before = rt.thread_cpu_time()?;
+    line.pop_waiting(rt, &mut pass, stop);
+    let after = rt.thread_cpu_time()?;
+    Ok(after.saturating_sub(before).as_millis())
+}
+
+#[test]
+fn takes_no_processor_while_it_waits(rt: HostRuntime) -> Result<(), Fail> {
+    let (line, mut pass) = Line::new(rt.alloc(), 1)?;
+    let taker = line.split(&mut pass, false);
+    let stop = AtomicBool::new(false);
+    let ((), spent) = thread::join(
+        &rt,
+        || {
+            thread::sleep(&rt, Duration::from_millis(500));
+            stop.store(true, Ordering::SeqCst);
+            line.wake();
+        },
+        ||
+            requires { (taker.line ≡ line) × (taker.hand.kind ≡ Inner) }
+        { time_of_waiting(&rt, &line, taker, &stop) },
+    );
+    let spent = spent?;
+    assert!(rt; spent < 50, "{spent} of 500 milliseconds");
+    Ok(())
+}
