@@ -1,18 +1,21 @@
 -- What the first pass learns of the line while it counts no other.
-use Rattle.std.proofs.Common.{◌≡◌, ℕ, zero, suc, Bool, List, [], ◌∷◌, ◌++◌, length, filter, sym, refl, ap, ◌∙◌, subst, append-nil, arith}
+use Rattle.std.proofs.Common.{◌≡◌, ℕ, zero, suc, Bool, List, [], ◌∷◌, ◌++◌, length, set, filter, cond, sym, refl, ap, ◌∙◌, subst, append-nil, arith}
 use Rattle.std.specs.List.Sorted.{IsPermutation}
 use Rattle.std.proofs.lemmas.List.Elements.{filter-append}
 use mathlib.Core.Option.{some, some-injective, some-ne-none}
 use lib.ListN.{get_elem?}
+use Rattle.atomic_table.proofs.Lists.{set_else}
+use Rattle.std.proofs.lemmas.List.Sorted.{sum_by-IsPermutation}
 use Rattle.crossbeam_queue.specs.Fifo.{Learns, Held}
 use Rattle.fuse_line.specs.declared.hand.Hand.{Hand}
 use Rattle.fuse_line.specs.declared.hand.Kind.{Kind}
 use Rattle.fuse_line.specs.declared.hand.Kind.TheVariants.{First, Inner, Door, Spent}
-use Rattle.fuse_line.specs.Hand.{inner_of}
+use Rattle.fuse_line.specs.Hand.{hand, inner_of}
+use Rattle.fuse_line.specs.Laws.{OthersAreIdle, TookAsOftenAsPushed}
 use Rattle.fuse_line.specs.MovedOnce.{first_of, total, puts, takens, SoundAs, IsSound, MovedOnce}
 use Rattle.fuse_line.specs.Tells.{IsSettled, Tells}
 use Rattle.fuse_line.proofs.FilteredOrder.{filtered_order}
-use Rattle.fuse_line.proofs.Views.{Each, total_at}
+use Rattle.fuse_line.proofs.Views.{Each, total_at, total_set}
 
 module _ {T : Type 0} (inner : T → Bool) where
   -- where no pass is the first and none is inner, no inner item was pushed and nothing taken
@@ -83,3 +86,25 @@ module _ {T : Type 0} (inner : T → Bool) where
   -- of an empty line
   pub settles : (v : Hand T) → Held 0 (Tells inner v) → IsSettled inner v
   settles v held first none = subst (λ l. IsPermutation (filter inner v.put) (filter inner l)) (ap (λ l. v.taken ++ l) (empty held.0 held.1) ∙ append-nil v.taken) (held.2 first none)
+
+  idle_as : (kind : Kind) (others : ℕ) (put taken : List T) → first_of kind ≡ 0 → inner_of kind ≡ 0 → SoundAs inner kind others put taken
+      → (filter inner put ≡ []) × (taken ≡ [])
+  idle_as First others put taken first counts s = absurd (omega arith)
+  idle_as Inner others put taken first counts s = absurd (omega arith)
+  idle_as Door others put taken first counts s = (s.1, s.2)
+  idle_as Spent others put taken first counts s = (ap (filter inner) s.1, s.2)
+
+  pub idle : OthersAreIdle inner
+  idle items views place other v u rule at first none there apart =
+      let a = alone views place v at (ap first_of first) rule.sound rule.one in
+      let counted = rule.counted in
+      let one = rule.one in
+      let spent : Hand T = hand Spent 0 [] [] in
+      let without : List (Hand T) = set views other spent in
+      let mine = total_at (λ w. first_of w.kind) without place v (set_else views other place spent (λ e. apart (sym e)) ∙ at) in
+      let theirs = total_set (λ w. first_of w.kind) views other u spent there in
+      let inners = total_at (λ w. inner_of w.kind) views other u there in
+      idle_as u.kind u.others u.put u.taken (omega (arith, ap first_of first)) (omega (arith, a.0)) (rule.sound other u there)
+
+  pub as_often : TookAsOftenAsPushed inner
+  as_often v settled first none test = sum_by-IsPermutation (λ x. cond (test x) 1 0) _ _ (settled first none)

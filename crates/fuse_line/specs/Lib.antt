@@ -1,4 +1,5 @@
 pub mod Hand
+pub mod Laws
 pub mod MovedOnce
 pub mod Permits
 pub mod Seen

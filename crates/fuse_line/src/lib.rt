@@ -6,6 +6,7 @@
 mod class;
 mod gate;
 mod hand;
+pub mod laws;
 mod line;
 mod moves;
 mod pass;

@@ -64,5 +64,5 @@ impl<T: Class> Outcome<T, Hand<T>> for Takes {
 }
 
 impl<T: Class> Lesson<T, Hand<T>> for Takes {
-    ghost fact = { λ v items. Tells T.is_inner v items };
+    ghost fact = { λ v rest. Tells T.is_inner v rest };
 }

@@ -48,6 +48,31 @@ fn gives_back_what_finds_no_place_and_keeps_the_order(rt: HostRuntime) -> Result
 }
 
 #[test]
+fn splits_passes_off_and_joins_them(rt: HostRuntime) -> Result<(), Fail> {
+    let (line, mut first) = Line::new(rt.alloc(), 2)?;
+    let mut inner = line.split(&mut first, false);
+    let mut door = line.split(&mut first, true);
+    let mut other = line.split(&mut door, true);
+    let note = Item {
+        number: 7,
+        inner: false,
+    };
+    let pushed = [
+        line.push(&rt, &mut other, note),
+        line.push(&rt, &mut inner, job(8)),
+    ];
+    line.join(&mut door, other);
+    let popped = line.pop(&rt, &mut inner);
+    line.join(&mut first, inner);
+    let left = [line.pop(&rt, &mut first), line.pop(&rt, &mut first)];
+    assert_eq!(rt;
+        (pushed, popped, left),
+        ([Ok(()), Ok(())], Some(note), [Some(job(8)), None])
+    );
+    Ok(())
+}
+
+#[test]
 fn gives_back_what_finds_no_place_or_wants_memory(rt: HostRuntime) -> Result<(), Fail> {
     let Ok((line, mut pass)) = Line::new(rt.alloc(), 1) else {
         return Ok(());
@@ -114,19 +139,20 @@ fn moves_a_million_items_in_order_through_few_places(rt: HostRuntime) -> Result<
     Ok(())
 }
 
-// The processor time of this thread, in milliseconds, while it waits at an empty line until the flag is up.
+// The processor time of this thread, in milliseconds, while it waits at an empty line, and whether the flag is up then.
 fn time_of_waiting<R: Wait + CpuClock>(
     rt: &R,
     line: &Line<Item>,
     mut pass: Pass<Item>,
     stop: &AtomicBool,
-) -> io::Result<u128>
+) -> io::Result<(u128, bool)>
     requires { (pass.line ≡ line.now) × (pass.hand.kind ≡ Inner) }
 {
     let before = rt.thread_cpu_time()?;
     line.pop_waiting(rt, &mut pass, stop);
     let after = rt.thread_cpu_time()?;
-    Ok(after.saturating_sub(before).as_millis())
+    let stopped = stop.load(Ordering::SeqCst);
+    Ok((after.saturating_sub(before).as_millis(), stopped))
 }
 
 #[test]
@@ -145,7 +171,8 @@ fn takes_no_processor_while_it_waits(rt: HostRuntime) -> Result<(), Fail> {
             requires { (taker.line ≡ line) × (taker.hand.kind ≡ Inner) }
         { time_of_waiting(&rt, &line, taker, &stop) },
     );
-    let spent = spent?;
+    let (spent, stopped) = spent?;
+    assert!(rt; stopped, "it went on while the line was empty");
     assert!(rt; spent < 50, "{spent} of 500 milliseconds");
     Ok(())
 }
