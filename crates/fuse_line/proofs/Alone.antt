@@ -18,59 +18,60 @@ use Rattle.fuse_line.proofs.FilteredOrder.{filtered_order}
 use Rattle.fuse_line.proofs.Views.{Each, total_at, total_set}
 
 module _ {T : Type 0} (inner : T → Bool) where
-  -- where no pass is the first and none is inner, no inner item was pushed and nothing taken
-  abbrev Quiet : List (Hand T) → Type 0
-  Quiet views = (total (λ u. u.others) views ≡ 0)
-      × (total (λ u. inner_of u.kind) views ≡ 0 → (filter inner (puts views) ≡ []) × (takens views ≡ []))
+  -- what is not the first counts no other
+  counts_none : (kind : Kind) (others : ℕ) (put taken : List T) → first_of kind ≡ 0 → SoundAs inner kind others put taken → others ≡ 0
+  counts_none First others put taken first s = absurd (omega arith)
+  counts_none Inner others put taken first s = s
+  counts_none Door others put taken first s = s.0
+  counts_none Spent others put taken first s = s.0
 
-  quiet_more : (kind : Kind) (v : Hand T) (vs : List (Hand T)) → v.kind ≡ kind → SoundAs inner kind v.others v.put v.taken → first_of kind ≡ 0 → Quiet vs → Quiet (v ∷ vs)
-  quiet_more First v vs is s none q = absurd (omega arith)
-  quiet_more Inner v vs is s none q = (omega (arith, s, q.0), λ h. absurd (omega (arith, h, ap inner_of is)))
-  quiet_more Door v vs is s none q = (
-    omega (arith, s.0, q.0),
-    λ h. let r = q.1 (omega arith) in (filter-append inner v.put (puts vs) ∙ ap (λ l. l ++ filter inner (puts vs)) s.1 ∙ r.0, ap (λ l. l ++ takens vs) s.2 ∙ r.1),
-  )
-  quiet_more Spent v vs is s none q = (
-    omega (arith, s.0, q.0),
-    λ h. let r = q.1 (omega arith) in (ap (λ l. filter inner (l ++ puts vs)) s.1 ∙ r.0, ap (λ l. l ++ takens vs) s.2 ∙ r.1),
-  )
+  -- what is neither the first nor an inner pass pushed no inner item and took nothing
+  idle_as : (kind : Kind) (others : ℕ) (put taken : List T) → first_of kind ≡ 0 → inner_of kind ≡ 0 → SoundAs inner kind others put taken
+      → (filter inner put ≡ []) × (taken ≡ [])
+  idle_as First others put taken first counts s = absurd (omega arith)
+  idle_as Inner others put taken first counts s = absurd (omega arith)
+  idle_as Door others put taken first counts s = (s.1, s.2)
+  idle_as Spent others put taken first counts s = (ap (filter inner) s.1, s.2)
 
-  quiet : (views : List (Hand T)) → Each (IsSound inner) views → total (λ u. first_of u.kind) views ≡ 0 → Quiet views
+  -- what all passes count, pushed of the inner items, and took, where none of them is an inner pass
+  abbrev Gathered : List (Hand T) → ℕ → List T → List T → Type 0
+  Gathered views others put taken = (total (λ u. u.others) views ≡ others)
+      × (total (λ u. inner_of u.kind) views ≡ 0 → (filter inner (puts views) ≡ filter inner put) × (takens views ≡ taken))
+
+  gathered_more : (v : Hand T) (vs : List (Hand T)) (others : ℕ) (put taken : List T) → IsSound inner v → first_of v.kind ≡ 0
+      → Gathered vs others put taken → Gathered (v ∷ vs) others put taken
+  gathered_more v vs others put taken s first rest =
+      let none = counts_none v.kind v.others v.put v.taken first s in (
+        omega (arith, none, rest.0),
+        λ h.
+            let mine = idle_as v.kind v.others v.put v.taken first (omega (arith, h)) s in
+            let theirs = rest.1 (omega (arith, h)) in (
+              filter-append inner v.put (puts vs) ∙ ap (λ l. l ++ filter inner (puts vs)) mine.0 ∙ theirs.0,
+              ap (λ l. l ++ takens vs) mine.1 ∙ theirs.1,
+            ),
+      )
+
+  quiet : (views : List (Hand T)) → Each (IsSound inner) views → total (λ u. first_of u.kind) views ≡ 0 → Gathered views 0 [] []
   quiet [] s none = (refl, λ _. (refl, refl))
-  quiet (v ∷ vs) s none = quiet_more v.kind v vs refl (s 0 v refl) (omega arith) (quiet vs (λ j u at. s (suc j) u at) (omega arith))
+  quiet (v ∷ vs) s none = gathered_more v vs 0 [] [] (s 0 v refl) (omega arith) (quiet vs (λ j u at. s (suc j) u at) (omega arith))
 
   -- where the first pass is alone, it pushed each inner item and took each item
-  abbrev Alone : List (Hand T) → Hand T → Type 0
-  Alone views v = (total (λ u. u.others) views ≡ v.others)
-      × (total (λ u. inner_of u.kind) views ≡ 0 → (filter inner (puts views) ≡ filter inner v.put) × (takens views ≡ v.taken))
-
-  alone_more : (kind : Kind) (x : Hand T) (vs : List (Hand T)) (v : Hand T) → x.kind ≡ kind → SoundAs inner kind x.others x.put x.taken → first_of kind ≡ 0 → Alone vs v → Alone (x ∷ vs) v
-  alone_more First x vs v is s none q = absurd (omega arith)
-  alone_more Inner x vs v is s none q = (omega (arith, s, q.0), λ h. absurd (omega (arith, h, ap inner_of is)))
-  alone_more Door x vs v is s none q = (
-    omega (arith, s.0, q.0),
-    λ h. let r = q.1 (omega arith) in (filter-append inner x.put (puts vs) ∙ ap (λ l. l ++ filter inner (puts vs)) s.1 ∙ r.0, ap (λ l. l ++ takens vs) s.2 ∙ r.1),
-  )
-  alone_more Spent x vs v is s none q = (
-    omega (arith, s.0, q.0),
-    λ h. let r = q.1 (omega arith) in (ap (λ l. filter inner (l ++ puts vs)) s.1 ∙ r.0, ap (λ l. l ++ takens vs) s.2 ∙ r.1),
-  )
-
   alone : (views : List (Hand T)) (place : ℕ) (v : Hand T) → get_elem? views place ≡ some v → first_of v.kind ≡ 1 → Each (IsSound inner) views
-      → total (λ u. first_of u.kind) views ≡ 1 → Alone views v
+      → total (λ u. first_of u.kind) views ≡ 1 → Gathered views v.others v.put v.taken
   alone [] place v at is s one = absurd (some-ne-none v (sym at))
   alone (x ∷ xs) zero v at is s one =
       let same = some-injective x v at in
-      let rest = quiet xs (λ j u at. s (suc j) u at) (omega (arith, ap (λ (u : Hand T). first_of u.kind) same)) in (
-        omega (arith, rest.0, ap (λ (u : Hand T). u.others) same),
-        λ h. let r = rest.1 (omega arith) in (
-          filter-append inner x.put (puts xs) ∙ ap (λ l. filter inner x.put ++ l) r.0 ∙ append-nil (filter inner x.put) ∙ ap (λ (u : Hand T). filter inner u.put) same,
-          ap (λ l. x.taken ++ l) r.1 ∙ append-nil x.taken ∙ ap (λ (u : Hand T). u.taken) same,
+      let rest = quiet xs (λ j u at. s (suc j) u at) (omega (arith, ap (λ (u : Hand T). first_of u.kind) same)) in
+      subst (λ (u : Hand T). Gathered (x ∷ xs) u.others u.put u.taken) same (
+        omega (arith, rest.0),
+        λ h. let theirs = rest.1 (omega (arith, h)) in (
+          filter-append inner x.put (puts xs) ∙ ap (λ l. filter inner x.put ++ l) theirs.0 ∙ append-nil (filter inner x.put),
+          ap (λ l. x.taken ++ l) theirs.1 ∙ append-nil x.taken,
         ),
       )
   alone (x ∷ xs) (suc n) v at is s one =
       let there = total_at (λ u. first_of u.kind) xs n v at in
-      alone_more x.kind x xs v refl (s 0 x refl) (omega arith) (alone xs n v at is (λ j u at. s (suc j) u at) (omega arith))
+      gathered_more x xs v.others v.put v.taken (s 0 x refl) (omega arith) (alone xs n v at is (λ j u at. s (suc j) u at) (omega arith))
 
   pub tells : (place : ℕ) (v : Hand T) → Learns (MovedOnce inner) place v (Tells inner v)
   tells place v items views rule at first none =
@@ -85,14 +86,9 @@ module _ {T : Type 0} (inner : T → Bool) where
 
   -- of an empty line
   pub settles : (v : Hand T) → Held 0 (Tells inner v) → IsSettled inner v
-  settles v held first none = subst (λ l. IsPermutation (filter inner v.put) (filter inner l)) (ap (λ l. v.taken ++ l) (empty held.0 held.1) ∙ append-nil v.taken) (held.2 first none)
-
-  idle_as : (kind : Kind) (others : ℕ) (put taken : List T) → first_of kind ≡ 0 → inner_of kind ≡ 0 → SoundAs inner kind others put taken
-      → (filter inner put ≡ []) × (taken ≡ [])
-  idle_as First others put taken first counts s = absurd (omega arith)
-  idle_as Inner others put taken first counts s = absurd (omega arith)
-  idle_as Door others put taken first counts s = (s.1, s.2)
-  idle_as Spent others put taken first counts s = (ap (filter inner) s.1, s.2)
+  settles v held first none =
+      let all : v.taken ++ held.0 ≡ v.taken = ap (λ l. v.taken ++ l) (empty held.0 held.1) ∙ append-nil v.taken in
+      subst (λ l. IsPermutation (filter inner v.put) (filter inner l)) all (held.2 first none)
 
   pub idle : OthersAreIdle inner
   idle items views place other v u rule at first none there apart =

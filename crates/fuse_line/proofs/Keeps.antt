@@ -1,5 +1,6 @@
 -- Each step of a pass keeps the rule.
-use Rattle.std.proofs.Common.{◌≡◌, ℕ, ◌+◌, ◌-◌, ◌≤◌, Bool, true, false, cond, List, [], ◌∷◌, ◌++◌, set, filter, sym, refl, ap, ◌∙◌, subst, ⊎_elim, append_assoc, arith}
+use Rattle.std.proofs.Common.{◌≡◌, ℕ, ◌+◌, ◌-◌, ◌≤◌, Bool, true, false, cond, List, [], ◌∷◌, ◌++◌, set, filter, sym, refl, ap, ◌∙◌, subst}
+use Rattle.std.proofs.Common.{⊎_elim, append_assoc, arith}
 use Rattle.std.specs.List.Sorted.{IsPermutation}
 use Rattle.std.proofs.lemmas.List.Elements.{filter-append}
 use Rattle.std.proofs.lemmas.List.Sorted.{IsPermutation-sym, IsPermutation-trans, IsPermutation-append_left}
@@ -29,13 +30,15 @@ module _ {T : Type 0} (inner : T → Bool) where
   filter_one true x is = cc
   filter_one false x is = refl
 
-  sound_put : (kind : Kind) (others : ℕ) (put taken : List T) (x : T) → MayPush inner kind x → SoundAs inner kind others put taken → SoundAs inner kind others (put ++ x ∷ []) taken
+  sound_put : (kind : Kind) (others : ℕ) (put taken : List T) (x : T) → MayPush inner kind x → SoundAs inner kind others put taken
+      → SoundAs inner kind others (put ++ x ∷ []) taken
   sound_put First others put taken x may s = s
   sound_put Inner others put taken x may s = s
   sound_put Door others put taken x may s = (s.0, filter-append inner put (x ∷ []) ∙ ap (λ l. l ++ filter inner (x ∷ [])) s.1 ∙ filter_one (inner x) x may, s.2)
   sound_put Spent others put taken x may s = absurd may
 
-  sound_taken : (kind : Kind) (others : ℕ) (put taken more : List T) → MayPop kind → SoundAs inner kind others put taken → SoundAs inner kind others put (taken ++ more)
+  sound_taken : (kind : Kind) (others : ℕ) (put taken more : List T) → MayPop kind → SoundAs inner kind others put taken
+      → SoundAs inner kind others put (taken ++ more)
   sound_taken First others put taken more may s = s
   sound_taken Inner others put taken more may s = s
   sound_taken Door others put taken more may s = absurd may
@@ -46,6 +49,7 @@ module _ {T : Type 0} (inner : T → Bool) where
       let w : Hand T = with_put v x in
       let put = flat_grown put_of views place v w (x ∷ []) at refl in
       let taken = flat_kept taken_of views place v w at refl in
+      let same = append_assoc (takens views) items (x ∷ []) ∙ ap (λ l. l ++ (items ++ x ∷ [])) (sym taken) in
       let more : IsPermutation (puts views ++ x ∷ []) ((takens views ++ items) ++ x ∷ []) = IsPermutation-append_left (x ∷ []) _ _ rule.moved in
       let firsts = total_set (λ u. first_of u.kind) views place v w at in
       let inners = total_set (λ u. inner_of u.kind) views place v w at in
@@ -54,7 +58,7 @@ module _ {T : Type 0} (inner : T → Bool) where
       let counted = rule.counted in (
         w,
         record {
-          moved = IsPermutation-trans _ _ _ put (subst (IsPermutation (puts views ++ x ∷ [])) (append_assoc (takens views) items (x ∷ []) ∙ ap (λ l. l ++ (items ++ x ∷ [])) (sym taken)) more);
+          moved = IsPermutation-trans _ _ _ put (subst (IsPermutation (puts views ++ x ∷ [])) same more);
           one = omega arith;
           counted = omega arith;
           sound = each_set (IsSound inner) views place w (sound_put v.kind v.others v.put v.taken x may (rule.sound place v at)) rule.sound;
@@ -62,7 +66,8 @@ module _ {T : Type 0} (inner : T → Bool) where
         refl,
       )
 
-  pub pops : (place : ℕ) (v : Hand T) → MayPop v.kind → Pops (MovedOnce inner) place v (λ x w. (w ≡ with_taken v x) × ((rest : List T) × Tells inner v (x ∷ rest)))
+  pub pops : (place : ℕ) (v : Hand T) → MayPop v.kind
+      → Pops (MovedOnce inner) place v (λ x w. (w ≡ with_taken v x) × ((rest : List T) × Tells inner v (x ∷ rest)))
   pops place v may x items views rule at =
       let w : Hand T = with_taken v x in
       let put = flat_kept put_of views place v w at refl in
@@ -107,7 +112,8 @@ module _ {T : Type 0} (inner : T → Bool) where
         sound = each_more (IsSound inner) there r fresh (each_set (IsSound inner) views place w (keeps (rule.sound place v at)) rule.sound);
       }
 
-  sound_first : (kind : Kind) (others others' : ℕ) (put taken : List T) → kind ≡ First → SoundAs inner kind others put taken → SoundAs inner kind others' put taken
+  sound_first : (kind : Kind) (others others' : ℕ) (put taken : List T) → kind ≡ First → SoundAs inner kind others put taken
+      → SoundAs inner kind others' put taken
   sound_first First others others' put taken is s = s
   sound_first Inner others others' put taken is s = cc
   sound_first Door others others' put taken is s = cc
@@ -115,7 +121,8 @@ module _ {T : Type 0} (inner : T → Bool) where
 
   pub splits_inner : (place : ℕ) (v : Hand T) → v.kind ≡ First → Forks (MovedOnce inner) place v (with_other v) (hand Inner 0 [] [])
   splits_inner place v first =
-      split_into place v (with_other v) (hand Inner 0 [] []) refl refl refl refl refl refl (omega arith) (λ s. sound_first v.kind v.others _ v.put v.taken first s) refl
+      split_into place v (with_other v) (hand Inner 0 [] []) refl refl refl refl refl refl (omega arith)
+      (λ s. sound_first v.kind v.others _ v.put v.taken first s) refl
 
   pub splits_door : (place : ℕ) (v : Hand T) → Forks (MovedOnce inner) place v v (hand Door 0 [] [])
   splits_door place v = split_into place v v (hand Door 0 [] []) refl refl refl refl refl refl (omega arith) (λ s. s) (refl, refl, refl)
@@ -132,7 +139,8 @@ module _ {T : Type 0} (inner : T → Bool) where
   sound_joined Spent kind' others others' put taken put' taken' may s t = absurd may
 
   -- what is joined into another is not the first, and counts none
-  joins_none : (kind kind' : Kind) (others' : ℕ) (put' taken' : List T) → MayJoin kind kind' → SoundAs inner kind' others' put' taken' → (first_of kind' ≡ 0) × (others' ≡ 0)
+  joins_none : (kind kind' : Kind) (others' : ℕ) (put' taken' : List T) → MayJoin kind kind' → SoundAs inner kind' others' put' taken'
+      → (first_of kind' ≡ 0) × (others' ≡ 0)
   joins_none kind Inner others' put' taken' may t = (refl, t)
   joins_none kind Door others' put' taken' may t = (refl, t.0)
   joins_none kind Spent others' put' taken' may t = (refl, t.0)
@@ -141,7 +149,8 @@ module _ {T : Type 0} (inner : T → Bool) where
   joins_none Door First others' put' taken' may t = cc
   joins_none Spent First others' put' taken' may t = absurd may
 
-  pub merges : (place : ℕ) (v : Hand T) (other : ℕ) (w : Hand T) → MayJoin v.kind w.kind → Merges (MovedOnce inner) place v other w (joined v w) (hand Spent 0 [] [])
+  pub merges : (place : ℕ) (v : Hand T) (other : ℕ) (w : Hand T) → MayJoin v.kind w.kind
+      → Merges (MovedOnce inner) place v other w (joined v w) (hand Spent 0 [] [])
   merges place v other w may items views rule at apart at' =
       let both : Hand T = joined v w in
       let spent : Hand T = hand Spent 0 [] [] in
@@ -156,6 +165,7 @@ module _ {T : Type 0} (inner : T → Bool) where
       let firsts' = total_set (λ u. first_of u.kind) after other w spent at' in
       let inners' = total_set (λ u. inner_of u.kind) after other w spent at' in
       let others' = total_set (λ u. u.others) after other w spent at' in
+      let joined_sound = sound_joined v.kind w.kind v.others w.others v.put v.taken w.put w.taken may (rule.sound place v at) (rule.sound other w there) in
       let none = joins_none v.kind w.kind w.others w.put w.taken may (rule.sound other w there) in
       let one = rule.one in
       let counted = rule.counted in
@@ -164,5 +174,5 @@ module _ {T : Type 0} (inner : T → Bool) where
         one = omega (arith, none.0, none.1);
         counted = omega (arith, none.0, none.1);
         sound = each_set (IsSound inner) after other spent (refl, refl, refl)
-            (each_set (IsSound inner) views place both (sound_joined v.kind w.kind v.others w.others v.put v.taken w.put w.taken may (rule.sound place v at) (rule.sound other w there)) rule.sound);
+            (each_set (IsSound inner) views place both joined_sound rule.sound);
       }

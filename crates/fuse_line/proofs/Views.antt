@@ -1,5 +1,6 @@
 -- The views of all passes, as lists: what changes where one view does, one more comes, or two are joined.
-use Rattle.std.proofs.Common.{◌≡◌, ◌≢◌, ℕ, zero, suc, ◌+◌, ◌≤◌, List, [], ◌∷◌, ◌++◌, set, flat_map, sym, refl, ap, ◌∙◌, subst, ⊎_elim, append_assoc, append-nil, arith}
+use Rattle.std.proofs.Common.{◌≡◌, ◌≢◌, ℕ, zero, suc, ◌+◌, ◌≤◌, List, [], ◌∷◌, ◌++◌, set, flat_map, sym, refl, ap, ◌∙◌, subst}
+use Rattle.std.proofs.Common.{⊎_elim, append_assoc, append-nil, arith}
 use Rattle.std.specs.List.Sorted.{IsPermutation}
 use Rattle.std.proofs.lemmas.List.Sorted.{IsPermutation-refl, IsPermutation-trans, IsPermutation-append_right, IsPermutation-append_comm}
 use mathlib.Core.Option.{some, some-injective, some-ne-none}
@@ -43,7 +44,8 @@ module _ {H X : Type 0} (f : H → List X) where
   flat_more (x ∷ xs) w none = ap (λ l. f x ++ l) (flat_more xs w none)
 
   -- one view is emptied
-  pub flat_emptied : (views : List H) (place : ℕ) (v w : H) → get_elem? views place ≡ some v → f w ≡ [] → IsPermutation (flat_map f (set views place w) ++ f v) (flat_map f views)
+  pub flat_emptied : (views : List H) (place : ℕ) (v w : H) → get_elem? views place ≡ some v → f w ≡ []
+      → IsPermutation (flat_map f (set views place w) ++ f v) (flat_map f views)
   flat_emptied [] place v w at none = absurd (some-ne-none v (sym at))
   flat_emptied (x ∷ xs) zero v w at none =
       let rest : List X = flat_map f xs in
