@@ -7,14 +7,13 @@ use Rattle.fuse_line.specs.declared.hand.Kind.TheVariants.{First}
 use Rattle.fuse_line.specs.MovedOnce.{MovedOnce}
 use Rattle.fuse_line.specs.Tells.{IsSettled}
 
-module _ {T : Type 0} (inner : T → Bool) where
-  -- while the first pass counts no other, no other has pushed an inner item or taken anything
-  abbrev pub OthersAreIdle : Type 0
-  OthersAreIdle = (items : List T) (views : List (Hand T)) (place other : ℕ) (first hand : Hand T) → MovedOnce inner items views
-      → get_elem? views place ≡ some first → first.kind ≡ First → first.others ≡ 0
-      → get_elem? views other ≡ some hand → other ≢ place → (filter inner hand.put ≡ []) × (hand.taken ≡ [])
+-- while the first pass counts no other, no other has pushed an inner item or taken anything
+abbrev pub OthersAreIdle : {T : Type 0} → (T → Bool) → Type 0
+OthersAreIdle {T} inner = (items : List T) (views : List (Hand T)) (place other : ℕ) (first hand : Hand T) → MovedOnce inner items views
+    → get_elem? views place ≡ some first → first.kind ≡ First → first.others ≡ 0
+    → get_elem? views other ≡ some hand → other ≢ place → (filter inner hand.put ≡ []) × (hand.taken ≡ [])
 
-  -- of the inner items that pass any test a settled first pass took as many as it pushed
-  abbrev pub TookAsOftenAsPushed : Type 0
-  TookAsOftenAsPushed = (first : Hand T) → IsSettled inner first → first.kind ≡ First → first.others ≡ 0
-      → (test : T → Bool) → count_by test (filter inner first.taken) ≡ count_by test (filter inner first.put)
+-- of the inner items that pass any test a settled first pass took as many as it pushed
+abbrev pub TookAsOftenAsPushed : {T : Type 0} → (T → Bool) → Type 0
+TookAsOftenAsPushed {T} inner = (first : Hand T) → IsSettled inner first → first.kind ≡ First → first.others ≡ 0
+    → (test : T → Bool) → count_by test (filter inner first.taken) ≡ count_by test (filter inner first.put)

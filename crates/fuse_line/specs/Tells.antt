@@ -5,11 +5,10 @@ use Rattle.std.specs.List.Sorted.{IsPermutation}
 use Rattle.fuse_line.specs.declared.hand.Hand.{Hand}
 use Rattle.fuse_line.specs.declared.hand.Kind.TheVariants.{First}
 
-module _ {T : Type 0} where
-  -- where the line holds these items: it pushed each inner item as often as it took it or the line holds it
-  abbrev pub Tells : (T → Bool) → Hand T → List T → Type 0
-  Tells inner v items = v.kind ≡ First → v.others ≡ 0 → IsPermutation (filter inner v.put) (filter inner (v.taken ++ items))
+-- where the line holds these items: it pushed each inner item as often as it took it or the line holds it
+abbrev pub Tells : {T : Type 0} → (T → Bool) → Hand T → List T → Type 0
+Tells inner v items = v.kind ≡ First → v.others ≡ 0 → IsPermutation (filter inner v.put) (filter inner (v.taken ++ items))
 
-  -- where the line holds nothing: it took each inner item as often as it pushed it
-  abbrev pub IsSettled : (T → Bool) → Hand T → Type 0
-  IsSettled inner v = v.kind ≡ First → v.others ≡ 0 → IsPermutation (filter inner v.put) (filter inner v.taken)
+-- where the line holds nothing: it took each inner item as often as it pushed it
+abbrev pub IsSettled : {T : Type 0} → (T → Bool) → Hand T → Type 0
+IsSettled inner v = v.kind ≡ First → v.others ≡ 0 → IsPermutation (filter inner v.put) (filter inner v.taken)

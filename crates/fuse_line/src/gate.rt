@@ -51,9 +51,10 @@ impl Gate {
 
 /// A thread that waits for a line. After each try that came to nothing it rests.
 ///
-/// The rests are short at first. Then one only makes sure that each later move wakes this thread, and returns; the next
-/// one sleeps. So whoever looks at all that it waits for between two rests, at the line and at a flag of its own, misses
-/// nothing. Let it go once a try has come to something: until then moves of the line may cost a call of the system.
+/// The rests are short at first. Then one only makes sure that each later move wakes this thread, and returns; the one
+/// after it sleeps. So whoever looks between two rests at all that it waits for, at the line and at a flag of its own,
+/// misses nothing. Let it go once a try has come to something: until then moves of the line may cost a call of the
+/// system.
 pub struct Waiting<'a> {
     gate: &'a Gate,
     tries: u32,

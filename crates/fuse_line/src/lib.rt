@@ -1,6 +1,6 @@
-//! A bounded line of items that threads share. A thread has a pass, which knows what it pushed and what it took. Nothing
-//! is lost and nothing comes twice, whatever the threads do. A push and a pop take no memory, and wait for no more than
-//! another thread's step; a thread that finds the line empty or full can sleep until it has moved.
+//! A bounded line of items that threads share. Each thread has a pass, which knows what it pushed and what it took.
+//! Nothing is lost and nothing comes twice, whatever the threads do. A push and a pop take no memory, and wait for no
+//! more than another thread's step; a thread that finds the line empty or full can sleep until it has moved.
 #![tactic(auto)]
 
 mod class;

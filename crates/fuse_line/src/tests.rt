@@ -30,7 +30,7 @@ fn job(number: u64) -> Item {
 }
 
 #[test]
-fn gives_back_what_finds_no_place_and_keeps_the_order(rt: HostRuntime) -> Result<(), Fail> {
+fn keeps_two_in_order_and_gives_back_the_third(rt: HostRuntime) -> Result<(), Fail> {
     let (line, mut pass) = Line::new(rt.alloc(), 2)?;
     let pushed = [
         line.push(&rt, &mut pass, job(1)),
@@ -73,7 +73,9 @@ fn splits_passes_off_and_joins_them(rt: HostRuntime) -> Result<(), Fail> {
 }
 
 #[test]
-fn gives_back_what_finds_no_place_or_wants_memory(rt: HostRuntime) -> Result<(), Fail> {
+fn keeps_two_in_order_and_gives_back_the_third_or_wants_memory(
+    rt: HostRuntime,
+) -> Result<(), Fail> {
     let Ok((line, mut pass)) = Line::new(rt.alloc(), 1) else {
         return Ok(());
     };
