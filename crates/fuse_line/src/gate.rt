@@ -93,3 +93,34 @@ impl Drop for Waiting<'_> {
         }
     }
 }
+
+#[cfg(test)]
+mod tests {
+    use super::*;
+    use std::test::*;
+
+    // Rests until this thread is one of those that a move wakes.
+    fn rest_until_counted<R: Wait>(rt: &R, waiting: &mut Waiting<'_>) {
+        for _ in 0..=TRIES {
+            waiting.rest(rt);
+        }
+    }
+
+    #[test]
+    fn counts_those_that_wait_and_wakes_them(rt: HostRuntime) {
+        let gate = Gate::new();
+        let mut waiting = gate.wait();
+        rest_until_counted(&rt, &mut waiting);
+        let counted = gate.waiting.load(Ordering::SeqCst);
+        gate.wake();
+        waiting.rest(&rt);
+        let woken = gate.waiting.load(Ordering::SeqCst);
+        rest_until_counted(&rt, &mut waiting);
+        let again = gate.waiting.load(Ordering::SeqCst);
+        drop(waiting);
+        let gone = gate.waiting.load(Ordering::SeqCst);
+        drop(gate.wait());
+        let never = gate.waiting.load(Ordering::SeqCst);
+        assert_eq!(rt; [counted, woken, again, gone, never], [1, 0, 1, 0, 0]);
+    }
+}

@@ -5,7 +5,7 @@ use crate::*;
 use std::sync::Wait;
 use std::sync::atomic::{AtomicBool, Ordering};
 use std::test::*;
-use std::time::{CpuClock, Duration};
+use std::time::{Clock, CpuClock, Duration};
 use std::{io, thread};
 
 #[derive(Clone, Copy, Debug, PartialEq, Eq)]
@@ -141,40 +141,112 @@ fn moves_a_million_items_in_order_through_few_places(rt: HostRuntime) -> Result<
     Ok(())
 }
 
-// The processor time of this thread, in milliseconds, while it waits at an empty line, and whether the flag is up then.
-fn time_of_waiting<R: Wait + CpuClock>(
+// A pop that waits, and the processor time of this thread for it, in milliseconds.
+fn timed_pop<R: Wait + CpuClock>(
     rt: &R,
     line: &Line<Item>,
     mut pass: Pass<Item>,
     stop: &AtomicBool,
-) -> io::Result<(u128, bool)>
+) -> io::Result<(Option<Item>, u128)>
     requires { (pass.line ≡ line.now) × (pass.hand.kind ≡ Inner) }
 {
     let before = rt.thread_cpu_time()?;
-    line.pop_waiting(rt, &mut pass, stop);
+    let found = line.pop_waiting(rt, &mut pass, stop);
     let after = rt.thread_cpu_time()?;
-    let stopped = stop.load(Ordering::SeqCst);
-    Ok((after.saturating_sub(before).as_millis(), stopped))
+    Ok((found, after.saturating_sub(before).as_millis()))
+}
+
+// The same of a push that waits.
+fn timed_push<R: Wait + CpuClock>(
+    rt: &R,
+    line: &Line<Item>,
+    mut pass: Pass<Item>,
+) -> io::Result<u128>
+    requires { (pass.line ≡ line.now) × (pass.hand.kind ≡ First) }
+{
+    let before = rt.thread_cpu_time()?;
+    line.push_waiting(rt, &mut pass, job(2));
+    let after = rt.thread_cpu_time()?;
+    Ok(after.saturating_sub(before).as_millis())
+}
+
+fn push_later<R: Wait + Clock>(rt: &R, line: &Line<Item>, mut pass: Pass<Item>) -> bool
+    requires { (pass.line ≡ line.now) × (pass.hand.kind ≡ First) }
+{
+    thread::sleep(rt, Duration::from_millis(300));
+    line.push(rt, &mut pass, job(1)).is_ok()
+}
+
+fn pop_later<R: Wait + Clock>(rt: &R, line: &Line<Item>, mut pass: Pass<Item>) -> Option<Item>
+    requires { (pass.line ≡ line.now) × (pass.hand.kind ≡ Inner) }
+{
+    thread::sleep(rt, Duration::from_millis(300));
+    line.pop(rt, &mut pass)
 }
 
 #[test]
-fn takes_no_processor_while_it_waits(rt: HostRuntime) -> Result<(), Fail> {
+fn a_pop_sleeps_until_an_item_comes(rt: HostRuntime) -> Result<(), Fail> {
     let (line, mut pass) = Line::new(rt.alloc(), 1)?;
     let taker = line.split(&mut pass, false);
     let stop = AtomicBool::new(false);
-    let ((), spent) = thread::join(
+    let (pushed, timed) = thread::join(
+        &rt,
+        ||
+            requires { (pass.line ≡ line) × (pass.hand.kind ≡ First) }
+        { push_later(&rt, &line, pass) },
+        ||
+            requires { (taker.line ≡ line) × (taker.hand.kind ≡ Inner) }
+        { timed_pop(&rt, &line, taker, &stop) },
+    );
+    let (found, spent) = timed?;
+    assert_eq!(rt; (pushed, found), (true, Some(job(1))));
+    assert!(rt; spent < 50, "{spent} of 300 milliseconds");
+    Ok(())
+}
+
+#[test]
+fn a_push_sleeps_until_a_place_comes(rt: HostRuntime) -> Result<(), Fail> {
+    let (line, mut pass) = Line::new(rt.alloc(), 1)?;
+    let taker = line.split(&mut pass, false);
+    let pushed = line.push(&rt, &mut pass, job(1));
+    let (popped, spent) = thread::join(
+        &rt,
+        ||
+            requires { (taker.line ≡ line) × (taker.hand.kind ≡ Inner) }
+        { pop_later(&rt, &line, taker) },
+        ||
+            requires { (pass.line ≡ line) × (pass.hand.kind ≡ First) }
+        { timed_push(&rt, &line, pass) },
+    );
+    let spent = spent?;
+    assert_eq!(rt; (pushed, popped), (Ok(()), Some(job(1))));
+    assert!(rt; spent < 50, "{spent} of 300 milliseconds");
+    Ok(())
+}
+
+#[test]
+fn a_pop_sleeps_until_its_flag_is_up(rt: HostRuntime) -> Result<(), Fail> {
+    let (line, mut pass) = Line::new(rt.alloc(), 1)?;
+    let taker = line.split(&mut pass, false);
+    let stop = AtomicBool::new(false);
+    let (still, timed) = thread::join(
         &rt,
         || {
-            thread::sleep(&rt, Duration::from_millis(500));
-            stop.store(true, Ordering::SeqCst);
+            thread::sleep(&rt, Duration::from_millis(300));
+            let still = !stop.swap(true, Ordering::SeqCst);
             line.wake();
+            still
         },
         ||
             requires { (taker.line ≡ line) × (taker.hand.kind ≡ Inner) }
-        { time_of_waiting(&rt, &line, taker, &stop) },
+        {
+            let timed = timed_pop(&rt, &line, taker, &stop);
+            (timed, stop.load(Ordering::SeqCst))
+        },
     );
-    let (spent, stopped) = spent?;
-    assert!(rt; stopped, "it went on while the line was empty");
-    assert!(rt; spent < 50, "{spent} of 500 milliseconds");
+    let (timed, stopped) = timed;
+    let (found, spent) = timed?;
+    assert_eq!(rt; (still, found, stopped), (true, None, true));
+    assert!(rt; spent < 50, "{spent} of 300 milliseconds");
     Ok(())
 }
