@@ -1,8 +1,8 @@
 -- Notices: what the status of their frames reads, and that each in range is one frame on a stream.
-use Rattle.std.proofs.Common.{◌≡◌, ◌^◌, ◌&&◌, pos, true, ap, arith, nat_lt}
+use Rattle.std.proofs.Common.{◌≡◌, ◌^◌, ◌&&◌, ◌∙◌, ℕ, List, pos, true, ap, arith, nat_lt}
 use Rattle.fuse_wire.specs.Frames.{IsFrame}
 use Rattle.fuse_reply.specs.Frame.{frame_status, is_set_aside}
-use Rattle.fuse_reply.specs.Notice.{Notice, IsNotice, notice, notice_payload, notify_code}
+use Rattle.fuse_reply.specs.Notice.{Notice, IsNotice, IsNoticeFrame, notice, notice_payload, notify_code}
 use Rattle.fuse_reply.specs.Notice.Notice.{Poll, InvalInode, InvalEntry, Store, Delete}
 use Rattle.fuse_reply.proofs.FrameLaws.{is_frame-frame, number-frame_status, frame_status-frame}
 
@@ -30,3 +30,7 @@ set_aside-notice (Delete parent child name) =
 -- a notice in range is one frame on a stream
 pub is_frame-notice : (n : Notice) → IsNotice n → IsFrame (notice n)
 is_frame-notice n valid = is_frame-frame 0 (pos (notify_code n)) (notice_payload n) valid.fits
+
+-- bytes that are a notice's frame are set aside
+pub set_aside-is_notice_frame : (f : List ℕ) → IsNoticeFrame f → is_set_aside f ≡ true
+set_aside-is_notice_frame f n = ap is_set_aside n.is_notice ∙ set_aside-notice n.notice_of

@@ -1,5 +1,5 @@
 -- Notices: frames that nobody asked for, with a positive status and no id (`enum fuse_notify_code` and the structs of `fuse.h`).
-use Rattle.std.specs.Prelude.{ℕ, ◌++◌, ◌<◌, ◌≤◌, ◌^◌, List, [], ◌∷◌, length, pos, ℤ, replicate, FitsSigned}
+use Rattle.std.specs.Prelude.{◌≡◌, ℕ, ◌++◌, ◌<◌, ◌≤◌, ◌^◌, List, [], ◌∷◌, length, pos, ℤ, replicate, FitsSigned}
 use Rattle.std.specs.Int.{w32, w64, to_le_bytes, cast_unsigned}
 use Rattle.fuse_reply.specs.Sizes.{max_payload}
 use Rattle.fuse_reply.specs.Answer.{AreBytes}
@@ -62,7 +62,21 @@ HasRanges (InvalEntry parent name) = (parent < 2 ^ 64) × AreBytes name
 HasRanges (Store ino offset bytes) = (ino < 2 ^ 64) × (offset < 2 ^ 64) × AreBytes bytes
 HasRanges (Delete parent child name) = (parent < 2 ^ 64) × (child < 2 ^ 64) × AreBytes name
 
+-- a frame can carry it: the length field has 4 bytes, and counts the header too
+abbrev pub FitsFrame : Notice → Type 0
+FitsFrame n = length (notice_payload n) ≤ max_payload
+
+-- no frame can carry it
+abbrev pub IsTooBig : Notice → Type 0
+IsTooBig n = max_payload < length (notice_payload n)
+
 -- A notice is in range where its numbers are, and a frame can carry it. The length of a name or of data is then below 2^32 too.
 pub record IsNotice (n : Notice) : Type 0 where
   pub ranges : HasRanges n
-  pub fits : length (notice_payload n) ≤ max_payload
+  pub fits : FitsFrame n
+
+-- these bytes are the frame of a notice in range
+pub record IsNoticeFrame (bytes : List ℕ) : Type 0 where
+  pub notice_of : Notice
+  pub in_range : IsNotice notice_of
+  pub is_notice : bytes ≡ notice notice_of

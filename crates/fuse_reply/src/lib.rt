@@ -9,6 +9,7 @@ mod entries;
 #[cfg(test)]
 mod fixed_tests;
 pub mod laws;
+mod notice_frame;
 mod out;
 mod packed;
 mod payloads;
@@ -35,6 +36,7 @@ mod reply_xattr;
 #[cfg(test)]
 mod tests;
 
+pub use notice_frame::NoticeFrame;
 pub use out::{Out, OutEnd};
 pub use packed::Packed;
 pub use replied::Replied;

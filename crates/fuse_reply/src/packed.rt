@@ -3,9 +3,9 @@ ghost use Rattle.std.specs.Prelude.{◌≡◌, ◌≤◌, ◌+◌, ◌++◌, [],
 ghost use Rattle.fuse_wire.specs.Numbers.{number};
 ghost use Rattle.fuse_wire.specs.Sink.{Sends};
 ghost use Rattle.fuse_reply.specs.Sizes.{out_header_size, max_payload, inline_size};
-ghost use Rattle.fuse_reply.specs.Frame.{frame, out_header};
+ghost use Rattle.fuse_reply.specs.Frame.{frame, frame_status, out_header};
 
-use fuse_wire::{NoMemory, RequestId, Sending, Sink};
+use fuse_wire::{NoMemory, RequestId, Sending, Sink, i32_at};
 use smallvec::SmallVec;
 use std::alloc::Global;
 use std::marker::Model;
@@ -102,6 +102,28 @@ impl Packed {
         Ok(Packed::around(id, 0, payload))
     }
 
+    /// The frame of a payload in three parts, one after the other, as by `new`. Each is copied once, to where the frame
+    /// stands.
+    pub fn joined(
+        alloc: Global,
+        id: RequestId,
+        status: i32,
+        front: &[u8],
+        middle: &[u8],
+        back: &[u8],
+    ) -> Result<Packed, NoMemory>
+        requires { length front.now + length middle.now + length back.now ≤ max_payload }
+        ensures ok { IfOk result (λ packed. packed ≡ frame id.0 status (front.now ++ middle.now ++ back.now)) }
+        ensures inline { length front.now + length middle.now + length back.now ≤ inline_size → IsOk result }
+    {
+        let mut payload = SmallVec::new(alloc);
+        payload.reserve_exact(front.len() + middle.len() + back.len())?;
+        payload.extend_from_slice(front)?;
+        payload.extend_from_slice(middle)?;
+        payload.extend_from_slice(back)?;
+        Ok(Packed::around(id, status, payload))
+    }
+
     /// The frame of status 0 and a payload that was put together where it lies. It is not copied.
     #[inline(always)]
     pub(crate) fn of_held(id: RequestId, payload: SmallVec<u8, INLINE_SIZE>) -> Packed
@@ -139,6 +161,14 @@ impl Packed {
         put_at(&mut short, 0, front);
         put_at(&mut short, front.len(), back);
         Packed::around(id, 0, SmallVec::from_buf_and_len(alloc, short, count))
+    }
+
+    /// The status, which stands after the length.
+    #[inline(always)]
+    pub(crate) fn status(&self) -> i32
+        ensures { result ≡ frame_status self.now }
+    {
+        i32_at(&self.header, 4)
     }
 
     /// Sends the frame.
