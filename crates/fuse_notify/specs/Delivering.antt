@@ -1,0 +1,18 @@
+-- What comes of sending a notice at once.
+use Rattle.std.specs.Prelude.{◌≡◌, ◌⊎◌, ℕ, List, pos, Result, Ok, Err}
+use Rattle.fuse_wire.specs.Sink.{SinkState, Sends}
+use Rattle.fuse_wire.specs.declared.sink.Sending.TheVariants.{Sent, Absent, Failed}
+use Rattle.fuse_reply.specs.Frame.{frame_status}
+use Rattle.fuse_reply.specs.Notice.{FUSE_NOTIFY_POLL}
+use Rattle.fuse_notify.specs.declared.delivery.Undelivered.{Undelivered}
+use Rattle.fuse_notify.specs.declared.delivery.Undelivered.TheVariants.{Absent as NotThere, Failed as Refused}
+
+-- the notice of a poll
+abbrev pub IsPoll : List ℕ → Type 0
+IsPoll frame = frame_status frame ≡ pos FUSE_NOTIFY_POLL
+
+-- It was sent; or the kernel had nothing of it, which is an error for a poll alone; or the device failed.
+abbrev pub Delivers : Result (Unit {0}) Undelivered → List ℕ → SinkState → SinkState → Type 0
+Delivers (Ok done) frame before after = Sends Sent frame before after ⊎ ((IsPoll frame → ⊥) × Sends Absent frame before after)
+Delivers (Err NotThere) frame before after = IsPoll frame × Sends Absent frame before after
+Delivers (Err Refused) frame before after = Sends Failed frame before after

@@ -1,0 +1,11 @@
+//! Notices: what a filesystem tells the kernel unasked.
+//! The layers above rely on this: what a call queues or delivers is the frame of the notice of its arguments, and a call
+//! that answers an error queues nothing.
+#![tactic(auto)]
+
+mod delivery;
+mod notice;
+mod payloads;
+
+pub use delivery::{Undelivered, deliver};
+pub use notice::{Notice, NoticeError};
