@@ -7,3 +7,4 @@ pub mod Frame
 pub mod Reply
 pub mod Deliver
 pub mod Notice
+pub mod Parcel

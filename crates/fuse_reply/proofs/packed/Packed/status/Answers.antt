@@ -1,7 +1,7 @@
 -- The status stands in the header, in front of the payload.
 use Rattle.std.proofs.Common.{◌≡◌, ◌∙◌, ◌++◌, ap, sym, rules, ℕ, List, to_z, of_z}
 use Rattle.std.specs.Int.{w32, cast_signed}
-use Rattle.fuse_wire.specs.Numbers.{number, signed}
+use Rattle.fuse_wire.specs.Numbers.{signed}
 use Rattle.fuse_wire.proofs.NumberFront.{number-append}
 use Rattle.fuse_reply.specs.Frame.{frame_status}
 use Rattle.fuse_reply.proofs.packed.Packed.status.Goals as goal

@@ -1,0 +1,27 @@
+// What is handed to whoever sends.
+ghost use Rattle.std.specs.Prelude.{◌≡◌};
+ghost use Rattle.fuse_reply.specs.Parcel.{is_prompt};
+
+use crate::{NoticeFrame, Out};
+use fuse_line::Class;
+
+/// What goes from whoever answers or notifies to whoever sends.
+#[derive(Debug, Drop)]
+pub enum Parcel {
+    /// What goes out for the message of this number.
+    Prompt(u64, Out),
+    /// A notice.
+    Notice(NoticeFrame),
+}
+
+/// What goes out for a message is an inner item: whoever notifies can't push it.
+impl Class for Parcel {
+    ghost is_inner = { is_prompt };
+
+    /// Whether it goes out for a message.
+    fn inner(&self) -> bool
+        ensures { result ≡ is_prompt self.now }
+    {
+        matches!(self, Parcel::Prompt(_, _))
+    }
+}
