@@ -1,3 +1,4 @@
 pub mod Heads
 pub mod Making
 pub mod Delivering
+pub mod Queueing

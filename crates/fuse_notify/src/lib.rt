@@ -5,7 +5,11 @@
 
 mod delivery;
 mod notice;
+mod notifier;
 mod payloads;
+mod poll_notifier;
 
 pub use delivery::{Undelivered, deliver};
 pub use notice::{Notice, NoticeError};
+pub use notifier::{Notifier, NotifyError};
+pub use poll_notifier::PollNotifier;

@@ -143,4 +143,12 @@ impl Notice {
             frame: NoticeFrame::new(packed),
         })
     }
+
+    /// The frame of the notice.
+    #[inline(always)]
+    pub(crate) fn into_frame(self) -> NoticeFrame
+        ensures { result ≡ self }
+    {
+        self.frame
+    }
 }

@@ -1,0 +1,77 @@
+// What a poll is told through.
+ghost use Rattle.std.specs.Prelude.{◌≡◌, [], ◌∷◌, IfErr};
+ghost use Rattle.fuse_reply.specs.Notice.{notice};
+ghost use Rattle.fuse_reply.specs.Notice.Notice.{Poll};
+ghost use Rattle.fuse_reply.specs.declared.parcel.Parcel.TheVariants.{Notice as Told};
+ghost use Rattle.fuse_notify.specs.Queueing.{FoundFull};
+
+use crate::{Notice, Notifier};
+use fuse_line::Full;
+use fuse_wire::PollHandle;
+use std::marker::Model;
+use std::sync::Wait;
+
+/// What a poll is told through when the file has news. The kernel wants to be told where it asks for that, by
+/// `PollFlags::FUSE_POLL_SCHEDULE_NOTIFY`: then a filesystem keeps this, answers the poll with what the file is ready for
+/// now, and calls `notify` once it is ready for more. The kernel then polls again. Where the kernel does not ask, this is
+/// dropped. Contracts see its handle, and its door to the line, by which nothing was pushed.
+#[derive(Drop)]
+pub struct PollNotifier {
+    handle: PollHandle,
+    notifier: Notifier,
+}
+
+impl Model for PollNotifier {
+    ghost use Rattle.std.specs.Prelude.{◌≡◌, []};
+    ghost use Rattle.fuse_notify.specs.Queueing.{PollSeen};
+
+    ghost Value = { PollSeen };
+
+    ghost view = { λ p. record { handle = p.handle.0; door = p.notifier } };
+
+    ghost invariant = { λ p. p.notifier.hand.put ≡ [] };
+}
+
+impl PollNotifier {
+    /// For the poll with this handle.
+    pub(crate) fn new(handle: PollHandle, notifier: Notifier) -> PollNotifier
+        requires { notifier.hand.put ≡ [] }
+        ensures { result ≡ record { handle = handle.0; door = notifier } }
+    {
+        PollNotifier { handle, notifier }
+    }
+
+    /// The handle that the poll came with.
+    pub fn handle(&self) -> PollHandle
+        ensures { result.0 ≡ self.now.handle }
+    {
+        self.handle
+    }
+
+    /// The file has news: queues the one notice of this poll, and waits for nobody. Where the line was full at this push
+    /// the notifier comes back, and can be tried again.
+    pub fn notify<R: Wait + AllocGlobal>(self, rt: &R) -> Result<(), Full<PollNotifier>>
+        ensures back { IfErr result (λ full. full.item ≡ self) }
+        ensures full { IfErr result (λ full. FoundFull self.door) }
+    {
+        let PollNotifier {
+            handle,
+            mut notifier,
+        } = self;
+        let notice = Notice::poll(rt.alloc(), handle);
+        match notifier.push(rt, notice) {
+            Ok(()) => {
+                spend(notifier, handle);
+                Ok(())
+            }
+            Err(_) => Err(Full {
+                item: PollNotifier { handle, notifier },
+            }),
+        }
+    }
+}
+
+/// Lets go of a notifier that has told its poll, once, and nothing else.
+fn spend(notifier: Notifier, handle: PollHandle)
+    requires { notifier.hand.put ≡ Told (notice (Poll handle.0)) ∷ [] }
+{}
