@@ -14,8 +14,8 @@ pub enum Undelivered {
     Failed,
 }
 
-/// Sends a notice at once. Where the kernel keeps nothing of what the notice speaks of, there is nothing to be done, and
-/// that is no error: only a poll that is not there is told.
+/// Sends a notice at once. Where the kernel has nothing of what the notice speaks of, there is nothing to be done, and
+/// that is no error: only of a poll it is told.
 pub fn deliver<K: Sink>(notice: &Notice, sink: &mut K) -> Result<(), Undelivered>
     ensures { Delivers result notice.now (K.told sink.old) (K.told sink.new) }
 {

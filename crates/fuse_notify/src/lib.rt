@@ -1,13 +1,16 @@
 //! Notices: what a filesystem tells the kernel unasked.
-//! The layers above rely on this: what a call queues or delivers is the frame of the notice of its arguments, and a call
-//! that answers an error queues nothing.
+//! The layers above rely on this: what a call queues or delivers is the frame of the notice of its arguments, and a
+//! call that answers an error queues nothing.
 #![tactic(auto)]
 
 mod delivery;
+pub mod laws;
 mod notice;
 mod notifier;
 mod payloads;
 mod poll_notifier;
+#[cfg(test)]
+mod tests;
 
 pub use delivery::{Undelivered, deliver};
 pub use notice::{Notice, NoticeError};

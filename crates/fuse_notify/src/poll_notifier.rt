@@ -11,10 +11,11 @@ use fuse_wire::PollHandle;
 use std::marker::Model;
 use std::sync::Wait;
 
-/// What a poll is told through when the file has news. The kernel wants to be told where it asks for that, by
-/// `PollFlags::FUSE_POLL_SCHEDULE_NOTIFY`: then a filesystem keeps this, answers the poll with what the file is ready for
-/// now, and calls `notify` once it is ready for more. The kernel then polls again. Where the kernel does not ask, this is
-/// dropped. Contracts see its handle, and its door to the line, by which nothing was pushed.
+/// What a poll is told through when the file has news. The kernel asks to be told by the flag
+/// `FUSE_POLL_SCHEDULE_NOTIFY` of the poll: then a filesystem keeps this, answers with what the file is ready for now,
+/// and calls `notify` as soon as it is ready for more, also where that comes before the answer. The kernel then polls
+/// again. Where the flag is not set, nobody waits, and this is dropped. Contracts see its handle, and its door to the
+/// line, by which nothing was pushed yet.
 #[derive(Drop)]
 pub struct PollNotifier {
     handle: PollHandle,
@@ -48,8 +49,8 @@ impl PollNotifier {
         self.handle
     }
 
-    /// The file has news: queues the one notice of this poll, and waits for nobody. Where the line was full at this push
-    /// the notifier comes back, and can be tried again.
+    /// The file has news: queues the one notice of this poll, and waits for nobody. Where its own push found the line
+    /// full the notifier comes back as it was, and can be tried again.
     pub fn notify<R: Wait + AllocGlobal>(self, rt: &R) -> Result<(), Full<PollNotifier>>
         ensures back { IfErr result (λ full. full.item ≡ self) }
         ensures full { IfErr result (λ full. FoundFull self.door) }
