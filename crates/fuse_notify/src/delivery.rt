@@ -1,5 +1,6 @@
 // A notice that is sent at once.
-ghost use Rattle.fuse_notify.specs.Delivering.{Delivers};
+ghost use Rattle.std.specs.Prelude.{◌≡◌};
+ghost use Rattle.fuse_notify.specs.Delivering.{Delivers, outcome_of};
 
 use crate::Notice;
 use crate::notice::FUSE_NOTIFY_POLL;
@@ -19,10 +20,18 @@ pub enum Undelivered {
 pub fn deliver<K: Sink>(notice: &Notice, sink: &mut K) -> Result<(), Undelivered>
     ensures { Delivers result notice.now (K.told sink.old) (K.told sink.new) }
 {
-    match notice.frame.send(sink) {
+    let answer = notice.frame.send(sink);
+    outcome(answer, notice.frame.code() == FUSE_NOTIFY_POLL)
+}
+
+/// What a sink's answer to a notice comes to.
+fn outcome(answer: Sending, of_poll: bool) -> Result<(), Undelivered>
+    ensures { result ≡ outcome_of answer of_poll }
+{
+    match answer {
         Sending::Sent => Ok(()),
-        Sending::Absent if notice.frame.code() != FUSE_NOTIFY_POLL => Ok(()),
-        Sending::Absent => Err(Undelivered::Absent),
+        Sending::Absent if of_poll => Err(Undelivered::Absent),
+        Sending::Absent => Ok(()),
         Sending::Failed => Err(Undelivered::Failed),
     }
 }

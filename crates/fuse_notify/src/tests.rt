@@ -6,9 +6,9 @@ ghost use Rattle.fuse_line.specs.declared.hand.Kind.TheVariants.{First};
 
 use crate::laws::equal_where_they_are_the_same;
 use crate::{Notice, NoticeError, Notifier, NotifyError, Undelivered, deliver};
-use fuse_line::{Line, Pass};
-use fuse_reply::Parcel;
-use fuse_wire::{INodeNo, MemorySink, NoMemory, PollHandle, Sending};
+use fuse_line::{Class, Line, Pass};
+use fuse_reply::{Out, Parcel};
+use fuse_wire::{INodeNo, MemorySink, NoMemory, PollHandle, RequestId, Sending};
 use std::alloc::Global;
 use std::process::Abort;
 use std::sync::{Arc, Wait};
@@ -160,6 +160,7 @@ fn drain<R: Wait>(
 #[test]
 fn each_notice_is_queued_as_it_is_made(rt: HostRuntime) {
     let alloc = rt.alloc();
+    assert_eq!(rt; Parcel::Prompt(0, Out::note(RequestId(2), 3)).inner(), true);
     let (line, mut first, mut notifier) = line_of(alloc, 8).expect(&rt, "there is memory");
     let answers = [
         notifier.poll(&rt, HANDLE),
