@@ -3,7 +3,8 @@ ghost use Rattle.std.specs.Prelude.{◌≡◌, ◌≤◌, length};
 ghost use Rattle.fuse_request.specs.Header.{Decodes, header_fields, body_of, header_of, request_of};
 ghost use Rattle.fuse_request.specs.Operation.{Is, Keeps, operation};
 
-use crate::decoding::decode;
+use crate::decoding::{destroy_to_cuse_init, init_to_bmap, lookup_to_link, open_to_flush};
+use crate::opcode::{FUSE_DESTROY, FUSE_INIT, FUSE_OPEN};
 use crate::{Operation, Request, RequestError};
 use fuse_wire::consts::REQUEST_HEADER_SIZE;
 use fuse_wire::{INodeNo, RequestId, u32_at, u64_at};
@@ -136,6 +137,16 @@ impl<'a> AnyRequest<'a> {
         ensures operation { Is result (operation (header_of self.now).opcode (body_of self.now)) }
         ensures node { Keeps result (header_of self.now).nodeid }
     {
-        decode(self.header.opcode, self.header.nodeid, self.body)
+        let Header { opcode, nodeid, .. } = self.header;
+        if opcode < FUSE_OPEN {
+            return lookup_to_link(opcode, nodeid, self.body);
+        }
+        if opcode < FUSE_INIT {
+            return open_to_flush(opcode, self.body);
+        }
+        if opcode < FUSE_DESTROY {
+            return init_to_bmap(opcode, self.body);
+        }
+        destroy_to_cuse_init(opcode, nodeid, self.body)
     }
 }

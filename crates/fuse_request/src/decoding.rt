@@ -1,6 +1,5 @@
 // What a body asks, by its opcode.
-ghost use Rattle.std.specs.Prelude.{◌≡◌};
-ghost use Rattle.fuse_request.specs.Operation.{Is, Keeps, operation, lookup_to_link, open_to_flush, init_to_bmap};
+ghost use Rattle.fuse_request.specs.Operation.{Is, Keeps, lookup_to_link, open_to_flush, init_to_bmap};
 ghost use Rattle.fuse_request.specs.Operation.{destroy_to_cuse_init};
 ghost use Rattle.fuse_wire.specs.declared.newtypes.INodeNo.{INodeNo};
 
@@ -34,41 +33,15 @@ macro_rules! whole {
     };
 }
 
-/// What an opcode asks of its body. An operation with a place in the node of its request keeps that node.
-///
-/// `UnknownOperation` where no operation has this opcode, and `InsufficientData` where a part of the body is cut short
-/// or a value is not as long as its fixed part says.
-#[inline(always)]
-pub(crate) fn decode<'a>(
-    opcode: u32,
-    node: INodeNo,
-    body: &'a [u8],
-) -> Result<Operation<'a>, RequestError>
-    ensures operation { Is result (operation opcode body.now) }
-    ensures node { Keeps result node }
-{
-    if opcode < FUSE_OPEN {
-        return lookup_to_link(opcode, node, body);
-    }
-    if opcode < FUSE_INIT {
-        return open_to_flush(opcode, body);
-    }
-    if opcode < FUSE_DESTROY {
-        return init_to_bmap(opcode, body);
-    }
-    destroy_to_cuse_init(opcode, node, body)
-}
-
 /// What the opcodes from LOOKUP to LINK ask.
 #[inline(always)]
 #[tactic(auto, unfolding(crate::specs::Operation::lookup_to_link))]
-fn lookup_to_link<'a>(
+pub(crate) fn lookup_to_link<'a>(
     opcode: u32,
     node: INodeNo,
     body: &'a [u8],
 ) -> Result<Operation<'a>, RequestError>
-    ensures operation { Is result (lookup_to_link opcode body.now) }
-    ensures node { Keeps result node }
+    ensures { Is result (lookup_to_link opcode body.now) × Keeps result node }
 {
     let mut parts = ArgumentIterator::new(body);
     let operation = match opcode {
@@ -140,9 +113,8 @@ fn lookup_to_link<'a>(
 /// What the opcodes from OPEN to FLUSH ask.
 #[inline(always)]
 #[tactic(auto, unfolding(crate::specs::Operation::open_to_flush))]
-fn open_to_flush(opcode: u32, body: &[u8]) -> Result<Operation<'_>, RequestError>
-    ensures operation { Is result (open_to_flush opcode body.now) }
-    ensures node { (node : INodeNo) → Keeps result node }
+pub(crate) fn open_to_flush(opcode: u32, body: &[u8]) -> Result<Operation<'_>, RequestError>
+    ensures { Is result (open_to_flush opcode body.now) × ((node : INodeNo) → Keeps result node) }
 {
     let mut parts = ArgumentIterator::new(body);
     let operation = match opcode {
@@ -212,9 +184,8 @@ fn open_to_flush(opcode: u32, body: &[u8]) -> Result<Operation<'_>, RequestError
 /// What the opcodes from INIT to BMAP ask.
 #[inline(always)]
 #[tactic(auto, unfolding(crate::specs::Operation::init_to_bmap))]
-fn init_to_bmap(opcode: u32, body: &[u8]) -> Result<Operation<'_>, RequestError>
-    ensures operation { Is result (init_to_bmap opcode body.now) }
-    ensures node { (node : INodeNo) → Keeps result node }
+pub(crate) fn init_to_bmap(opcode: u32, body: &[u8]) -> Result<Operation<'_>, RequestError>
+    ensures { Is result (init_to_bmap opcode body.now) × ((node : INodeNo) → Keeps result node) }
 {
     let mut parts = ArgumentIterator::new(body);
     let operation = match opcode {
@@ -296,13 +267,12 @@ fn init_to_bmap(opcode: u32, body: &[u8]) -> Result<Operation<'_>, RequestError>
 /// What the opcodes from DESTROY on ask.
 #[inline(always)]
 #[tactic(auto, unfolding(crate::specs::Operation::destroy_to_cuse_init))]
-fn destroy_to_cuse_init<'a>(
+pub(crate) fn destroy_to_cuse_init<'a>(
     opcode: u32,
     node: INodeNo,
     body: &'a [u8],
 ) -> Result<Operation<'a>, RequestError>
-    ensures operation { Is result (destroy_to_cuse_init opcode body.now) }
-    ensures node { Keeps result node }
+    ensures { Is result (destroy_to_cuse_init opcode body.now) × Keeps result node }
 {
     let mut parts = ArgumentIterator::new(body);
     let operation = match opcode {
