@@ -11,7 +11,7 @@ use fuse_wire::{INodeNo, PollHandle, RequestId};
 use std::alloc::Global;
 use std::marker::Model;
 
-/// The codes of notices: `enum fuse_notify_code`.
+// The codes of notices are those of `enum fuse_notify_code`.
 pub(crate) const FUSE_NOTIFY_POLL: i32 = 1;
 
 const FUSE_NOTIFY_INVAL_INODE: i32 = 2;
