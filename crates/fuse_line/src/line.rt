@@ -1,5 +1,5 @@
 //! A line.
-ghost use Rattle.std.specs.Prelude.{◌≡◌, ◌<◌, ℕ, List, [], ◌∷◌, false, IfErr, IfNone, IfOk, IfSome, MatchBool};
+ghost use Rattle.std.specs.Prelude.{◌≡◌, ◌<◌, ℕ, List, [], ◌∷◌, true, false, IfErr, IfNone, IfOk, IfSome, MatchBool};
 ghost use Rattle.std.specs.Prelude.{MatchOption, MatchResult};
 ghost use Rattle.crossbeam_queue.specs.Fifo.{Held};
 ghost use Rattle.fuse_line.specs.declared.hand.Kind.TheVariants.{First, Inner, Door};
@@ -128,6 +128,16 @@ impl<T: Class> Line<T> {
             }
             None => None,
         }
+    }
+
+    /// Whether the line was empty at a moment of this call. It costs less than a pop that takes nothing.
+    #[inline(always)]
+    pub fn is_empty(&self, pass: &mut Pass<T>) -> bool
+        requires { pass.old.line ≡ self.now }
+        ensures same { pass.new ≡ pass.old }
+        ensures empty { result ≡ true → Held 0 (Tells T.is_inner pass.old.hand) }
+    {
+        self.queue.is_empty_as::<Takes>(&mut pass.seat)
     }
 
     /// Pushes the item at the back, and waits for a place while the line is full.
