@@ -56,6 +56,7 @@ impl NoticeFrame {
     pub fn send<K: Sink>(&self, sink: &mut K) -> Sending
         ensures sends { Sends result self.now (K.told sink.old) (K.told sink.new) }
         ensures aside { is_set_aside self.now ≡ true }
+        ensures notice { IsNoticeFrame self.now }
     {
         self.packed.send(sink)
     }
