@@ -1,6 +1,7 @@
 -- A session over the bytes of an input and an output.
 use Rattle.std.proofs.Common.{◌≡◌, ◌≢◌, ◌⊎◌, ◌<◌, ◌≤◌, ◌+◌, ◌++◌, ℕ, Bool, true, false, List, [], ◌∷◌, sym, ◌∙◌, ap, subst}
-use Rattle.std.proofs.Common.{arith, refl, length, map, Option, Some, Ok, Err, inl, inr, min, option_map, append-nil}
+use Rattle.std.proofs.Common.{arith, refl, length, map, not, Option, Some, Ok, Err, inl, inr, min, option_map, append-nil}
+use Rattle.std.specs.Prelude.{filter}
 use Rattle.std.specs.List.{concat}
 use Rattle.std.proofs.lemmas.List.{map-append}
 use Rattle.fuse_wire.specs.Cut.{cut}
@@ -18,7 +19,7 @@ use Rattle.fuse_session.specs.Handshake.{HandshakeEnd}
 use Rattle.fuse_session.specs.Exchange.{Setup, Outcome, EndedBy, Dialogue, Exchange, Mounted}
 use Rattle.fuse_session.specs.Headline.{Headline}
 use Rattle.fuse_session.specs.Complete.{AcceptsAll, OpensWell, SessionWell}
-use Rattle.fuse_session.specs.Progress.{nothing_yet, progress}
+use Rattle.fuse_session.specs.Progress.{is_notice, nothing_yet, progress}
 use Rattle.fuse_session.specs.declared.transcript.Transcript.{Transcript}
 use Rattle.fuse_session.specs.declared.error.SessionError.TheVariants as session
 use Rattle.fuse_serve.specs.Status.{status}
@@ -82,19 +83,18 @@ Dialogue-map {X} {setup} {fs} {fs1} {o} {P} {F} Q G none failed d = record {
 pub AcceptsAll-tree : (tree : Hello) → AcceptsAll tree_may_init tree
 AcceptsAll-tree tree = λ request config0 config e fs1 allowed. let is = allowed.0 in let no : ⊥ = cc in no
 
--- what was lost, or a write that failed, was counted by the output
-rose-counted : (lost : ℕ) (output output' : ByteSinkState) (sink : SinkState) (broken : Bool)
-    → sink.origin ≡ output → (sink.faults < last_count → lost + counted output.faults 0 ≤ sink.faults) → ∥ Stands sink output' broken ∥₁
-    → (0 < lost) ⊎ (broken ≡ true) → Rose output.faults output'.faults
-rose-counted lost output output' sink true origin cause stands why = Rose-broken output output' sink true origin stands refl
-rose-counted lost output output' sink false origin cause stands (inl some) = Rose-lost lost output output' sink false cause stands refl some
-rose-counted lost output output' sink false origin cause stands (inr is) = absurd (let no : ⊥ = cc in no)
+-- what was refused, or a write that failed, was counted by the output
+rose-counted : (refused : ℕ) (output output' : ByteSinkState) (sink : SinkState) (broken : Bool)
+    → sink.origin ≡ output → (sink.faults < last_count → refused + counted output.faults 0 ≤ sink.faults) → ∥ Stands sink output' broken ∥₁
+    → (0 < refused) ⊎ (broken ≡ true) → Rose output.faults output'.faults
+rose-counted refused output output' sink true origin cause stands why = Rose-broken output output' sink true origin stands refl
+rose-counted refused output output' sink false origin cause stands (inl some) = Rose-lost refused output output' sink false cause stands refl some
+rose-counted refused output output' sink false origin cause stands (inr is) = absurd (let no : ⊥ = cc in no)
 
 -- a session over the bytes of an input and an output
 pub ByteExchange-mounted : (form : ServeForm) (exit : ℕ) (outcome : Outcome) (input input' : ByteSourceState) (output output' : ByteSinkState)
     (sink : SinkState) (broken : Bool) (v : Transcript) (tree tree' : Hello)
-    → Mounted (form_setup form) tree tree' outcome (progress (stream_told input) (sink_told output output false 0) nothing_yet)
-    (progress (stream_told input') sink v)
+    → Mounted (form_setup form) tree tree' outcome (stream_told input) (stream_told input') (sink_told output output false 0) sink v
     → ((e : ℕ) → outcome ≢ Err (session.Init e)) → ∥ Stands sink output' broken ∥₁ → exit ≡ status outcome v.lost broken
     → ByteExchange form exit input input' output output'
 ByteExchange-mounted form exit outcome input input' output output' sink broken v tree tree' mounted accepted stands is = record {
@@ -108,6 +108,7 @@ ByteExchange-mounted form exit outcome input input' output output' sink broken v
   lost = x.lost;
   appended = x.moved.appended;
   torn = torn_in sink.tail;
+  refused = x.moved.refused;
   broken = broken;
   status_is = is ∙ (ap (λ (n : ℕ). status outcome n broken) lost_is ∙ status-counted outcome (length x.lost) broken);
   dialogue = Dialogue-map (NoByteLeft input') (InputFailed input input') (NoByteLeft-nothing input') (λ failed. failed) x.dialogue;
@@ -118,12 +119,14 @@ ByteExchange-mounted form exit outcome input input' output output' sink broken v
   written = WritesFrames-stands x.moved.appended x.notes output output' sink broken x.moved.written stands;
   replied = x.moved.replied;
   set_aside = x.moved.set_aside;
-  first_lost = TornFromFirst-tail x.lost output.bytes output' sink broken (ap (λ (o : ByteSinkState). o.bytes) x.moved.written.origin) stands x.moved.tail;
+  missed = x.moved.missed;
+  first_refused = TornFromFirst-tail x.moved.refused output.bytes output' sink broken (ap (λ (o : ByteSinkState). o.bytes) x.moved.written.origin)
+      stands x.moved.tail;
   whole = torn-none x.moved.appended x.notes output output' sink broken x.moved.written stands;
-  counted = rose-counted (length x.lost) output output' sink broken x.moved.written.origin x.moved.cause stands;
+  counted = rose-counted (length x.moved.refused) output output' sink broken x.moved.written.origin x.moved.cause stands;
 } where
-  x : Exchange (form_setup form) tree mounted.fs1 outcome (progress (stream_told input) (sink_told output output false 0) nothing_yet)
-      (progress (stream_told input') sink v)
+  x : Exchange (form_setup form) tree mounted.fs1 outcome (progress (stream_told input) (sink_told output output false 0) nothing_yet [])
+      (progress (stream_told input') sink v mounted.unasked)
   x = mounted.exchange
 
   lost_is : v.lost ≡ min (length x.lost) last_count
@@ -173,6 +176,13 @@ SessionWell-bytes form input input' output output' tree fine = record {
   threads-some : (n : ℕ) → 0 < n → Some n ≡ Some 0 → ⊥
   threads-some n some is = let none : n ≡ 0 = same_some n 0 is in omega arith
 
+-- something was refused where something was lost
+refused-some : (refused lost : List Out) (P : Type 0) → filter (λ (out : Out). not (is_notice out)) refused ≡ lost
+    → (0 < length lost) ⊎ P → (0 < length refused) ⊎ P
+refused-some [] lost P is (inl some) = absurd (omega (arith, some, ap (λ (l : List Out). length l) is))
+refused-some (out ∷ refused) lost P is (inl some) = inl (omega arith)
+refused-some refused lost P is (inr p) = inr p
+
 still-not : (before after : ℕ) → Still before after → Rose before after → ⊥
 still-not before after still rose =
     let same : after ≡ before = still.0 in
@@ -196,4 +206,4 @@ complete-status form exit lost broken outcome input input' output output' is exc
     by_status (inr eight) =
         let x : ByteExchange form exit input input' output output' = exchange (λ nine. omega (arith, nine, ended, eight)) in
         absurd (still-not output.faults output'.faults still
-        (x.counted (eight-status x.outcome (length x.lost) x.broken (sym x.status_is ∙ (ended ∙ eight)))))
+        (x.counted (refused-some x.refused x.lost (x.broken ≡ true) x.missed (eight-status x.outcome (length x.lost) x.broken (sym x.status_is ∙ (ended ∙ eight))))))

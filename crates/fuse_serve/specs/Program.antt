@@ -1,5 +1,5 @@
 -- What the program reads and writes where its words are a form: a session over the bytes of its input and output.
-use Rattle.std.specs.Prelude.{◌≡◌, ◌≢◌, ◌⊎◌, ◌<◌, ◌++◌, ℕ, Bool, true, false, List, [], ◌∷◌, Some, IfSome, Err, length}
+use Rattle.std.specs.Prelude.{◌≡◌, ◌≢◌, ◌⊎◌, ◌<◌, ◌++◌, ℕ, Bool, true, false, not, List, [], ◌∷◌, Some, IfSome, Err, length, filter}
 use Rattle.std.specs.List.{concat, AllByRecursion}
 use Rattle.std.specs.Option.{MatchOption}
 use Rattle.fuse_wire.specs.Faults.{last_count, Rose}
@@ -18,7 +18,7 @@ use Rattle.fuse_session.specs.Complete.{OpensWell}
 use Rattle.fuse_session.specs.Exchange.{Setup, Outcome, Dialogue, setup_of}
 use Rattle.fuse_session.specs.Handshake.{Handshake}
 use Rattle.fuse_session.specs.Handshake.HandshakeEnd.{Accepted}
-use Rattle.fuse_session.specs.Progress.{replies, NoticeOrReply}
+use Rattle.fuse_session.specs.Progress.{replies, is_notice, NoticeOrReply}
 use Rattle.fuse_session.specs.declared.error.SessionError.TheVariants.{Init, Receive}
 use Rattle.fuse_serve.specs.Status.{status}
 use Rattle.fuse_serve.specs.Tree.{tree_promise}
@@ -43,12 +43,12 @@ pub record WritesFrames (written : List (List ℕ)) (torn : List ℕ) (output ou
   pub split : IfSome output.bytes (λ held. frames (concat written ++ torn) ≡ written)
   pub part : ∥ IsTorn torn ∥₁
 
--- a write failed exactly where a frame was lost, and these bytes are torn from the first such frame
-abbrev pub TornFromFirst : (lost : List Out) → (broken : Bool) → (torn : List ℕ) → Type 0
+-- a write failed exactly where a frame was refused, and these bytes are torn from the first such frame
+abbrev pub TornFromFirst : (refused : List Out) → (broken : Bool) → (torn : List ℕ) → Type 0
 TornFromFirst [] broken torn = (broken ≡ false) × (torn ≡ [])
-TornFromFirst (Frame f ∷ lost) broken torn = (broken ≡ true) × IsTornFrom f torn
-TornFromFirst (Note id mark ∷ lost) broken torn = TornFromFirst lost broken torn
-TornFromFirst (Deferred seq id ∷ lost) broken torn = TornFromFirst lost broken torn
+TornFromFirst (Frame f ∷ refused) broken torn = (broken ≡ true) × IsTornFrom f torn
+TornFromFirst (Note id mark ∷ refused) broken torn = TornFromFirst refused broken torn
+TornFromFirst (Deferred seq id ∷ refused) broken torn = TornFromFirst refused broken torn
 
 -- With status 0 each message read has its one reply.
 pub record EachAnswered (form : ServeForm) (input input' : ByteSourceState) (output output' : ByteSinkState) : Type 0 where
@@ -79,13 +79,15 @@ pub record ByteExchange (form : ServeForm) (exit : ℕ) (input input' : ByteSour
   pub tree1 : Hello
   pub tree' : Hello
   pub outcome : Outcome
-  -- the messages taken, the replies and notes sent, and those lost; all frames written, and what stands after them of one more
+  -- the messages taken, the replies and notes sent, and those lost; all frames written, and what stands after them of one more; and
+  -- all that was refused, with notices among it
   pub messages : List (List ℕ)
   pub sent : List (List ℕ)
   pub notes : List Noted
   pub lost : List Out
   pub appended : List (List ℕ)
   pub torn : List ℕ
+  pub refused : List Out
   -- whether a write failed
   pub broken : Bool
   pub status_is : exit ≡ status outcome (length lost) broken
@@ -100,11 +102,13 @@ pub record ByteExchange (form : ServeForm) (exit : ℕ) (input input' : ByteSour
   pub written : WritesFrames appended torn output output'
   pub replied : replies appended ≡ sent
   pub set_aside : AllByRecursion NoticeOrReply appended
-  -- where the output tells its bytes, those torn are of the first frame that was lost; no others are
-  pub first_lost : MatchOption output.bytes (torn ≡ []) (λ held. TornFromFirst lost broken torn)
-  -- nothing is torn where no write failed, and what was lost or failed to be written was counted by the output
+  -- what was lost was refused
+  pub missed : filter (λ out. not (is_notice out)) refused ≡ lost
+  -- where the output tells its bytes, those torn are of the first frame that was refused; no others are
+  pub first_refused : MatchOption output.bytes (torn ≡ []) (λ held. TornFromFirst refused broken torn)
+  -- nothing is torn where no write failed, and what was refused or failed to be written was counted by the output
   pub whole : broken ≡ false → torn ≡ []
-  pub counted : (0 < length lost) ⊎ (broken ≡ true) → Rose output.faults output'.faults
+  pub counted : (0 < length refused) ⊎ (broken ≡ true) → Rose output.faults output'.faults
 
 -- The input tells bytes that are cut into messages that open well, some thread is to serve, and neither the input nor the output failed.
 pub record InputWell (form : ServeForm) (input input' : ByteSourceState) (output output' : ByteSinkState) : Type 0 where

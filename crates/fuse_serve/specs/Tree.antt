@@ -2,12 +2,12 @@
 use Rattle.std.specs.Prelude.{◌≡◌, ℕ, ◌==◌, List, Option, None, Some, Ok, pos, codes, take, drop, false, if◌then◌else◌}
 use Rattle.std.specs.List.{range_with_len}
 use Rattle.std.specs.Str.{bytes_eq}
-use Rattle.fuse_wire.specs.ErrorNumbers.{ENOENT}
+use Rattle.fuse_wire.specs.ErrorNumbers.{ENOENT, ENOSYS}
 use Rattle.fuse_wire.specs.declared.file_attr.FileAttr.{FileAttr}
 use Rattle.fuse_wire.specs.declared.file_attr.FileType.{FileType}
 use Rattle.fuse_wire.specs.declared.file_attr.FileType.TheVariants.{Directory, RegularFile}
 use Rattle.fuse_request.specs.Call.{Call}
-use Rattle.fuse_request.specs.Call.Call.{Lookup, Forget, GetAttr, Read}
+use Rattle.fuse_request.specs.Call.Call.{Lookup, Forget, GetAttr, Read, Poll}
 use Rattle.fuse_reply.specs.Answer.{Answer}
 use Rattle.fuse_reply.specs.Answer.Answer.{Error, Data, Entry, Attr}
 use Rattle.fuse_session.specs.Promise.{Promise, MayInit, MayAnswer, MayNote, MayDestroy}
@@ -74,6 +74,7 @@ abbrev pub tree_answer : Call → Option Answer
 tree_answer (Lookup parent name) = Some (entry (if parent == 1 then named name else None))
 tree_answer (GetAttr ino fh) = Some (attributes (node_attr ino))
 tree_answer (Read ino fh offset size flags lock_owner) = Some (bytes offset size (contents ino))
+tree_answer (Poll ino fh kh events flags) = Some (Error ENOSYS)
 tree_answer c = None
 
 -- the mark of a forget: how many lookups it gives back

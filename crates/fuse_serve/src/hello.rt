@@ -3,12 +3,13 @@ ghost use Rattle.std.specs.Prelude.{◌≡◌, false, refl, take, drop, option_m
 ghost use Rattle.fuse_serve.specs.Tree.{attr, contents, named, node_attr, tree_promise};
 
 use fuse_config::KernelConfig;
-use fuse_reply::{Replied, ReplyAttr, ReplyData, ReplyEntry};
+use fuse_notify::PollNotifier;
+use fuse_reply::{Replied, ReplyAttr, ReplyData, ReplyEntry, ReplyPoll};
 use fuse_request::Request;
 use fuse_session::Filesystem;
 use fuse_wire::{
     Duration, Errno, FileAttr, FileHandle, FileType, Generation, INodeNo, LockOwner, OpenFlags,
-    SystemTime,
+    PollEvents, PollFlags, SystemTime,
 };
 
 /// What `hello.txt` holds.
@@ -168,6 +169,19 @@ impl Filesystem for Hello {
             return reply.error(Errno::ENOENT);
         };
         reply.data(part(all, offset, size))
+    }
+
+    fn poll(
+        &self,
+        _request: &Request,
+        _ino: INodeNo,
+        _fh: FileHandle,
+        _ph: PollNotifier,
+        _events: PollEvents,
+        _flags: PollFlags,
+        reply: ReplyPoll,
+    ) -> Replied {
+        reply.error(Errno::ENOSYS)
     }
 
     fn destroy(&mut self) {}

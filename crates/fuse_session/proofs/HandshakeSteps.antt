@@ -12,10 +12,10 @@ use Rattle.fuse_reply.specs.declared.out.Out.TheVariants.{Frame}
 use Rattle.fuse_reply.specs.Answer.Answer.{Error}
 use Rattle.fuse_reply.specs.Frame.{reply, frame}
 use Rattle.fuse_session.specs.Promise.{MayInit}
-use Rattle.fuse_session.specs.Handshake.{greeting, Greets, Negotiates, HandshakeEnd, Handshake, LeavesOut}
+use Rattle.fuse_session.specs.Handshake.{greeting, Greets, Negotiates, HandshakeEnd, Handshake}
 use Rattle.fuse_session.specs.Handshake.HandshakeEnd.{Open, Failed}
 use Rattle.fuse_session.specs.HandshakeStep.{HandshakeRun, HandshakeOn, HandshakeEnds, end_of}
-use Rattle.fuse_session.specs.Progress.{Progress, ChannelState, TakesNext, Moves, DeliversOnce, SinkUntouched}
+use Rattle.fuse_session.specs.Progress.{Progress, ChannelState, TakesNext, Moves, DeliversOnce, SinkUntouched, LeavesOut}
 use Rattle.fuse_session.specs.declared.taken.Taken.TheVariants.{Message, Gone as NoneLeft, Failed as NoneCame}
 use Rattle.fuse_session.specs.declared.greeting.Greeting.{Greeting}
 use Rattle.fuse_session.specs.declared.greeting.Greeting.TheVariants.{Silent, Newer, Offered}
@@ -26,17 +26,7 @@ use Rattle.fuse_session.specs.declared.error.InvalidData.{InvalidData as Invalid
 use Rattle.fuse_session.specs.declared.handshake.HandshakeOutcome.{HandshakeOutcome}
 use Rattle.fuse_session.specs.declared.handshake.HandshakeOutcome.TheVariants as outcome
 use Rattle.fuse_session.proofs.Taking.{Begins-none, Begins-from_takes, Begins-after, Failed-after}
-use Rattle.fuse_session.proofs.Moving.{Moves-none, Moves-received, Moves-then, moves-then, Handed-frame, took, lost}
-
--- frames of which some were lost, and then others
-pub LeavesOut-append : (js ks fs gs ws vs : List (List ℕ)) → LeavesOut js fs ws → LeavesOut ks gs vs → LeavesOut (js ++ ks) (fs ++ gs) (ws ++ vs)
-LeavesOut-append js ks [] gs ws vs first second =
-    subst (λ (w : List (List ℕ)). LeavesOut (js ++ ks) gs w) (sym (ap (λ (x : List (List ℕ)). x ++ vs) first.0))
-    (subst (λ (j : List (List ℕ)). LeavesOut j gs vs) (sym (ap (λ (x : List (List ℕ)). x ++ ks) first.1)) second)
-LeavesOut-append js ks (f ∷ fs) gs ws vs (inl p) second =
-    inl (p.0 ++ vs, ap (λ (x : List (List ℕ)). x ++ vs) p.1, LeavesOut-append js ks fs gs p.0 vs p.2 second)
-LeavesOut-append js ks (f ∷ fs) gs ws vs (inr p) second =
-    inr (p.0 ++ ks, ap (λ (x : List (List ℕ)). x ++ ks) p.1, LeavesOut-append p.0 ks fs gs ws vs p.2 second)
+use Rattle.fuse_session.proofs.Moving.{LeavesOut-append, Moves-none, Moves-received, Moves-then, moves-then, Handed-frame, took, lost}
 
 -- one stretch of a handshake, and then another
 moves-then_frames : {fs gs : List (List ℕ)} {p q r : Progress} (xs ys js ls : List (List ℕ))
@@ -91,7 +81,7 @@ HandshakeRun-silent may_init page fs d n a b next is = record {
   handshake = one-message may_init page fs fs (message next.0.turn) (Silent d) [] (Failed (InvalidData d))
       (is ∙ ap greeting next.0.bytes) (refl, refl, refl, refl);
   left_out = (refl, refl);
-  moved = Moves-received a.progress b.progress next.1 next.2;
+  moved = Moves-received a.progress b.progress next.1 next.2 next.3;
   begins = Begins-from_takes (next.0.turn ∷ []) a.progress.source b.progress.source next.0.taken;
   taken = λ _. next.0.taken;
   ended = refl;
@@ -113,14 +103,14 @@ replied {f} n a b c next hands =
         sent = f ∷ [];
         lost = [];
         left_out = inl ([], refl, (refl, refl));
-        moved = Moves-then (Moves-received a.progress b.progress next.1 next.2) moved;
+        moved = Moves-then (Moves-received a.progress b.progress next.1 next.2 next.3) moved;
         taken = taken;
       }
       | lost moved ↦ record {
         sent = [];
         lost = f ∷ [];
         left_out = inr ([], refl, (refl, refl));
-        moved = Moves-then (Moves-received a.progress b.progress next.1 next.2) moved;
+        moved = Moves-then (Moves-received a.progress b.progress next.1 next.2 next.3) moved;
         taken = taken;
       }
     ]
@@ -215,7 +205,7 @@ HandshakeOn-none fs p = record {
   same = refl;
   go = λ ms later fs2 end rest. rest;
   left_out = (refl, refl);
-  moved = Moves-none (record { sink = refl; counts = refl });
+  moved = Moves-none (record { sink = refl; counts = refl; unasked = refl });
   taken = Takes-none p.source;
 }
 

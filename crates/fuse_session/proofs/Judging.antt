@@ -2,6 +2,7 @@
 use Rattle.std.proofs.Common.{◌≡◌, ℕ, List, Result, Ok, true, sym, ap, subst, refl}
 use Rattle.fuse_args.specs.declared.fixed.files.ReadArguments.{ReadArguments}
 use Rattle.fuse_args.specs.declared.fixed.nodes.GetAttrArguments.{GetAttrArguments}
+use Rattle.fuse_args.specs.declared.fixed.devices.PollArguments.{PollArguments}
 use Rattle.fuse_request.specs.Fields.{file_offset}
 use Rattle.fuse_request.specs.Operation.{plain}
 use Rattle.fuse_request.specs.declared.operation.Operation.{Operation}
@@ -14,7 +15,7 @@ use Rattle.fuse_session.specs.declared.decision.Verdict.TheVariants.{Forget, Cal
 in_file-ok : (r : Result ℕ ℕ) (offset : ℕ) (v : Decision) → r ≡ Ok offset → in_file r v ≡ v
 in_file-ok r offset v is = ap (λ (x : Result ℕ ℕ). in_file x v) is
 
--- FORGET is a forget, and LOOKUP and GETATTR are calls
+-- FORGET is a forget, and LOOKUP, GETATTR and POLL are calls
 pub decided-forget : (operation : Operation) (f : ℕ) → operation ≡ op.Forget f
     → (node : ℕ) → Decides node (Forget (op.Forget f)) (served node (plain operation))
 decided-forget operation f is node =
@@ -30,6 +31,11 @@ pub decided-getattr : (operation : Operation) (a : GetAttrArguments) → operati
 decided-getattr operation a is node =
     subst (λ (o : Operation). Decides node (Call (op.GetAttr a)) (served node (plain o))) (sym is) (_, refl, refl)
 
+pub decided-poll : (operation : Operation) (p : PollArguments) → operation ≡ op.Poll p
+    → (node : ℕ) → Decides node (Call (op.Poll p)) (served node (plain operation))
+decided-poll operation p is node =
+    subst (λ (o : Operation). Decides node (Call (op.Poll p)) (served node (plain o))) (sym is) (_, refl, refl)
+
 -- a READ in a file is a call
 pub decided-read : (operation : Operation) (r : ReadArguments) (offset : ℕ) → operation ≡ op.Read r → Ok offset ≡ file_offset r.offset
     → (node : ℕ) → Decides node (Call (op.Read r)) (served node (plain operation))
@@ -40,9 +46,11 @@ decided-read operation r offset is in_range node =
 -- what no method answers is unserved
 pub unserved-others : (operation : Operation) → ((l : List ℕ) → operation ≡ op.Lookup l → ⊥) → ((f : ℕ) → operation ≡ op.Forget f → ⊥)
     → ((a : GetAttrArguments) → operation ≡ op.GetAttr a → ⊥) → ((r : ReadArguments) → operation ≡ op.Read r → ⊥)
+    → ((p : PollArguments) → operation ≡ op.Poll p → ⊥)
     → is_unserved (plain operation) ≡ true
-unserved-others (op.Lookup l) lookup forget getattr read = absurd (lookup l refl)
-unserved-others (op.Forget f) lookup forget getattr read = absurd (forget f refl)
-unserved-others (op.GetAttr a) lookup forget getattr read = absurd (getattr a refl)
-unserved-others (op.Read r) lookup forget getattr read = absurd (read r refl)
-unserved-others operation lookup forget getattr read = refl
+unserved-others (op.Lookup l) lookup forget getattr read poll = absurd (lookup l refl)
+unserved-others (op.Forget f) lookup forget getattr read poll = absurd (forget f refl)
+unserved-others (op.GetAttr a) lookup forget getattr read poll = absurd (getattr a refl)
+unserved-others (op.Read r) lookup forget getattr read poll = absurd (read r refl)
+unserved-others (op.Poll p) lookup forget getattr read poll = absurd (poll p refl)
+unserved-others operation lookup forget getattr read poll = refl

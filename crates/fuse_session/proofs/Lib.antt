@@ -1,6 +1,7 @@
 mod Lists
 mod Taking
 mod Moving
+mod FrameLines
 mod Order
 mod Serving
 mod Judging

@@ -1,5 +1,5 @@
 -- Lists: what holds of each item, and what is mapped.
-use Rattle.std.proofs.Common.{◌≡◌, ◌++◌, List, [], ◌∷◌, map, refl, ap, ◌∙◌, Bool, true, false, cond}
+use Rattle.std.proofs.Common.{◌≡◌, ◌≤◌, ◌++◌, List, [], ◌∷◌, map, length, refl, ap, ◌∙◌, Bool, true, false, cond, arith}
 use Rattle.std.specs.List.{AllByRecursion}
 use Rattle.std.specs.Prelude.{filter}
 
@@ -16,6 +16,14 @@ filter-both {A} p (x ∷ xs) ys = by_test (p x) (filter-both p xs ys) where
       → cond b (x ∷ filter p (xs ++ ys)) (filter p (xs ++ ys)) ≡ cond b (x ∷ filter p xs) (filter p xs) ++ filter p ys
   by_test true rest = ap (λ (zs : List A). x ∷ zs) rest
   by_test false rest = rest
+
+-- no more pass than there are
+pub filter-shorter : {A : Type 0} (p : A → Bool) (xs : List A) → length (filter p xs) ≤ length xs
+filter-shorter p [] = omega arith
+filter-shorter {A} p (x ∷ xs) = by_test (p x) (filter-shorter p xs) where
+  by_test : (b : Bool) → length (filter p xs) ≤ length xs → length (cond b (x ∷ filter p xs) (filter p xs)) ≤ length (x ∷ xs)
+  by_test true rest = omega (arith, rest)
+  by_test false rest = omega (arith, rest)
 
 -- a list that is mapped to two lists, one after the other, is two lists
 pub record Splits {A B : Type 0} (f : A → B) (xs : List A) (ys zs : List B) : Type 0 where

@@ -1,5 +1,5 @@
 -- Turns of the event loop, one after another.
-use Rattle.std.proofs.Common.{◌≡◌, ◌+◌, ◌++◌, ℕ, List, [], ◌∷◌, sym, ◌∙◌, ap}
+use Rattle.std.proofs.Common.{◌≡◌, ◌+◌, ◌++◌, ℕ, List, [], ◌∷◌, sym, ◌∙◌, ap, Option, None, Some, append-nil, arith}
 use Rattle.std.proofs.Common.{subst, refl, length, length-append, map, take, append_assoc, Err, zero-add}
 use Rattle.std.proofs.lemmas.List.{map-append, length-map}
 use Rattle.fuse_wire.specs.Source.{SourceState, Takes, message, NothingLeft, Failed as SourceFailed}
@@ -12,8 +12,8 @@ use Rattle.fuse_reply.specs.declared.out.Out.TheVariants.{Frame, Note as Noting,
 use Rattle.fuse_session.specs.OneEach.{Owing, InOrder, number_of}
 use Rattle.fuse_session.specs.Incoming.{AllGoOn, incoming}
 use Rattle.fuse_session.specs.Incoming.Incoming.{Destroy, Request}
-use Rattle.fuse_session.specs.Progress.{Progress, ChannelState, TakesNext, Moves, DeliversOnce, IsPrompt}
-use Rattle.fuse_session.specs.EventLoop.{Run, RunOn, RunEnds}
+use Rattle.fuse_session.specs.Progress.{Progress, ChannelState, TakesNext, Moves, NoticesAlone, DeliversOnce, IsPrompt}
+use Rattle.fuse_session.specs.EventLoop.{Run, RunOn, RunEnds, OneTurn}
 use Rattle.fuse_session.specs.declared.taken.Taken.TheVariants.{Message, Gone as NoneLeft, Failed as NoneCame}
 use Rattle.fuse_session.specs.declared.event_loop.End.{End}
 use Rattle.fuse_session.specs.declared.event_loop.End.TheVariants.{Gone, Destroyed, Broken, Failed}
@@ -68,7 +68,7 @@ Run-broken {owed} {place} {e} n a b next broken = record {
   lost = [];
   heard = refl;
   order = (refl, refl, refl);
-  moved = Moves-received a.progress b.progress next.1 next.2;
+  moved = Moves-received a.progress b.progress next.1 next.2 next.3;
   begins = Begins-from_takes (next.0.turn ∷ []) a.progress.source b.progress.source next.0.taken;
   taken = λ _. next.0.taken;
   ended = ((message next.0.turn, refl, subst (λ (m : List ℕ). header m ≡ Err e) next.0.bytes broken), tt);
@@ -94,7 +94,7 @@ paid-handed {owed} {place} {out} n a b c fs ns next order owes same handed =
         notes = ns;
         lost = [];
         order = order;
-        moved = Moves-then (Moves-received a.progress b.progress next.1 next.2) moved;
+        moved = Moves-then (Moves-received a.progress b.progress next.1 next.2 next.3) moved;
         taken = taken;
       }
       | lost moved ↦ record {
@@ -102,7 +102,7 @@ paid-handed {owed} {place} {out} n a b c fs ns next order owes same handed =
         notes = [];
         lost = out ∷ [];
         order = InOrder-lost owed place (message next.0.turn) out owes;
-        moved = Moves-then (Moves-received a.progress b.progress next.1 next.2) moved;
+        moved = Moves-then (Moves-received a.progress b.progress next.1 next.2 next.3) moved;
         taken = taken;
       }
     ]
@@ -166,6 +166,49 @@ RunOn-next owed place seq n a b c out next number goes owes prompt hands =
       refl,
     )
 
+-- a stretch, and then notices alone
+Moves-noticed : {received : ℕ} {sent : List (List ℕ)} {notes : List Note} {lost : List Out} {p q r : Progress}
+    → Moves received sent notes lost p q → NoticesAlone q r → Moves received sent notes lost p r
+Moves-noticed {received} {sent} {notes} {lost} {p} {q} {r} moved noticed =
+    subst (λ (n : ℕ). Moves n sent notes lost p r) (omega arith)
+    (subst (λ (l : List Out). Moves (received + 0) sent notes l p r) (append-nil lost)
+    (subst (λ (n : List Note). Moves (received + 0) sent n (lost ++ []) p r) (append-nil notes)
+    (subst (λ (f : List (List ℕ)). Moves (received + 0) f (notes ++ []) (lost ++ []) p r) (append-nil sent) (Moves-then moved noticed.moved))))
+
+-- a turn is the same where notices are sent after it
+pub OneTurn-noticed : (owed : Owing) (seq : ℕ) (found : Option End) (p q r : Progress) → OneTurn owed seq found p q → NoticesAlone q r
+    → OneTurn owed seq found p r
+OneTurn-noticed owed seq None p q r turn noticed = λ place number.
+    let t = turn place number in (
+      record {
+        turns = t.0.turns;
+        sent = t.0.sent;
+        notes = t.0.notes;
+        lost = t.0.lost;
+        order = t.0.order;
+        moved = Moves-noticed t.0.moved noticed;
+        taken = subst (λ (s : SourceState). Takes t.0.turns p.source s) (sym noticed.source) t.0.taken;
+        go_on = t.0.go_on;
+      },
+      t.1,
+    )
+OneTurn-noticed owed seq (Some end) p q r turn noticed = λ place number.
+    let t : Run owed place end p q = turn place number in
+    record {
+      turns = t.turns;
+      answered = t.answered;
+      refused = t.refused;
+      sent = t.sent;
+      notes = t.notes;
+      lost = t.lost;
+      heard = t.heard;
+      order = t.order;
+      moved = Moves-noticed t.moved noticed;
+      begins = t.begins;
+      taken = λ other. subst (λ (s : SourceState). Takes t.turns p.source s) (sym noticed.source) (t.taken other);
+      ended = subst (λ (s : SourceState). RunEnds end t.answered t.refused (NothingLeft s) (SourceFailed p.source s)) (sym noticed.source) t.ended;
+    }
+
 -- nothing was taken yet
 pub RunOn-none : {owed : Owing} (p : Progress) → (run : RunOn owed 0 p p) × (number_of (length run.turns) ≡ 0)
 RunOn-none p = (
@@ -175,7 +218,7 @@ RunOn-none p = (
     notes = [];
     lost = [];
     order = (refl, refl, refl);
-    moved = Moves-none (record { sink = refl; counts = refl });
+    moved = Moves-none (record { sink = refl; counts = refl; unasked = refl });
     taken = Takes-none p.source;
     go_on = tt;
   },

@@ -1,7 +1,7 @@
 -- A whole session on one thread: what it heard, what it said and lost, and why it ended.
 use Rattle.std.specs.Prelude.{◌≡◌, ◌≢◌, ◌⊎◌, ◌++◌, ℕ, List, [], ◌∷◌, Option, Some, Result, Ok, Err, map, length}
-use Rattle.fuse_wire.specs.Source.{Takes, message, NothingLeft, Failed as SourceFailed}
-use Rattle.fuse_wire.specs.Sink.{Note}
+use Rattle.fuse_wire.specs.Source.{SourceState, Takes, message, NothingLeft, Failed as SourceFailed}
+use Rattle.fuse_wire.specs.Sink.{SinkState, Note}
 use Rattle.fuse_config.specs.declared.config.Config.{Config}
 use Rattle.fuse_config.specs.declared.session_acl.SessionACL.{SessionACL}
 use Rattle.fuse_request.specs.Header.{header}
@@ -12,14 +12,15 @@ use Rattle.fuse_session.specs.Promise.{Promise}
 use Rattle.fuse_session.specs.Incoming.{AllGoOn, EndsWell}
 use Rattle.fuse_session.specs.Owed.{Owed}
 use Rattle.fuse_session.specs.OneEach.{InOrder}
-use Rattle.fuse_session.specs.Handshake.{HandshakeEnd, Handshake, LeavesOut}
+use Rattle.fuse_session.specs.Handshake.{HandshakeEnd, Handshake}
 use Rattle.fuse_session.specs.Handshake.HandshakeEnd.{Open, Accepted, Failed}
-use Rattle.fuse_session.specs.Progress.{Progress, Moves, Begins}
+use Rattle.fuse_session.specs.Progress.{Progress, Moves, Begins, LeavesOut, nothing_yet, progress}
 use Rattle.fuse_session.specs.declared.error.InvalidData.TheVariants.{Header}
 use Rattle.fuse_session.specs.declared.error.SessionError.{SessionError}
 use Rattle.fuse_session.specs.declared.error.SessionError.TheVariants.{Conflict, AutoUnmount, CloneFd, Memory}
 use Rattle.fuse_session.specs.declared.error.SessionError.TheVariants.{NotConnected, InvalidData, Unsupported, Init, Threads, Receive}
 use Rattle.fuse_session.specs.declared.greeting.HandshakeError.TheVariants as refusal
+use Rattle.fuse_session.specs.declared.transcript.Transcript.{Transcript}
 
 -- what a session is set up with
 pub record Setup (F : Type 0) : Type 1 where
@@ -109,8 +110,10 @@ pub record Exchange {F : Type 0} (setup : Setup F) (fs fs1 : F) (outcome : Outco
   pub moved : Moves (length turns) sent notes lost before after
 
 -- a whole session, at whose end `destroy` was called once
-pub record Mounted {F : Type 0} (setup : Setup F) (fs fs' : F) (outcome : Outcome) (before after : Progress) : Type 0 where
-  -- the filesystem after the handshake
+pub record Mounted {F : Type 0} (setup : Setup F) (fs fs' : F) (outcome : Outcome)
+    (source source' : SourceState) (sink sink' : SinkState) (counts : Transcript) : Type 0 where
+  -- the filesystem after the handshake, and the notices that were taken off the frame line
   pub fs1 : F
-  pub exchange : Exchange setup fs fs1 outcome before after
+  pub unasked : List (List ℕ)
+  pub exchange : Exchange setup fs fs1 outcome (progress source sink nothing_yet []) (progress source' sink' counts unasked)
   pub destroyed : setup.promise.may_destroy fs1 fs'

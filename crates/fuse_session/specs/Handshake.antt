@@ -1,5 +1,5 @@
 -- The handshake: what each message before an accepted INIT gets, and how it ends.
-use Rattle.std.specs.Prelude.{◌≡◌, ◌≤◌, ◌⊎◌, ◌&&◌, ◌||◌, ◌==◌, ℕ, Bool, List, []}
+use Rattle.std.specs.Prelude.{◌≡◌, ◌≤◌, ◌&&◌, ◌||◌, ◌==◌, ℕ, Bool, List, []}
 use Rattle.std.specs.Prelude.{◌∷◌, Option, None, Some, Result, Ok, Err, nat_lt, pos, if◌then◌else◌}
 use Rattle.fuse_args.specs.declared.fixed.InitArguments.{InitArguments}
 use Rattle.fuse_wire.specs.ErrorNumbers.{EIO, EPROTO}
@@ -108,10 +108,3 @@ abbrev pub Handshake : {F : Type 0} → MayInit F → (page : ℕ) → F → (me
 Handshake may_init page fs [] frames fs1 end = (frames ≡ []) × (fs1 ≡ fs) × (end ≡ Open)
 Handshake may_init page fs (m ∷ ms) frames fs1 end =
     Greets may_init page fs (greeting m) ms frames fs1 end (λ rest. Handshake may_init page fs ms rest fs1 end)
-
--- each of the frames, in order, was lost or written
-abbrev pub LeavesOut : (lost frames written : List (List ℕ)) → Type 0
-LeavesOut lost [] written = (written ≡ []) × (lost ≡ [])
-LeavesOut lost (f ∷ fs) written =
-    ((rest : List (List ℕ)) × (written ≡ f ∷ rest) × LeavesOut lost fs rest)
-    ⊎ ((rest : List (List ℕ)) × (lost ≡ f ∷ rest) × LeavesOut rest fs written)

@@ -3,9 +3,9 @@ use Rattle.std.specs.Prelude.{◌≡◌, ◌≢◌, ◌++◌, ℕ, List, [], Opt
 use Rattle.fuse_wire.specs.Source.{Takes, message, NothingLeft, Failed as SourceFailed}
 use Rattle.fuse_reply.specs.declared.out.Out.TheVariants.{Frame}
 use Rattle.fuse_session.specs.Promise.{MayInit}
-use Rattle.fuse_session.specs.Handshake.{HandshakeEnd, Handshake, LeavesOut}
+use Rattle.fuse_session.specs.Handshake.{HandshakeEnd, Handshake}
 use Rattle.fuse_session.specs.Handshake.HandshakeEnd.{Open, Accepted, Failed as IsFailed}
-use Rattle.fuse_session.specs.Progress.{Progress, Moves, Begins}
+use Rattle.fuse_session.specs.Progress.{Progress, Moves, Begins, LeavesOut}
 use Rattle.fuse_session.specs.declared.greeting.HandshakeError.{HandshakeError}
 use Rattle.fuse_session.specs.declared.handshake.HandshakeOutcome.{HandshakeOutcome}
 use Rattle.fuse_session.specs.declared.handshake.HandshakeOutcome.TheVariants as outcome

@@ -1,7 +1,6 @@
 -- When a session ends well: each message that it took has the one reply that it is owed.
-use Rattle.std.specs.Prelude.{◌≡◌, ◌⊎◌, ◌++◌, ◌<◌, ℕ, List, [], map}
+use Rattle.std.specs.Prelude.{◌≡◌, ◌⊎◌, ◌++◌, ℕ, List, [], map}
 use Rattle.std.specs.List.{AllByRecursion}
-use Rattle.fuse_wire.specs.Faults.{last_count}
 use Rattle.fuse_wire.specs.Source.{SourceState, Takes, message, NothingLeft}
 use Rattle.fuse_wire.specs.Sink.{SinkState, Note, Appends}
 use Rattle.fuse_config.specs.declared.session_acl.SessionACL.{SessionACL}
@@ -11,13 +10,8 @@ use Rattle.fuse_session.specs.OneEach.{OneEach}
 use Rattle.fuse_session.specs.Promise.{Promise}
 use Rattle.fuse_session.specs.Handshake.{Handshake}
 use Rattle.fuse_session.specs.Handshake.HandshakeEnd.{Accepted}
-use Rattle.fuse_session.specs.Progress.{replies, NoticeOrReply}
+use Rattle.fuse_session.specs.Progress.{Quiet, replies, NoticeOrReply}
 use Rattle.fuse_session.specs.declared.transcript.Transcript.{Transcript}
-
--- the sink's count did not rise, and does not stand at its last value
-pub record Quiet (sink sink' : SinkState) : Type 0 where
-  pub same : sink'.faults ≡ sink.faults
-  pub counts : sink'.faults < last_count
 
 -- nothing was lost: the sink shows it, or the transcript
 abbrev pub Lossless : SinkState → SinkState → Transcript → Type 0

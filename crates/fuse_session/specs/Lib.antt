@@ -4,6 +4,7 @@ pub mod Verdict
 pub mod Kind
 pub mod Owed
 pub mod OneEach
+pub mod FrameLine
 pub mod Progress
 pub mod Handshake
 pub mod HandshakeStep

@@ -8,12 +8,12 @@ use Rattle.fuse_request.specs.declared.error.RequestError.{RequestError}
 use Rattle.fuse_request.specs.declared.any_request.Header.{Header}
 use Rattle.fuse_request.specs.Header.{header, body}
 use Rattle.fuse_request.specs.Call.{Call, call}
-use Rattle.fuse_request.specs.Call.Call.{Lookup as LookupCall, Forget as ForgetCall, GetAttr as GetAttrCall, Read as ReadCall}
+use Rattle.fuse_request.specs.Call.Call.{Lookup as LookupCall, Forget as ForgetCall, GetAttr as GetAttrCall, Read as ReadCall, Poll as PollCall}
 use Rattle.fuse_request.specs.Fields.{file_offset, signed_offset, has_bit}
 use Rattle.fuse_request.specs.Opcode.{FUSE_FORGET, FUSE_READ, FUSE_WRITE, FUSE_RELEASE, FUSE_FSYNC, FUSE_INIT}
 use Rattle.fuse_request.specs.Opcode.{FUSE_READDIR, FUSE_RELEASEDIR, FUSE_FSYNCDIR, FUSE_DESTROY, FUSE_BATCH_FORGET, FUSE_READDIRPLUS}
 use Rattle.fuse_request.specs.Operation.{Op, operation}
-use Rattle.fuse_request.specs.Operation.Op.{Lookup, Forget, GetAttr, Init, Read, Write}
+use Rattle.fuse_request.specs.Operation.Op.{Lookup, Forget, GetAttr, Init, Read, Write, Poll}
 use Rattle.fuse_request.specs.Operation.Op.{Interrupt, NotifyReply, CuseInit, IoCtl, FAllocate, CopyFileRange}
 
 -- the id of the request
@@ -65,6 +65,7 @@ abbrev pub has_method : Call → Bool
 has_method (LookupCall parent name) = true
 has_method (GetAttrCall ino fh) = true
 has_method (ReadCall ino fh offset size flags lock_owner) = true
+has_method (PollCall ino fh kh events flags) = true
 has_method c = false
 
 -- a call without a method is ENOSYS
@@ -100,6 +101,7 @@ is_unserved (Lookup name) = false
 is_unserved (Forget nlookup) = false
 is_unserved (GetAttr getattr) = false
 is_unserved (Read read) = false
+is_unserved (Poll poll) = false
 is_unserved op = true
 
 -- the operation that is served, or the error of a request that is not: ENOSYS where it does not decode, EACCES where its user is

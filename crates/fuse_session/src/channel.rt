@@ -1,8 +1,9 @@
 // What a session speaks through: its source, its sink and its buffer, and the counts of what went through them.
-ghost use Rattle.std.specs.Prelude.{◌≡◌, ◌≤◌, length, take};
-ghost use Rattle.fuse_session.specs.Progress.{DeliversOnce, TakesNext, nothing_yet, progress};
+ghost use Rattle.std.specs.Prelude.{◌≡◌, ◌≤◌, [], length, take};
+ghost use Rattle.fuse_session.specs.Progress.{DeliversOnce, NoticesAlone, TakesNext, nothing_yet, progress};
 
 use crate::Transcript;
+use crate::frame_line::FrameLine;
 use crate::taken::Taken;
 use fuse_reply::{Out, OutEnd};
 use fuse_wire::consts::BUFFER_SIZE;
@@ -10,11 +11,13 @@ use fuse_wire::{Received, Sink, Source};
 use std::marker::Model;
 use std::sync::Wait;
 
-/// The source and the sink of a session, the receive buffer, and the counts. A contract sees what the devices tell.
+/// The source and the sink of a session, the receive buffer, the line of notices, and the counts. A contract sees what
+/// the devices tell.
 pub(crate) struct Channel<S: Source, K: Sink> {
     source: S,
     sink: K,
     buffer: Vec<u8>,
+    frames: FrameLine,
     transcript: Transcript,
 }
 
@@ -26,7 +29,7 @@ impl<S: Source, K: Sink> Model for Channel<S, K> {
     ghost Value = { ChannelState };
 
     ghost view = { λ c. record {
-      progress = progress (S.told c.source) (K.told c.sink) c.transcript;
+      progress = progress (S.told c.source) (K.told c.sink) c.transcript c.frames;
       buffer = c.buffer.items;
     } };
 
@@ -35,26 +38,29 @@ impl<S: Source, K: Sink> Model for Channel<S, K> {
 
 impl<S: Source, K: Sink> Channel<S, K> {
     /// A channel through which nothing went yet.
-    pub(crate) fn new(source: S, sink: K, buffer: Vec<u8>) -> Channel<S, K>
-        requires { length buffer.items ≡ BUFFER_SIZE }
-        ensures { result.progress ≡ progress (S.told source) (K.told sink) nothing_yet }
+    pub(crate) fn new(source: S, sink: K, buffer: Vec<u8>, frames: FrameLine) -> Channel<S, K>
+        requires buffer { length buffer.items ≡ BUFFER_SIZE }
+        requires frames { frames ≡ [] }
+        ensures { result.progress ≡ progress (S.told source) (K.told sink) nothing_yet [] }
     {
         Channel {
             source,
             sink,
             buffer,
+            frames,
             transcript: Transcript::new(),
         }
     }
 
     /// The source, the sink and the counts.
     pub(crate) fn into_parts(self) -> (S, K, Transcript)
-        ensures { self.progress ≡ progress (S.told result.0) (K.told result.1) result.2 }
+        ensures { self.progress ≡ progress (S.told result.0) (K.told result.1) result.2 self.progress.unasked }
     {
         let Channel {
             source,
             sink,
             buffer: _,
+            frames: _,
             transcript,
         } = self;
         (source, sink, transcript)
@@ -100,5 +106,32 @@ impl<S: Source, K: Sink> Channel<S, K> {
             OutEnd::Lost => self.transcript.lost = self.transcript.lost.saturating_add(1),
             OutEnd::Marked => {}
         }
+    }
+
+    /// Hands each notice that waits to the sink. One that the sink does not take is not sent again, and is counted
+    /// nowhere.
+    #[inline(always)]
+    pub(crate) fn pass_on_notices<R: Wait>(&mut self, rt: &R)
+        ensures { NoticesAlone self.old.progress self.new.progress }
+    {
+        if !self.frames.is_empty() {
+            self.send_notices(rt);
+        }
+    }
+
+    /// Hands each notice that waits to the sink, by a way that messages seldom take.
+    #[inline(never)]
+    fn send_notices<R: Wait>(&mut self, rt: &R)
+        ensures { NoticesAlone self.old.progress self.new.progress }
+    {
+        for _ in rt.forever() {
+            match self.frames.next(rt) {
+                Some(notice) => {
+                    let _ = notice.send(&mut self.sink);
+                }
+                None => return,
+            }
+        }
+        unreachable!()
     }
 }

@@ -3,10 +3,13 @@ ghost use Rattle.std.specs.Prelude.{◌<◌, false, refl};
 
 use crate::{Ended, Filesystem, SessionError, Transcript, mount};
 use fuse_config::{Config, KernelConfig};
-use fuse_reply::{Replied, ReplyAttr, ReplyData, ReplyEntry};
+use fuse_notify::PollNotifier;
+use fuse_reply::{Replied, ReplyAttr, ReplyData, ReplyEntry, ReplyPoll};
 use fuse_request::Request;
 use fuse_wire::consts::MAX_WRITE_SIZE;
-use fuse_wire::{Errno, FileHandle, INodeNo, LockOwner, OpenFlags, Sink, Source};
+use fuse_wire::{
+    Errno, FileHandle, INodeNo, LockOwner, OpenFlags, PollEvents, PollFlags, Sink, Source,
+};
 use std::sync::Wait;
 use std::sync::atomic::{AtomicU64, Ordering};
 
@@ -146,6 +149,20 @@ impl Filesystem for Counting {
         };
         let count = contents.len().min(size as usize).min(MAX_WRITE_SIZE);
         reply.data(&contents[..count])
+    }
+
+    fn poll(
+        &self,
+        _request: &Request,
+        _ino: INodeNo,
+        _fh: FileHandle,
+        _ph: PollNotifier,
+        _events: PollEvents,
+        _flags: PollFlags,
+        reply: ReplyPoll,
+    ) -> Replied {
+        self.count();
+        reply.error(Errno::ENOSYS)
     }
 
     fn destroy(&mut self) {

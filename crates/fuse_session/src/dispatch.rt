@@ -11,8 +11,10 @@ use crate::access::AccessRule;
 use crate::judge::unserved_error;
 use crate::refusal::refusal;
 use crate::work::Work;
-use fuse_reply::{Out, ReplyAttr, ReplyData, ReplyEntry};
+use fuse_notify::Notifier;
+use fuse_reply::{Out, ReplyAttr, ReplyData, ReplyEntry, ReplyPoll};
 use fuse_request::{AnyRequest, Operation};
+use fuse_wire::Errno;
 use std::alloc::Global;
 
 /// A filesystem, served to those whom the rule admits.
@@ -25,7 +27,13 @@ impl<FS: Filesystem> Work for Service<FS> {
     ghost owed = { λ service. Owed FS.promise service.filesystem service.rule.acl service.rule.owner };
 
     #[inline(always)]
-    fn answer(&self, alloc: Global, _seq: u64, request: &AnyRequest<'_>) -> Out {
+    fn answer(
+        &self,
+        alloc: Global,
+        notifier: &mut Notifier,
+        _seq: u64,
+        request: &AnyRequest<'_>,
+    ) -> Out {
         let id = request.unique();
         let operation = match self.rule.operation(request) {
             Ok(operation) => operation,
@@ -62,6 +70,17 @@ impl<FS: Filesystem> Work for Service<FS> {
                         .into_out();
                 }
                 Err(error) => return refusal(alloc, id, error),
+            },
+            Operation::Poll(poll) => match notifier.poll_notifier(poll.kernel_handle()) {
+                Ok(news) => {
+                    let reply = ReplyPoll::new(alloc, id);
+                    let fh = poll.file_handle();
+                    let (events, flags) = (poll.events(), poll.flags());
+                    return filesystem
+                        .poll(request, node, fh, news, events, flags, reply)
+                        .into_out();
+                }
+                Err(_) => return refusal(alloc, id, Errno::ENOMEM),
             },
             other => return refusal(alloc, id, unserved_error(&other)),
         }

@@ -2,12 +2,13 @@
 ghost use Rattle.fuse_reply.specs.Answer.Answer.{Empty};
 ghost use Rattle.fuse_reply.specs.Frame.{reply};
 ghost use Rattle.fuse_session.specs.EventLoop.{OneTurn, Run};
-ghost use Rattle.fuse_session.specs.Progress.{DeliversOnce};
+ghost use Rattle.fuse_session.specs.Progress.{DeliversOnce, PassesOnAll, Quiet};
 
 use crate::channel::Channel;
 use crate::incoming::Incoming;
 use crate::taken::Taken;
 use crate::work::Work;
+use fuse_notify::Notifier;
 use fuse_reply::{Out, ReplyEmpty};
 use fuse_request::RequestError;
 use fuse_wire::{RequestId, Sink, Source};
@@ -38,6 +39,7 @@ fn answer_destroy<S: Source, K: Sink>(alloc: Global, id: RequestId, channel: &mu
 fn take_turn<R: Wait + AllocGlobal, W: Work, S: Source, K: Sink>(
     rt: &R,
     work: &W,
+    notifier: &mut Notifier,
     seq: u64,
     channel: &mut Channel<S, K>,
 ) -> Option<End>
@@ -55,24 +57,29 @@ fn take_turn<R: Wait + AllocGlobal, W: Work, S: Source, K: Sink>(
             Some(End::Destroyed)
         }
         Incoming::Request(request) => {
-            let out = work.answer(rt.alloc(), seq, &request);
+            let out = work.answer(rt.alloc(), notifier, seq, &request);
             channel.deliver(out);
             None
         }
     }
 }
 
-/// Answers messages until the source has none left, or one ends the run.
+/// Answers messages until the source has none left, or one ends the run. After each the notices that wait are sent.
 pub(crate) fn run_inline<R: Wait + AllocGlobal, W: Work, S: Source, K: Sink>(
     rt: &R,
     work: &W,
+    notifier: &mut Notifier,
     channel: &mut Channel<S, K>,
 ) -> End
-    ensures { Run (W.owed work.now) 0 result channel.old.progress channel.new.progress }
+    ensures run { Run (W.owed work.now) 0 result channel.old.progress channel.new.progress }
+    ensures notices { Quiet channel.old.progress.sink channel.new.progress.sink →
+        PassesOnAll channel.old.progress channel.new.progress }
 {
     let mut seq: u64 = 0;
     for _ in rt.forever() {
-        match take_turn(rt, work, seq, channel) {
+        let ended = take_turn(rt, work, notifier, seq, channel);
+        channel.pass_on_notices(rt);
+        match ended {
             Some(end) => return end,
             None => seq = seq.saturating_add(1),
         }

@@ -5,9 +5,10 @@ ghost use Rattle.fuse_session.specs.Owed.{Answered};
 ghost use Rattle.fuse_session.specs.Promise.{Promise};
 
 use fuse_config::KernelConfig;
-use fuse_reply::{Replied, ReplyAttr, ReplyData, ReplyEntry};
+use fuse_notify::PollNotifier;
+use fuse_reply::{Replied, ReplyAttr, ReplyData, ReplyEntry, ReplyPoll};
 use fuse_request::Request;
-use fuse_wire::{Errno, FileHandle, INodeNo, LockOwner, OpenFlags};
+use fuse_wire::{Errno, FileHandle, INodeNo, LockOwner, OpenFlags, PollEvents, PollFlags};
 
 /// A filesystem, as a session serves it. The session calls `init` at most once and before any request, then a method
 /// for each request that its verdict sends here, and `destroy` last. A method that is to answer is handed the reply,
@@ -70,6 +71,24 @@ pub trait Filesystem: Send + Sync {
     ) -> Replied
         ensures { Answered promise.may_answer self.now request.now
             (Call.Read ino.0 fh.0 offset size flags.0 (owner_number lock_owner)) reply result };
+
+    /// POLL: which of `events` an open file is ready for now. `fh` is the number that the file was opened with. The answer
+    /// is given at once. Where `flags` has `FUSE_POLL_SCHEDULE_NOTIFY` and the file is ready for none of them, the kernel
+    /// wants to be told when it is: keep `ph`, and call its `notify` then, once; the kernel polls again. Otherwise let go
+    /// of it. ENOSYS makes the kernel take every file for ready, and not ask again. Where there is no memory for `ph` the
+    /// poll gets ENOMEM, and this is not called.
+    fn poll(
+        &self,
+        request: &Request,
+        ino: INodeNo,
+        fh: FileHandle,
+        ph: PollNotifier,
+        events: PollEvents,
+        flags: PollFlags,
+        reply: ReplyPoll,
+    ) -> Replied
+        ensures { Answered promise.may_answer self.now request.now
+            (Call.Poll ino.0 fh.0 ph.handle events.0 flags.0) reply result };
 
     /// The session is over. It is called once and last on each end of a session, but for the want of memory at its
     /// start, where nothing is called.

@@ -41,6 +41,7 @@ fn judge(operation: Operation<'_>) -> Verdict<'_>
         Operation::Forget(forget) => Verdict::Forget(Operation::Forget(forget)),
         Operation::Lookup(lookup) => Verdict::Call(Operation::Lookup(lookup)),
         Operation::GetAttr(getattr) => Verdict::Call(Operation::GetAttr(getattr)),
+        Operation::Poll(poll) => Verdict::Call(Operation::Poll(poll)),
         Operation::Read(read) => match read.offset() {
             Ok(_) => Verdict::Call(Operation::Read(read)),
             Err(error) => Verdict::Fixed(error),

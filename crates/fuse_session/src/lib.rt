@@ -4,6 +4,7 @@
 #![tactic(auto)]
 
 mod access;
+mod buffers;
 mod channel;
 #[cfg(test)]
 mod counting;
@@ -14,16 +15,21 @@ mod event_loop;
 #[cfg(test)]
 mod fault_tests;
 mod filesystem;
+mod frame_line;
 mod greeting;
 mod handshake;
 mod incoming;
 mod judge;
 pub mod laws;
 #[cfg(test)]
+mod notice_tests;
+#[cfg(test)]
 mod option_tests;
 mod options;
 #[cfg(test)]
 mod order_tests;
+#[cfg(test)]
+mod polling;
 mod refusal;
 #[cfg(test)]
 mod refusal_tests;

@@ -1,23 +1,23 @@
 // What a session looks at before anything is taken.
-ghost use Rattle.std.specs.Prelude.{◌≡◌, ◌↔◌, IfErr, IfOk, IsTrue, MatchResult, length};
+ghost use Rattle.std.specs.Prelude.{◌≡◌, ◌↔◌, [], IfErr, IfOk, IsTrue, MatchResult, length};
 ghost use Rattle.std.specs.List.{list_any};
 ghost use Rattle.fuse_session.specs.Refused.{ManyThreads, NotBegun, OptionsWell, RefusedAs, is_auto_unmount};
 
 use crate::SessionError;
+use crate::buffers::Buffers;
 use fuse_config::{Config, Conflict, MountOption, SessionACL, check_option_conflicts};
 use fuse_wire::consts::BUFFER_SIZE;
-use fuse_wire::receive_buffer;
 use std::alloc::Global;
 
-/// The receive buffer of a session. The options are looked at first.
-pub(crate) fn prepare(alloc: Global, config: &Config) -> Result<Vec<u8>, SessionError>
-    ensures ok { IfOk result (λ buffer. length buffer.items ≡ BUFFER_SIZE) }
+/// The memory of a session. The options are looked at first.
+pub(crate) fn prepare(alloc: Global, config: &Config) -> Result<Buffers, SessionError>
+    ensures ok { IfOk result (λ b. (length b.receive.items ≡ BUFFER_SIZE) × (b.frames ≡ [])) }
     ensures well { IfOk result (λ _. OptionsWell config.now) }
     ensures refused { IfErr result (λ e. NotBegun config.now e) }
 {
     check_options(config)?;
-    match receive_buffer(alloc) {
-        Ok(buffer) => Ok(buffer),
+    match Buffers::new(alloc) {
+        Ok(buffers) => Ok(buffers),
         Err(_) => Err(SessionError::Memory),
     }
 }

@@ -1,6 +1,6 @@
 // Serving a filesystem, from the first message to the last.
-ghost use Rattle.std.specs.Prelude.{◌≡◌, ◌≢◌, ◌<◌, ◌⊎◌, ◌↔◌, ℕ, Ok, Err, false, length};
-ghost use Rattle.fuse_session.specs.Progress.{nothing_yet, progress};
+ghost use Rattle.std.specs.Prelude.{◌≡◌, ◌≢◌, ◌<◌, ◌⊎◌, ◌↔◌, ℕ, [], Ok, Err, false, length};
+ghost use Rattle.fuse_session.specs.Progress.{nothing_yet};
 ghost use Rattle.fuse_session.specs.Complete.{AcceptsAll, SessionWell};
 ghost use Rattle.fuse_session.specs.Exchange.{Exchange, Mounted, setup, setup_of};
 ghost use Rattle.fuse_session.specs.Headline.{Headline, Lossless};
@@ -8,6 +8,7 @@ ghost use Rattle.fuse_session.specs.Refused.{OfOptions, OptionsWell, RefusedAs, 
 ghost use Rattle.fuse_session.specs.SessionEnd.{run_outcome};
 
 use crate::access::AccessRule;
+use crate::buffers::Buffers;
 use crate::channel::Channel;
 use crate::dispatch::Service;
 use crate::event_loop::{End, run_inline};
@@ -15,6 +16,7 @@ use crate::handshake::{HandshakeOutcome, handshake};
 use crate::options::prepare;
 use crate::{Filesystem, InvalidData, SessionError, Transcript};
 use fuse_config::Config;
+use fuse_notify::Notifier;
 use fuse_wire::consts::BUFFER_SIZE;
 use fuse_wire::{Sink, Source};
 use std::sync::Wait;
@@ -53,6 +55,7 @@ fn exchange<R: Wait + AllocGlobal, FS: Filesystem, S: Source, K: Sink>(
     service: &mut Service<FS>,
     page_size: u32,
     n_threads: Option<usize>,
+    notifier: &mut Notifier,
     channel: &mut Channel<S, K>,
 ) -> Result<(), SessionError>
     requires { 0 < page_size }
@@ -63,27 +66,44 @@ fn exchange<R: Wait + AllocGlobal, FS: Filesystem, S: Source, K: Sink>(
 {
     match handshake(rt, &mut service.filesystem, page_size, channel) {
         HandshakeOutcome::Accepted if n_threads == Some(0) => Err(SessionError::Threads),
-        HandshakeOutcome::Accepted => run_inline(rt, service, channel).outcome(),
+        HandshakeOutcome::Accepted => run_inline(rt, service, notifier, channel).outcome(),
         HandshakeOutcome::Gone => Err(SessionError::NotConnected),
         HandshakeOutcome::Refused(error) => Err(SessionError::of_handshake(error)),
         HandshakeOutcome::Failed => Err(SessionError::Receive),
     }
 }
 
-/// A session over a buffer that was taken before.
+/// A session over memory that was taken before.
 fn serve<R: Wait + AllocGlobal, FS: Filesystem, S: Source, K: Sink>(
     rt: &R,
     mut service: Service<FS>,
-    mut channel: Channel<S, K>,
+    source: S,
+    sink: K,
+    buffers: Buffers,
     page_size: u32,
     n_threads: Option<usize>,
 ) -> Ended<FS, S, K>
-    requires { 0 < page_size }
+    requires page { 0 < page_size }
+    requires buffer { length buffers.receive.items ≡ BUFFER_SIZE }
+    requires frames { buffers.frames ≡ [] }
     ensures { Mounted (setup_of FS.promise page_size n_threads service.rule.acl service.rule.owner)
-        service.filesystem result.filesystem result.outcome
-        channel.progress (progress (S.told result.source) (K.told result.sink) result.transcript) }
+        service.filesystem result.filesystem result.outcome (S.told source) (S.told result.source)
+        (K.told sink) (K.told result.sink) result.transcript }
 {
-    let outcome = exchange(rt, &mut service, page_size, n_threads, &mut channel);
+    let Buffers {
+        receive,
+        frames,
+        mut notifier,
+    } = buffers;
+    let mut channel = Channel::new(source, sink, receive, frames);
+    let outcome = exchange(
+        rt,
+        &mut service,
+        page_size,
+        n_threads,
+        &mut notifier,
+        &mut channel,
+    );
     let Service {
         mut filesystem,
         rule: _,
@@ -102,8 +122,9 @@ fn serve<R: Wait + AllocGlobal, FS: Filesystem, S: Source, K: Sink>(
 /// Serves a filesystem: the handshake with the kernel, then each message, until the source ends or the kernel sends
 /// DESTROY. Each message is answered before the next is taken. `owner` is the user whose session it is, and `config`
 /// says whose requests are served. `page_size` is in bytes, and not 0: the kernel is told how many pages a request may
-/// span. First of all the options of `config` are looked at, and then the receive buffer is taken, the only memory that
-/// it takes itself; where they are refused, or there is no memory, the outcome says so, and nothing else was done.
+/// span. First of all the options of `config` are looked at, and then the memory of the session is taken, the only memory
+/// that it takes itself: where messages are received, and the line of notices. Where the options are refused, or there is
+/// no memory, the outcome says so, and nothing else was done.
 /// Otherwise `destroy` is called once. A frame or a note that the sink refuses is counted as lost, and not sent again.
 pub fn mount<R: Wait + AllocGlobal, FS: Filesystem, S: Source, K: Sink + Send>(
     rt: &R,
@@ -126,8 +147,7 @@ pub fn mount<R: Wait + AllocGlobal, FS: Filesystem, S: Source, K: Sink + Send>(
     // What was taken, sent, lost and counted on every end, why it ended so, and that `destroy` was called once.
     ensures session { ¬ (Untouched result.outcome) →
         Mounted (setup FS.promise page_size config.now owner) filesystem result.filesystem result.outcome
-        (progress (S.told source) (K.told sink) nothing_yet)
-        (progress (S.told result.source) (K.told result.sink) result.transcript) }
+        (S.told source) (S.told result.source) (K.told sink) (K.told result.sink) result.transcript }
 
     // It ends well where nothing is amiss, or else for want of memory.
     ensures complete { OptionsWell config.now → SessionWell FS.promise.may_init config.now.n_threads filesystem
@@ -147,8 +167,8 @@ pub fn mount<R: Wait + AllocGlobal, FS: Filesystem, S: Source, K: Sink + Send>(
         (result.filesystem ≡ filesystem) × (result.source ≡ source) × (result.sink ≡ sink)
         × (result.transcript ≡ nothing_yet) }
 {
-    let buffer = match prepare(rt.alloc(), config) {
-        Ok(buffer) => buffer,
+    let buffers = match prepare(rt.alloc(), config) {
+        Ok(buffers) => buffers,
         Err(error) => {
             return Ended {
                 filesystem,
@@ -164,6 +184,13 @@ pub fn mount<R: Wait + AllocGlobal, FS: Filesystem, S: Source, K: Sink + Send>(
         owner,
     };
     let service = Service { filesystem, rule };
-    let channel = Channel::new(source, sink, buffer);
-    serve(rt, service, channel, page_size, config.n_threads)
+    serve(
+        rt,
+        service,
+        source,
+        sink,
+        buffers,
+        page_size,
+        config.n_threads,
+    )
 }

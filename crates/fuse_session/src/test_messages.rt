@@ -1,6 +1,8 @@
 // Messages and frames for tests, byte by byte, and sources of them.
 
-use fuse_request::opcode::{FUSE_FORGET, FUSE_GETATTR, FUSE_INIT, FUSE_LOOKUP, FUSE_READ};
+use fuse_request::opcode::{
+    FUSE_FORGET, FUSE_GETATTR, FUSE_INIT, FUSE_LOOKUP, FUSE_POLL, FUSE_READ,
+};
 use fuse_wire::{Items, MemorySource, Turn};
 use std::alloc::{AllocError, Global};
 
@@ -94,6 +96,15 @@ pub(crate) fn read(id: u8, uid: u8, highest: u8, size: u32) -> [u8; 80] {
     fill(&mut bytes, &message(FUSE_READ, id, 2, uid), &[]);
     bytes[55] = highest;
     bytes[56..60].copy_from_slice(&size.to_le_bytes());
+    bytes
+}
+
+/// A POLL of node 2 with this handle, whose flags have this lowest byte.
+pub(crate) fn poll(id: u8, handle: [u8; 2], flags: u8) -> [u8; 64] {
+    let mut bytes = [0; 64];
+    fill(&mut bytes, &message(FUSE_POLL, id, 2, 0), &[]);
+    bytes[48..50].copy_from_slice(&handle);
+    bytes[56] = flags;
     bytes
 }
 

@@ -11,6 +11,7 @@ ghost use Rattle.fuse_session.specs.Incoming.Incoming.{Destroy};
 ghost use Rattle.fuse_session.specs.Verdict.{id_of};
 ghost use Rattle.fuse_session.specs.Progress.{IsPrompt};
 
+use fuse_notify::Notifier;
 use fuse_reply::Out;
 use fuse_request::AnyRequest;
 use std::alloc::Global;
@@ -20,8 +21,14 @@ pub(crate) trait Work {
     /// What a message is owed, by its number.
     ghost owed: { Self → ℕ → List ℕ → Goes → Type 0 };
 
-    /// Answers the request of this number, which is no DESTROY.
-    fn answer(&self, alloc: Global, seq: u64, request: &AnyRequest<'_>) -> Out
+    /// Answers the request of this number, which is no DESTROY. A poll is told of news through what the notifier makes.
+    fn answer(
+        &self,
+        alloc: Global,
+        notifier: &mut Notifier,
+        seq: u64,
+        request: &AnyRequest<'_>,
+    ) -> Out
         requires { ((header_of request.now).opcode == FUSE_DESTROY) ≡ false }
         ensures owed { (m : List ℕ) → Decodes (Ok request.now) m → owed self.now seq m result }
         ensures prompt { IsPrompt result };

@@ -1,12 +1,12 @@
 -- A directory with one file in it, and what each call to it gives.
 use Rattle.std.specs.Prelude.{◌≡◌, ◌==◌, ◌&&◌, ℕ, false, List, Option, None, Some, Ok, pos, codes, take, drop, if◌then◌else◌}
 use Rattle.std.specs.Str.{bytes_eq}
-use Rattle.fuse_wire.specs.ErrorNumbers.{ENOENT}
+use Rattle.fuse_wire.specs.ErrorNumbers.{ENOENT, ENOSYS}
 use Rattle.fuse_wire.specs.declared.file_attr.FileAttr.{FileAttr}
 use Rattle.fuse_wire.specs.declared.file_attr.FileType.{FileType}
 use Rattle.fuse_wire.specs.declared.file_attr.FileType.TheVariants.{Directory, RegularFile}
 use Rattle.fuse_request.specs.Call.{Call}
-use Rattle.fuse_request.specs.Call.Call.{Lookup, Forget, GetAttr, Read}
+use Rattle.fuse_request.specs.Call.Call.{Lookup, Forget, GetAttr, Read, Poll}
 use Rattle.fuse_reply.specs.Answer.{Answer}
 use Rattle.fuse_reply.specs.Answer.Answer.{Error, Data, Entry, Attr}
 use Rattle.fuse_session.specs.Promise.{Promise}
@@ -62,6 +62,7 @@ answer (Lookup parent name) = Some (entry_or_enoent (named parent name))
 answer (GetAttr ino fh) = Some (attr_or_enoent (attr_of ino))
 answer (Read ino fh offset size flags lock_owner) =
     Some (if ino == 2 then Data (take size (drop offset contents)) else Error ENOENT)
+answer (Poll ino fh kh events flags) = Some (Error ENOSYS)
 answer c = None
 
 -- the mark of a forget: how many lookups it gives back

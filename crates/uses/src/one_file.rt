@@ -3,12 +3,13 @@ ghost use Rattle.std.specs.Prelude.{◌≡◌, ◌≤◌, take, drop, length, fa
 ghost use Rattle.uses.specs.OneFile.{attr, attr_of, named, promise};
 
 use fuse_config::KernelConfig;
-use fuse_reply::{Replied, ReplyAttr, ReplyData, ReplyEntry};
+use fuse_notify::PollNotifier;
+use fuse_reply::{Replied, ReplyAttr, ReplyData, ReplyEntry, ReplyPoll};
 use fuse_request::Request;
 use fuse_session::Filesystem;
 use fuse_wire::{
     Duration, Errno, FileAttr, FileHandle, FileType, Generation, INodeNo, LockOwner, OpenFlags,
-    SystemTime,
+    PollEvents, PollFlags, SystemTime,
 };
 
 /// What the file holds.
@@ -137,6 +138,19 @@ impl Filesystem for OneFile {
         } else {
             reply.error(Errno::ENOENT)
         }
+    }
+
+    fn poll(
+        &self,
+        _request: &Request,
+        _ino: INodeNo,
+        _fh: FileHandle,
+        _ph: PollNotifier,
+        _events: PollEvents,
+        _flags: PollFlags,
+        reply: ReplyPoll,
+    ) -> Replied {
+        reply.error(Errno::ENOSYS)
     }
 
     fn destroy(&mut self) {}

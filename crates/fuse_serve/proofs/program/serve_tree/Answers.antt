@@ -8,7 +8,6 @@ use Rattle.fuse_wire.specs.StreamSink.{Stands, stream_told as sink_told}
 use Rattle.fuse_session.specs.Complete.{SessionWell}
 use Rattle.fuse_session.specs.Exchange.{Mounted}
 use Rattle.fuse_session.specs.Headline.{Headline, Lossless}
-use Rattle.fuse_session.specs.Progress.{nothing_yet, progress}
 use Rattle.fuse_session.specs.Refused.{Untouched}
 use Rattle.fuse_session.specs.declared.error.SessionError.TheVariants.{Memory}
 use Rattle.fuse_serve.specs.Program.{ByteExchange, form_setup}
@@ -73,8 +72,7 @@ exchanged g c other =
     let begun : ¬ (Untouched m.outcome) = λ none. other (exit_is g c ∙ nine-untouched m.outcome m.transcript.lost m.sink.broken none) in
     ByteExchange-mounted c.args.form c.status_of.result m.outcome (first_in g c) (last_in g c) (first_out g c) (last_out g c)
     (sink_at g c) m.sink.broken m.transcript _ m.filesystem
-    (over_streams g c (λ a b k. Mounted (form_setup c.args.form) _ m.filesystem m.outcome (progress a k nothing_yet)
-    (progress b (sink_at g c) m.transcript))
+    (over_streams g c (λ a b k. Mounted (form_setup c.args.form) _ m.filesystem m.outcome a b k (sink_at g c) m.transcript)
     (c.mount-source.ensures.session begun))
     (c.mount-source.ensures.accepted (AcceptsAll-tree _)) (stands_at g c) (exit_is g c)
 

@@ -16,7 +16,7 @@ returns-in-Accepted-2-clause-exchange g c =
     let s = setup_of g.FS.Filesystem.promise c.args.page_size c.args.n_threads c.args.service.now.rule.acl c.args.service.now.rule.owner in
     subst (λ (o : Outcome). Exchange s c.args.service.now.filesystem c.handshake.new.filesystem o c.args.channel.now.progress c.run_inline.new.channel.progress)
     (sym c.outcome.ensures)
-    (Exchange-ran {setup = s} (some-thread c.args.n_threads c.if-eq.ensures) c.in-Accepted-2.ensures c.run_inline.ensures)
+    (Exchange-ran {setup = s} (some-thread c.args.n_threads c.if-eq.ensures) c.in-Accepted-2.ensures c.run_inline.ensures.run)
 
 pub returns-in-Refused-clause-exchange : goal.returns-in-Refused-clause-exchange
 returns-in-Refused-clause-exchange g c =

@@ -1,7 +1,7 @@
 -- The promises of a whole session, from its record.
-use Rattle.std.proofs.Common.{Ok, Err, inl, inr, refl, ap, subst}
+use Rattle.std.proofs.Common.{[], Err, inl, inr, refl, ap, subst}
 use Rattle.fuse_session.specs.Exchange.{Outcome, Exchange, setup}
-use Rattle.fuse_session.specs.Progress.{Progress, nothing_yet, progress}
+use Rattle.fuse_session.specs.Progress.{nothing_yet, progress}
 use Rattle.fuse_session.proofs.Headlining.{Headline-from_exchange}
 use Rattle.fuse_session.proofs.Completing.{Ok-from_exchange, never-refused}
 use Rattle.fuse_session.proofs.Refusing.{Exchange-begun, Memory-not_begun, Untouched-not_begun, refused-begun, refused-not_begun}
@@ -10,27 +10,23 @@ use Rattle.fuse_session.proofs.session.mount.Goals as goal
 pub returns-clause-headline : goal.returns-clause-headline
 returns-clause-headline g c ok lossless =
     let s = setup g.FS.Filesystem.promise c.args.page_size c.args.config.now c.args.owner in
-    let after = progress (g.S.Source.told c.serve.result.source) (g.K.Sink.told c.serve.result.sink) c.serve.result.transcript in
-    Headline-from_exchange {setup = s} {p = progress (g.S.Source.told c.args.source) (g.K.Sink.told c.args.sink) nothing_yet} {q = after}
-    (subst (λ (p : Progress). Exchange s c.args.filesystem c.serve.ensures.fs1 (Ok tt) p after) c.new-channel.ensures
-    (subst (λ (o : Outcome). Exchange s c.args.filesystem c.serve.ensures.fs1 o c.new-channel.result.progress after) ok c.serve.ensures.exchange))
-    refl lossless
+    let p = progress (g.S.Source.told c.args.source) (g.K.Sink.told c.args.sink) nothing_yet [] in
+    let q = progress (g.S.Source.told c.serve.result.source) (g.K.Sink.told c.serve.result.sink) c.serve.result.transcript c.serve.ensures.unasked in
+    Headline-from_exchange {setup = s} {p = p} {q = q}
+    (subst (λ (o : Outcome). Exchange s c.args.filesystem c.serve.ensures.fs1 o p q) ok c.serve.ensures.exchange) refl lossless
 
 pub returns-clause-complete : goal.returns-clause-complete
 returns-clause-complete g c options well =
     let s = setup g.FS.Filesystem.promise c.args.page_size c.args.config.now c.args.owner in
-    let after = progress (g.S.Source.told c.serve.result.source) (g.K.Sink.told c.serve.result.sink) c.serve.result.transcript in
-    inl (Ok-from_exchange {setup = s} {p = progress (g.S.Source.told c.args.source) (g.K.Sink.told c.args.sink) nothing_yet} {q = after}
-    c.serve.result.outcome
-    (subst (λ (p : Progress). Exchange s c.args.filesystem c.serve.ensures.fs1 c.serve.result.outcome p after) c.new-channel.ensures
-    c.serve.ensures.exchange) well)
+    inl (Ok-from_exchange {setup = s} c.serve.result.outcome c.serve.ensures.exchange well)
 
 pub returns-clause-accepted : goal.returns-clause-accepted
 returns-clause-accepted g c accepts n is =
     let s = setup g.FS.Filesystem.promise c.args.page_size c.args.config.now c.args.owner in
-    let after = progress (g.S.Source.told c.serve.result.source) (g.K.Sink.told c.serve.result.sink) c.serve.result.transcript in
-    never-refused {setup = s} {q = after} n
-    (subst (λ (o : Outcome). Exchange s c.args.filesystem c.serve.ensures.fs1 o c.new-channel.result.progress after) is c.serve.ensures.exchange) accepts
+    let p = progress (g.S.Source.told c.args.source) (g.K.Sink.told c.args.sink) nothing_yet [] in
+    let q = progress (g.S.Source.told c.serve.result.source) (g.K.Sink.told c.serve.result.sink) c.serve.result.transcript c.serve.ensures.unasked in
+    never-refused {setup = s} {q = q} n
+    (subst (λ (o : Outcome). Exchange s c.args.filesystem c.serve.ensures.fs1 o p q) is c.serve.ensures.exchange) accepts
 
 pub returns-clause-options : goal.returns-clause-options
 returns-clause-options g c =

@@ -9,5 +9,5 @@ returns-in-Gone g c =
     let gone = c.in-Gone.ensures in (
       Takes-then [] [] _ _ _ so_far.nothing gone.1,
       NothingLeft-after _ _ gone.0 gone.1,
-      record { sink = so_far.sink; counts = so_far.counts },
+      record { sink = so_far.sink; counts = so_far.counts; unasked = so_far.unasked },
     )
