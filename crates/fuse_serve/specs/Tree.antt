@@ -1,15 +1,18 @@
 -- The tree that the program serves: a directory with two files in it, and what each call to it gives.
-use Rattle.std.specs.Prelude.{◌≡◌, ℕ, ◌==◌, List, Option, None, Some, Ok, pos, codes, take, drop, false, if◌then◌else◌}
+use Rattle.std.specs.Prelude.{◌≡◌, ◌+◌, ℕ, ◌==◌, List, [], ◌∷◌, Option, None, Some, Ok, pos, codes, take, drop, length, min, nat_lt, false, if◌then◌else◌}
 use Rattle.std.specs.List.{range_with_len}
 use Rattle.std.specs.Str.{bytes_eq}
-use Rattle.fuse_wire.specs.ErrorNumbers.{ENOENT, ENOSYS}
+use Rattle.fuse_wire.specs.ErrorNumbers.{ENOENT}
 use Rattle.fuse_wire.specs.declared.file_attr.FileAttr.{FileAttr}
 use Rattle.fuse_wire.specs.declared.file_attr.FileType.{FileType}
 use Rattle.fuse_wire.specs.declared.file_attr.FileType.TheVariants.{Directory, RegularFile}
 use Rattle.fuse_request.specs.Call.{Call}
-use Rattle.fuse_request.specs.Call.Call.{Lookup, Forget, GetAttr, Read, Poll}
+use Rattle.fuse_request.specs.Call.Call.{Lookup, Forget, GetAttr, Read, ReadDir}
 use Rattle.fuse_reply.specs.Answer.{Answer}
-use Rattle.fuse_reply.specs.Answer.Answer.{Error, Data, Entry, Attr}
+use Rattle.fuse_reply.specs.Answer.Answer.{Error, Data, Entry, Attr, Directory as Entries}
+use Rattle.fuse_reply.specs.Listing.{DirEntry, dirent}
+use Rattle.fuse_reply.specs.Sizes.{max_payload}
+use Rattle.fuse_session.specs.Defaults.{default_answer}
 use Rattle.fuse_session.specs.Promise.{Promise, MayInit, MayAnswer, MayNote, MayDestroy}
 use Rattle.fuse_serve.specs.declared.hello.Hello.{Hello}
 
@@ -48,6 +51,21 @@ named name =
     else if bytes_eq name (codes "big") then node_attr 3
     else None
 
+-- the entries of the directory, each with the offset after it
+abbrev pub member : (ino offset : ℕ) → FileType → (name : List ℕ) → DirEntry
+member ino offset kind name = record { ino = ino; offset = offset; kind = kind; name = name }
+
+abbrev pub members : List DirEntry
+members =
+    member 1 1 Directory (codes ".") ∷ member 1 2 Directory (codes "..") ∷ member 2 3 RegularFile (codes "hello.txt")
+    ∷ member 3 4 RegularFile (codes "big") ∷ []
+
+-- those of these entries that fit behind so many bytes, up to the first that does not
+abbrev pub fitting : (size held : ℕ) → List DirEntry → List DirEntry
+fitting size held [] = []
+fitting size held (e ∷ entries) =
+    if nat_lt (min size max_payload) (held + length (dirent e)) then [] else e ∷ fitting size (held + length (dirent e)) entries
+
 -- what the files hold: a greeting, and the numbers from 0 to 199
 abbrev pub contents : ℕ → Option (List ℕ)
 contents ino =
@@ -69,13 +87,17 @@ abbrev pub bytes : (offset size : ℕ) → Option (List ℕ) → Answer
 bytes offset size None = Error ENOENT
 bytes offset size (Some all) = Data (take size (drop offset all))
 
--- the answer to a call that reaches it; a forget has none
-abbrev pub tree_answer : Call → Option Answer
-tree_answer (Lookup parent name) = Some (entry (if parent == 1 then named name else None))
-tree_answer (GetAttr ino fh) = Some (attributes (node_attr ino))
-tree_answer (Read ino fh offset size flags lock_owner) = Some (bytes offset size (contents ino))
-tree_answer (Poll ino fh kh events flags) = Some (Error ENOSYS)
-tree_answer c = None
+-- the entries after the first so many
+abbrev pub listed : (ino offset size : ℕ) → Answer
+listed ino offset size = if ino == 1 then Entries (fitting size 0 (drop offset members)) else Error ENOENT
+
+-- the answer to a call
+abbrev pub tree_answer : Call → Answer
+tree_answer (Lookup parent name) = entry (if parent == 1 then named name else None)
+tree_answer (GetAttr ino fh) = attributes (node_attr ino)
+tree_answer (Read ino fh offset size flags lock_owner) = bytes offset size (contents ino)
+tree_answer (ReadDir ino fh offset size) = listed ino offset size
+tree_answer c = default_answer c
 
 -- the mark of a forget: how many lookups it gives back
 abbrev pub tree_mark : Call → Option ℕ
@@ -88,7 +110,7 @@ tree_may_init old request before result new after = (result ≡ Ok tt) × (after
 
 -- each call has its one answer, and each forget its one mark
 abbrev pub tree_may_answer : MayAnswer Hello
-tree_may_answer tree request call answer = tree_answer call ≡ Some answer
+tree_may_answer tree request call answer = tree_answer call ≡ answer
 
 abbrev pub tree_may_note : MayNote Hello
 tree_may_note tree request call mark = tree_mark call ≡ Some mark

@@ -1,12 +1,16 @@
 // The tree that the program serves.
-ghost use Rattle.std.specs.Prelude.{◌≡◌, false, refl, take, drop, option_map};
-ghost use Rattle.fuse_serve.specs.Tree.{attr, contents, named, node_attr, tree_promise};
+ghost use Rattle.std.specs.Prelude.{◌≡◌, ◌<◌, ◌+◌, [], Some, false, refl, take, drop, option_map, slice_get};
+ghost use Rattle.fuse_reply.specs.Listing.{listing};
+ghost use Rattle.fuse_serve.specs.Tree.{attr, contents, fitting, member, members, named, node_attr, tree_promise};
 
 use fuse_config::KernelConfig;
 use fuse_notify::PollNotifier;
-use fuse_reply::{Replied, ReplyAttr, ReplyData, ReplyEntry, ReplyPoll};
+use fuse_reply::{
+    Replied, ReplyAttr, ReplyData, ReplyDirectory, ReplyEmpty, ReplyEntry, ReplyOpen, ReplyPoll,
+    ReplyStatfs,
+};
 use fuse_request::Request;
-use fuse_session::Filesystem;
+use fuse_session::{Filesystem, defaults};
 use fuse_wire::{
     Duration, Errno, FileAttr, FileHandle, FileType, Generation, INodeNo, LockOwner, OpenFlags,
     PollEvents, PollFlags, SystemTime,
@@ -55,6 +59,40 @@ fn attr(ino: u64, kind: FileType, perm: u16, nlink: u32, size: u64, blocks: u64)
         rdev: 0,
         blksize: 512,
         flags: 0,
+    }
+}
+
+/// How many entries the directory has.
+const MEMBERS: usize = 4;
+
+/// The entry at this place of the directory: its node, its kind and its name.
+fn member(place: usize) -> (INodeNo, FileType, &'static [u8])
+    requires { place < MEMBERS }
+    ensures { slice_get members place ≡ Some (member result.0.0 (place + 1) result.1 result.2.now) }
+{
+    match place {
+        0 => (INodeNo::ROOT, FileType::Directory, b"."),
+        1 => (INodeNo::ROOT, FileType::Directory, b".."),
+        2 => (INodeNo(2), FileType::RegularFile, b"hello.txt"),
+        _ => (INodeNo(3), FileType::RegularFile, b"big"),
+    }
+}
+
+/// Adds the entries after the first so many, up to the first that does not fit.
+fn add_members(reply: &mut ReplyDirectory, offset: u64)
+    requires { reply.old.held ≡ [] }
+    ensures { reply.new ≡ record reply.old { held = listing (fitting reply.old.size 0 (drop offset members)) } }
+{
+    let first = offset.min(MEMBERS as u64) as usize;
+    for place in first..MEMBERS {
+        let (ino, kind, name) = member(place);
+        // All entries are held without memory, so that each one which fits is taken.
+        let Ok(full) = reply.add(ino, place as u64 + 1, kind, name) else {
+            return;
+        };
+        if full {
+            return;
+        }
     }
 }
 
@@ -171,6 +209,91 @@ impl Filesystem for Hello {
         reply.data(part(all, offset, size))
     }
 
+    fn symlink(
+        &self,
+        _request: &Request,
+        _parent: INodeNo,
+        _link_name: &[u8],
+        _target: &[u8],
+        reply: ReplyEntry,
+    ) -> Replied {
+        defaults::symlink(reply)
+    }
+
+    fn link(
+        &self,
+        _request: &Request,
+        _ino: INodeNo,
+        _newparent: INodeNo,
+        _newname: &[u8],
+        reply: ReplyEntry,
+    ) -> Replied {
+        defaults::link(reply)
+    }
+
+    fn open(
+        &self,
+        _request: &Request,
+        _ino: INodeNo,
+        _flags: OpenFlags,
+        reply: ReplyOpen,
+    ) -> Replied {
+        defaults::open(reply)
+    }
+
+    fn release(
+        &self,
+        _request: &Request,
+        _ino: INodeNo,
+        _fh: FileHandle,
+        _flags: OpenFlags,
+        _lock_owner: Option<LockOwner>,
+        _flush: bool,
+        reply: ReplyEmpty,
+    ) -> Replied {
+        defaults::release(reply)
+    }
+
+    fn opendir(
+        &self,
+        _request: &Request,
+        _ino: INodeNo,
+        _flags: OpenFlags,
+        reply: ReplyOpen,
+    ) -> Replied {
+        defaults::opendir(reply)
+    }
+
+    fn readdir(
+        &self,
+        _request: &Request,
+        ino: INodeNo,
+        _fh: FileHandle,
+        offset: u64,
+        mut reply: ReplyDirectory,
+    ) -> Replied {
+        if ino != INodeNo::ROOT {
+            return reply.error(Errno::ENOENT);
+        }
+        add_members(&mut reply, offset);
+        reply.ok()
+    }
+
+    fn releasedir(
+        &self,
+        _request: &Request,
+        _ino: INodeNo,
+        _fh: FileHandle,
+        _flags: OpenFlags,
+        reply: ReplyEmpty,
+    ) -> Replied {
+        defaults::releasedir(reply)
+    }
+
+    fn statfs(&self, _request: &Request, _ino: INodeNo, reply: ReplyStatfs) -> Replied {
+        defaults::statfs(reply)
+    }
+
     fn poll(
         &self,
         _request: &Request,
@@ -181,7 +304,7 @@ impl Filesystem for Hello {
         _flags: PollFlags,
         reply: ReplyPoll,
     ) -> Replied {
-        reply.error(Errno::ENOSYS)
+        defaults::poll(reply)
     }
 
     fn destroy(&mut self) {}

@@ -263,3 +263,70 @@ fn root_is_served_where_the_rule_says_so(rt: HostRuntime) -> Result<(), Fail> {
     )?;
     Ok(())
 }
+
+/// An entry of the directory: `struct fuse_dirent` with a name, whose type is that of `dirent.h`.
+fn dirent<const N: usize>(ino: u8, offset: u8, kind: u8, name: &[u8]) -> [u8; N] {
+    let mut bytes = [0; N];
+    for (place, byte) in [(0, ino), (8, offset), (16, short(name.len())), (20, kind)] {
+        if let Some(slot) = bytes.get_mut(place) {
+            *slot = byte;
+        }
+    }
+    for (slot, byte) in bytes.iter_mut().skip(24).zip(name) {
+        *slot = *byte;
+    }
+    bytes
+}
+
+#[test]
+fn the_directory(rt: HostRuntime) -> Result<(), Fail> {
+    let alloc = rt.alloc();
+    let here: [u8; 32] = dirent(1, 1, 4, b".");
+    let above: [u8; 32] = dirent(1, 2, 4, b"..");
+    let hello: [u8; 40] = dirent(2, 3, 8, b"hello.txt");
+    let big: [u8; 32] = dirent(3, 4, 8, b"big");
+    let mut all = here.to_vec(alloc)?;
+    all.extend_from_slice(&above)?;
+    all.extend_from_slice(&hello)?;
+    all.extend_from_slice(&big)?;
+    let cases: [Case<'_>; 10] = [
+        (28, 1, &read(near(0), 136), 0, all.as_slice()),
+        (28, 1, &read(near(0), 135), 0, all.get(..104).unwrap_or(&[])),
+        (28, 1, &read(near(0), 63), 0, &here),
+        (28, 1, &read(near(0), 31), 0, b""),
+        (
+            28,
+            1,
+            &read(near(1), 103),
+            0,
+            all.get(32..104).unwrap_or(&[]),
+        ),
+        (28, 1, &read(near(2), 255), 0, all.get(64..).unwrap_or(&[])),
+        (28, 1, &read(near(3), 255), 0, &big),
+        (28, 1, &read(near(4), 255), 0, b""),
+        (28, 1, &read([0, 0, 0, 0, 0, 0, 0, 0x80], 255), 0, b""),
+        (28, 2, &read(near(0), 255), 0xfe, b""),
+    ];
+    serve_all(&rt, &cases)?;
+    Ok(())
+}
+
+#[test]
+fn what_needs_nothing_of_its_own(rt: HostRuntime) -> Result<(), Fail> {
+    let mut full = [0; 80];
+    full[41] = 2;
+    full[44] = 255;
+    let cases: [Case<'_>; 9] = [
+        (6, 1, b"link\0hello.txt\0", 0xff, b""),
+        (13, 1, b"\x02\0\0\0\0\0\0\0again\0", 0xff, b""),
+        (14, 2, &[0; 8], 0, &[0; 16]),
+        (17, 1, b"", 0, &full),
+        (18, 2, &[0; 24], 0, b""),
+        (27, 1, &[0; 8], 0, &[0; 16]),
+        (29, 1, &[0; 24], 0, b""),
+        (40, 2, &[0; 24], 0xda, b""),
+        (5, 2, b"", 0xda, b""),
+    ];
+    serve_all(&rt, &cases)?;
+    Ok(())
+}

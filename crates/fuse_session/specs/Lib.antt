@@ -2,6 +2,7 @@ pub mod Promise
 pub mod Incoming
 pub mod Verdict
 pub mod Kind
+pub mod Defaults
 pub mod Owed
 pub mod OneEach
 pub mod FrameLine

@@ -1,5 +1,5 @@
 -- What the product itself fixes about a message after the handshake, before any filesystem is asked.
-use Rattle.std.specs.Prelude.{◌==◌, ◌||◌, ℕ, Bool, true, false, List, [], ◌∷◌, Option, None, Some, Result, Ok, Err, if◌then◌else◌}
+use Rattle.std.specs.Prelude.{◌==◌, ◌||◌, ℕ, Bool, true, false, not, List, [], ◌∷◌, Option, None, Some, Result, Ok, Err, if◌then◌else◌}
 use Rattle.fuse_wire.specs.ErrorNumbers.{EIO, EACCES, ENOSYS}
 use Rattle.fuse_wire.specs.Numbers.{number}
 use Rattle.fuse_config.specs.declared.session_acl.SessionACL.{SessionACL}
@@ -8,12 +8,15 @@ use Rattle.fuse_request.specs.declared.error.RequestError.{RequestError}
 use Rattle.fuse_request.specs.declared.any_request.Header.{Header}
 use Rattle.fuse_request.specs.Header.{header, body}
 use Rattle.fuse_request.specs.Call.{Call, call}
-use Rattle.fuse_request.specs.Call.Call.{Lookup as LookupCall, Forget as ForgetCall, GetAttr as GetAttrCall, Read as ReadCall, Poll as PollCall}
+use Rattle.fuse_request.specs.Call.Call.{Lookup as LookupCall, Forget as ForgetCall, GetAttr as GetAttrCall, SymLink as SymLinkCall}
+use Rattle.fuse_request.specs.Call.Call.{Link as LinkCall, Open as OpenCall, Read as ReadCall, StatFs as StatFsCall, Release as ReleaseCall}
+use Rattle.fuse_request.specs.Call.Call.{OpenDir as OpenDirCall, ReadDir as ReadDirCall, ReleaseDir as ReleaseDirCall, Poll as PollCall}
 use Rattle.fuse_request.specs.Fields.{file_offset, signed_offset, has_bit}
 use Rattle.fuse_request.specs.Opcode.{FUSE_FORGET, FUSE_READ, FUSE_WRITE, FUSE_RELEASE, FUSE_FSYNC, FUSE_INIT}
 use Rattle.fuse_request.specs.Opcode.{FUSE_READDIR, FUSE_RELEASEDIR, FUSE_FSYNCDIR, FUSE_DESTROY, FUSE_BATCH_FORGET, FUSE_READDIRPLUS}
 use Rattle.fuse_request.specs.Operation.{Op, operation}
-use Rattle.fuse_request.specs.Operation.Op.{Lookup, Forget, GetAttr, Init, Read, Write, Poll}
+use Rattle.fuse_request.specs.Operation.Op.{Lookup, Forget, GetAttr, SymLink, Link, Open, Init, Read, Write, StatFs, Release, OpenDir, ReadDir}
+use Rattle.fuse_request.specs.Operation.Op.{ReleaseDir, Poll}
 use Rattle.fuse_request.specs.Operation.Op.{Interrupt, NotifyReply, CuseInit, IoCtl, FAllocate, CopyFileRange}
 
 -- the id of the request
@@ -64,7 +67,15 @@ is_forget c = false
 abbrev pub has_method : Call → Bool
 has_method (LookupCall parent name) = true
 has_method (GetAttrCall ino fh) = true
+has_method (SymLinkCall parent link_name target) = true
+has_method (LinkCall ino newparent newname) = true
+has_method (OpenCall ino flags) = true
 has_method (ReadCall ino fh offset size flags lock_owner) = true
+has_method (StatFsCall ino) = true
+has_method (ReleaseCall ino fh flags lock_owner flush) = true
+has_method (OpenDirCall ino flags) = true
+has_method (ReadDirCall ino fh offset size) = true
+has_method (ReleaseDirCall ino fh flags) = true
 has_method (PollCall ino fh kh events flags) = true
 has_method c = false
 
@@ -95,14 +106,26 @@ served node (CopyFileRange range) =
     in_file (signed_offset range.off_in) (in_file (signed_offset range.off_out) (calling (call node (CopyFileRange range))))
 served node op = calling (call node op)
 
+-- the filesystem is asked this, whatever its arguments are
+abbrev pub is_always_called : Op → Bool
+is_always_called (Lookup name) = true
+is_always_called (GetAttr getattr) = true
+is_always_called (SymLink link_name target) = true
+is_always_called (Link oldnodeid name) = true
+is_always_called (Open opening) = true
+is_always_called StatFs = true
+is_always_called (Release releasing) = true
+is_always_called (OpenDir opening) = true
+is_always_called (ReadDir listing) = true
+is_always_called (ReleaseDir releasing) = true
+is_always_called (Poll poll) = true
+is_always_called op = false
+
 -- no filesystem is asked this yet, whoever asks it
 abbrev pub is_unserved : Op → Bool
-is_unserved (Lookup name) = false
 is_unserved (Forget nlookup) = false
-is_unserved (GetAttr getattr) = false
 is_unserved (Read read) = false
-is_unserved (Poll poll) = false
-is_unserved op = true
+is_unserved op = not (is_always_called op)
 
 -- the operation that is served, or the error of a request that is not: ENOSYS where it does not decode, EACCES where its user is
 -- not served

@@ -1,10 +1,13 @@
 // A filesystem for tests, which counts its calls, and sessions of it.
 ghost use Rattle.std.specs.Prelude.{◌<◌, false, refl};
 
-use crate::{Ended, Filesystem, SessionError, Transcript, mount};
+use crate::{Ended, Filesystem, SessionError, Transcript, defaults, mount};
 use fuse_config::{Config, KernelConfig};
 use fuse_notify::PollNotifier;
-use fuse_reply::{Replied, ReplyAttr, ReplyData, ReplyEntry, ReplyPoll};
+use fuse_reply::{
+    Replied, ReplyAttr, ReplyData, ReplyDirectory, ReplyEmpty, ReplyEntry, ReplyOpen, ReplyPoll,
+    ReplyStatfs,
+};
 use fuse_request::Request;
 use fuse_wire::consts::MAX_WRITE_SIZE;
 use fuse_wire::{
@@ -163,6 +166,95 @@ impl Filesystem for Counting {
     ) -> Replied {
         self.count();
         reply.error(Errno::ENOSYS)
+    }
+
+    fn symlink(
+        &self,
+        _request: &Request,
+        _parent: INodeNo,
+        _link_name: &[u8],
+        _target: &[u8],
+        reply: ReplyEntry,
+    ) -> Replied {
+        self.count();
+        defaults::symlink(reply)
+    }
+
+    fn link(
+        &self,
+        _request: &Request,
+        _ino: INodeNo,
+        _newparent: INodeNo,
+        _newname: &[u8],
+        reply: ReplyEntry,
+    ) -> Replied {
+        self.count();
+        defaults::link(reply)
+    }
+
+    fn open(
+        &self,
+        _request: &Request,
+        _ino: INodeNo,
+        _flags: OpenFlags,
+        reply: ReplyOpen,
+    ) -> Replied {
+        self.count();
+        defaults::open(reply)
+    }
+
+    fn release(
+        &self,
+        _request: &Request,
+        _ino: INodeNo,
+        _fh: FileHandle,
+        _flags: OpenFlags,
+        _lock_owner: Option<LockOwner>,
+        _flush: bool,
+        reply: ReplyEmpty,
+    ) -> Replied {
+        self.count();
+        defaults::release(reply)
+    }
+
+    fn opendir(
+        &self,
+        _request: &Request,
+        _ino: INodeNo,
+        _flags: OpenFlags,
+        reply: ReplyOpen,
+    ) -> Replied {
+        self.count();
+        defaults::opendir(reply)
+    }
+
+    fn readdir(
+        &self,
+        _request: &Request,
+        _ino: INodeNo,
+        _fh: FileHandle,
+        _offset: u64,
+        reply: ReplyDirectory,
+    ) -> Replied {
+        self.count();
+        defaults::readdir(reply)
+    }
+
+    fn releasedir(
+        &self,
+        _request: &Request,
+        _ino: INodeNo,
+        _fh: FileHandle,
+        _flags: OpenFlags,
+        reply: ReplyEmpty,
+    ) -> Replied {
+        self.count();
+        defaults::releasedir(reply)
+    }
+
+    fn statfs(&self, _request: &Request, _ino: INodeNo, reply: ReplyStatfs) -> Replied {
+        self.count();
+        defaults::statfs(reply)
     }
 
     fn destroy(&mut self) {

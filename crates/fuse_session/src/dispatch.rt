@@ -12,7 +12,10 @@ use crate::judge::unserved_error;
 use crate::refusal::refusal;
 use crate::work::Work;
 use fuse_notify::Notifier;
-use fuse_reply::{Out, ReplyAttr, ReplyData, ReplyEntry, ReplyPoll};
+use fuse_reply::{
+    Out, ReplyAttr, ReplyData, ReplyDirectory, ReplyEmpty, ReplyEntry, ReplyOpen, ReplyPoll,
+    ReplyStatfs,
+};
 use fuse_request::{AnyRequest, Operation};
 use fuse_wire::Errno;
 use std::alloc::Global;
@@ -57,6 +60,59 @@ impl<FS: Filesystem> Work for Service<FS> {
                 let reply = ReplyAttr::new(alloc, id);
                 return filesystem
                     .getattr(request, node, getattr.file_handle(), reply)
+                    .into_out();
+            }
+            Operation::SymLink(symlink) => {
+                let reply = ReplyEntry::new(alloc, id);
+                let (link_name, target) = (symlink.link_name(), symlink.target());
+                return filesystem
+                    .symlink(request, node, link_name, target, reply)
+                    .into_out();
+            }
+            Operation::Link(link) => {
+                let reply = ReplyEntry::new(alloc, id);
+                let (ino, dest) = (link.inode_no(), link.dest());
+                return filesystem
+                    .link(request, ino, node, dest.name, reply)
+                    .into_out();
+            }
+            Operation::Open(open) => {
+                let reply = ReplyOpen::new(alloc, id);
+                return filesystem
+                    .open(request, node, open.flags(), reply)
+                    .into_out();
+            }
+            Operation::StatFs(_) => {
+                let reply = ReplyStatfs::new(alloc, id);
+                return filesystem.statfs(request, node, reply).into_out();
+            }
+            Operation::Release(release) => {
+                let reply = ReplyEmpty::new(alloc, id);
+                let fh = release.file_handle();
+                let owner = release.lock_owner();
+                let (flags, flush) = (release.flags(), release.flush());
+                return filesystem
+                    .release(request, node, fh, flags, owner, flush, reply)
+                    .into_out();
+            }
+            Operation::OpenDir(opendir) => {
+                let reply = ReplyOpen::new(alloc, id);
+                return filesystem
+                    .opendir(request, node, opendir.flags(), reply)
+                    .into_out();
+            }
+            Operation::ReadDir(readdir) => {
+                let reply = ReplyDirectory::new(alloc, id, readdir.size() as usize);
+                let (fh, offset) = (readdir.file_handle(), readdir.offset());
+                return filesystem
+                    .readdir(request, node, fh, offset, reply)
+                    .into_out();
+            }
+            Operation::ReleaseDir(releasedir) => {
+                let reply = ReplyEmpty::new(alloc, id);
+                let (fh, flags) = (releasedir.file_handle(), releasedir.flags());
+                return filesystem
+                    .releasedir(request, node, fh, flags, reply)
                     .into_out();
             }
             Operation::Read(read) => match read.offset() {

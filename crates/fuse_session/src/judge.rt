@@ -3,7 +3,7 @@ ghost use Rattle.std.specs.Prelude.{◌≡◌, ℕ, true};
 ghost use Rattle.fuse_request.specs.Header.{header_fields};
 ghost use Rattle.fuse_request.specs.Operation.{plain};
 ghost use Rattle.fuse_session.specs.Decided.{Decides};
-ghost use Rattle.fuse_session.specs.Verdict.{is_unserved, served, verdict};
+ghost use Rattle.fuse_session.specs.Verdict.{is_always_called, is_unserved, served, verdict};
 ghost use Rattle.fuse_session.specs.Verdict.Verdict.{Fixed};
 
 use crate::Verdict;
@@ -33,15 +33,35 @@ pub(crate) fn unserved_error(operation: &Operation<'_>) -> Errno
     }
 }
 
+/// Whether the filesystem is asked this operation, whatever its arguments are.
+fn is_always_called(operation: &Operation<'_>) -> bool
+    ensures { result ≡ is_always_called (plain operation.now) }
+{
+    matches!(
+        operation,
+        Operation::Lookup(_)
+            | Operation::GetAttr(_)
+            | Operation::SymLink(_)
+            | Operation::Link(_)
+            | Operation::Open(_)
+            | Operation::StatFs(_)
+            | Operation::Release(_)
+            | Operation::OpenDir(_)
+            | Operation::ReadDir(_)
+            | Operation::ReleaseDir(_)
+            | Operation::Poll(_)
+    )
+}
+
 /// The verdict on an operation of a user who is served.
 fn judge(operation: Operation<'_>) -> Verdict<'_>
     ensures { (node : ℕ) → Decides node result (served node (plain operation.entry)) }
 {
+    if is_always_called(&operation) {
+        return Verdict::Call(operation);
+    }
     match operation {
         Operation::Forget(forget) => Verdict::Forget(Operation::Forget(forget)),
-        Operation::Lookup(lookup) => Verdict::Call(Operation::Lookup(lookup)),
-        Operation::GetAttr(getattr) => Verdict::Call(Operation::GetAttr(getattr)),
-        Operation::Poll(poll) => Verdict::Call(Operation::Poll(poll)),
         Operation::Read(read) => match read.offset() {
             Ok(_) => Verdict::Call(Operation::Read(read)),
             Err(error) => Verdict::Fixed(error),

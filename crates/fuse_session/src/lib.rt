@@ -9,6 +9,7 @@ mod channel;
 #[cfg(test)]
 mod counting;
 mod decision;
+pub mod defaults;
 mod dispatch;
 mod error;
 mod event_loop;

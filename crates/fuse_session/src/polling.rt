@@ -1,11 +1,14 @@
 // A filesystem for tests, whose polls are told of news.
 ghost use Rattle.std.specs.Prelude.{false, refl};
 
-use crate::Filesystem;
+use crate::{Filesystem, defaults};
 use bitflags::Flags;
 use fuse_config::KernelConfig;
 use fuse_notify::PollNotifier;
-use fuse_reply::{Replied, ReplyAttr, ReplyData, ReplyEntry, ReplyPoll};
+use fuse_reply::{
+    Replied, ReplyAttr, ReplyData, ReplyDirectory, ReplyEmpty, ReplyEntry, ReplyOpen, ReplyPoll,
+    ReplyStatfs,
+};
 use fuse_request::Request;
 use fuse_wire::{Errno, FileHandle, INodeNo, LockOwner, OpenFlags, PollEvents, PollFlags};
 use std::alloc::Global;
@@ -123,6 +126,87 @@ impl<R: Wait + AllocGlobal + Send + Sync> Filesystem for Polling<R> {
             let _ = ph.notify(&self.rt);
         }
         reply.poll(PollEvents::POLLIN)
+    }
+
+    fn symlink(
+        &self,
+        _request: &Request,
+        _parent: INodeNo,
+        _link_name: &[u8],
+        _target: &[u8],
+        reply: ReplyEntry,
+    ) -> Replied {
+        defaults::symlink(reply)
+    }
+
+    fn link(
+        &self,
+        _request: &Request,
+        _ino: INodeNo,
+        _newparent: INodeNo,
+        _newname: &[u8],
+        reply: ReplyEntry,
+    ) -> Replied {
+        defaults::link(reply)
+    }
+
+    fn open(
+        &self,
+        _request: &Request,
+        _ino: INodeNo,
+        _flags: OpenFlags,
+        reply: ReplyOpen,
+    ) -> Replied {
+        defaults::open(reply)
+    }
+
+    fn release(
+        &self,
+        _request: &Request,
+        _ino: INodeNo,
+        _fh: FileHandle,
+        _flags: OpenFlags,
+        _lock_owner: Option<LockOwner>,
+        _flush: bool,
+        reply: ReplyEmpty,
+    ) -> Replied {
+        defaults::release(reply)
+    }
+
+    fn opendir(
+        &self,
+        _request: &Request,
+        _ino: INodeNo,
+        _flags: OpenFlags,
+        reply: ReplyOpen,
+    ) -> Replied {
+        defaults::opendir(reply)
+    }
+
+    fn readdir(
+        &self,
+        _request: &Request,
+        _ino: INodeNo,
+        _fh: FileHandle,
+        _offset: u64,
+        reply: ReplyDirectory,
+    ) -> Replied {
+        defaults::readdir(reply)
+    }
+
+    fn releasedir(
+        &self,
+        _request: &Request,
+        _ino: INodeNo,
+        _fh: FileHandle,
+        _flags: OpenFlags,
+        reply: ReplyEmpty,
+    ) -> Replied {
+        defaults::releasedir(reply)
+    }
+
+    fn statfs(&self, _request: &Request, _ino: INodeNo, reply: ReplyStatfs) -> Replied {
+        defaults::statfs(reply)
     }
 
     fn destroy(&mut self) {}

@@ -7,7 +7,8 @@ use crate::test_messages::{
 use fuse_config::{Config, SessionACL};
 use fuse_request::opcode::{
     FUSE_BATCH_FORGET, FUSE_COPY_FILE_RANGE, FUSE_FALLOCATE, FUSE_INIT, FUSE_INTERRUPT, FUSE_IOCTL,
-    FUSE_LSEEK, FUSE_NOTIFY_REPLY, FUSE_READ, FUSE_READDIR, FUSE_STATFS, FUSE_WRITE,
+    FUSE_LSEEK, FUSE_NOTIFY_REPLY, FUSE_READ, FUSE_READDIRPLUS, FUSE_READLINK, FUSE_STATFS,
+    FUSE_WRITE,
 };
 use fuse_wire::{Items, MemorySink, MemorySource, Turn};
 use std::alloc::{AllocError, Global};
@@ -82,10 +83,10 @@ fn refuses_by_what_is_asked(rt: HostRuntime) -> Result<(), Fail> {
         (FUSE_INTERRUPT, 9, 40, 0, ENOSYS),
         (FUSE_NOTIFY_REPLY, 10, 40, 0, ENOSYS),
         (FUSE_IOCTL, 11, 48, 2, ENOSYS),
-        // STATFS, BATCH_FORGET, and READDIR and LSEEK, whose offsets are not looked at
-        (FUSE_STATFS, 12, 40, 0, ENOSYS),
+        // READLINK, BATCH_FORGET, and READDIRPLUS and LSEEK, whose offsets are not looked at
+        (FUSE_READLINK, 12, 40, 0, ENOSYS),
         (FUSE_BATCH_FORGET, 13, 40, 0, ENOSYS),
-        (FUSE_READDIR, 14, 55, 0x80, ENOSYS),
+        (FUSE_READDIRPLUS, 14, 55, 0x80, ENOSYS),
         (FUSE_LSEEK, 15, 55, 0x80, ENOSYS),
         // another INIT
         (FUSE_INIT, 16, 40, 7, EIO),
@@ -105,10 +106,10 @@ fn refuses_a_write_before_the_file(rt: HostRuntime) -> Result<(), Fail> {
 #[test]
 fn refuses_whom_it_does_not_serve(rt: HostRuntime) -> Result<(), Fail> {
     let rows = [
-        // READ, WRITE, READDIR, BATCH_FORGET and INIT pass
+        // READ, WRITE, READDIRPLUS, BATCH_FORGET and INIT pass
         (FUSE_READ, 2, 55, 0x80, EINVAL),
         (FUSE_WRITE, 3, 55, 0x80, EINVAL),
-        (FUSE_READDIR, 4, 40, 0, ENOSYS),
+        (FUSE_READDIRPLUS, 4, 40, 0, ENOSYS),
         (FUSE_BATCH_FORGET, 5, 40, 0, ENOSYS),
         (FUSE_INIT, 6, 40, 7, EIO),
         // FALLOCATE, COPY_FILE_RANGE, INTERRUPT, NOTIFY_REPLY, IOCTL, STATFS and LSEEK do not

@@ -8,7 +8,8 @@ use crate::{Verdict, verdict};
 use fuse_config::SessionACL;
 use fuse_request::opcode::{
     FUSE_BATCH_FORGET, FUSE_COPY_FILE_RANGE, FUSE_DESTROY, FUSE_FALLOCATE, FUSE_INTERRUPT,
-    FUSE_IOCTL, FUSE_NOTIFY_REPLY, FUSE_STATFS, FUSE_WRITE,
+    FUSE_IOCTL, FUSE_LINK, FUSE_NOTIFY_REPLY, FUSE_OPEN, FUSE_OPENDIR, FUSE_POLL, FUSE_READDIR,
+    FUSE_READLINK, FUSE_RELEASE, FUSE_RELEASEDIR, FUSE_STATFS, FUSE_SYMLINK, FUSE_WRITE,
 };
 use fuse_request::{Operation, RequestError};
 use std::process::Abort;
@@ -158,10 +159,33 @@ fn rules_on_what_is_asked(rt: HostRuntime) {
             &with_argument(FUSE_BATCH_FORGET, 2, 40, 0),
             Ruling::Fixed(ENOSYS),
         ),
-        (&with_argument(FUSE_STATFS, 2, 40, 0), Ruling::Fixed(ENOSYS)),
+        (
+            &with_argument(FUSE_READLINK, 2, 40, 0),
+            Ruling::Fixed(ENOSYS),
+        ),
         (&short_forget(2, 5), Ruling::Fixed(ENOSYS)),
         (&forget(2, 5), Ruling::Forget(1)),
         (&getattr(2, 5), Ruling::GetAttr),
     ];
     rules(&rt, SessionACL::Owner, &rows);
+}
+
+#[test]
+fn the_filesystem_is_asked(rt: HostRuntime) {
+    let opcodes = [
+        FUSE_SYMLINK,
+        FUSE_LINK,
+        FUSE_OPEN,
+        FUSE_STATFS,
+        FUSE_RELEASE,
+        FUSE_OPENDIR,
+        FUSE_READDIR,
+        FUSE_RELEASEDIR,
+        FUSE_POLL,
+    ];
+    for opcode in opcodes {
+        let message = with_argument(opcode, 2, 40, 0);
+        let found = ruling_of(&verdict(SessionACL::Owner, 5, &message));
+        assert_eq!(rt; found, Ruling::Other, "opcode {opcode}");
+    }
 }

@@ -1,15 +1,16 @@
 -- A directory with one file in it, and what each call to it gives.
 use Rattle.std.specs.Prelude.{◌≡◌, ◌==◌, ◌&&◌, ℕ, false, List, Option, None, Some, Ok, pos, codes, take, drop, if◌then◌else◌}
 use Rattle.std.specs.Str.{bytes_eq}
-use Rattle.fuse_wire.specs.ErrorNumbers.{ENOENT, ENOSYS}
+use Rattle.fuse_wire.specs.ErrorNumbers.{ENOENT}
 use Rattle.fuse_wire.specs.declared.file_attr.FileAttr.{FileAttr}
 use Rattle.fuse_wire.specs.declared.file_attr.FileType.{FileType}
 use Rattle.fuse_wire.specs.declared.file_attr.FileType.TheVariants.{Directory, RegularFile}
 use Rattle.fuse_request.specs.Call.{Call}
-use Rattle.fuse_request.specs.Call.Call.{Lookup, Forget, GetAttr, Read, Poll}
+use Rattle.fuse_request.specs.Call.Call.{Lookup, Forget, GetAttr, Read}
 use Rattle.fuse_reply.specs.Answer.{Answer}
 use Rattle.fuse_reply.specs.Answer.Answer.{Error, Data, Entry, Attr}
 use Rattle.fuse_session.specs.Promise.{Promise}
+use Rattle.fuse_session.specs.Defaults.{default_answer}
 use Rattle.uses.specs.declared.one_file.OneFile.{OneFile}
 
 -- attributes of a node that belongs to root, whose times are 0
@@ -56,14 +57,12 @@ abbrev pub attr_or_enoent : Option FileAttr → Answer
 attr_or_enoent None = Error ENOENT
 attr_or_enoent (Some found) = Attr 1000000000 found
 
--- the one answer to a call; a forget has none
-abbrev pub answer : Call → Option Answer
-answer (Lookup parent name) = Some (entry_or_enoent (named parent name))
-answer (GetAttr ino fh) = Some (attr_or_enoent (attr_of ino))
-answer (Read ino fh offset size flags lock_owner) =
-    Some (if ino == 2 then Data (take size (drop offset contents)) else Error ENOENT)
-answer (Poll ino fh kh events flags) = Some (Error ENOSYS)
-answer c = None
+-- the one answer to a call
+abbrev pub answer : Call → Answer
+answer (Lookup parent name) = entry_or_enoent (named parent name)
+answer (GetAttr ino fh) = attr_or_enoent (attr_of ino)
+answer (Read ino fh offset size flags lock_owner) = if ino == 2 then Data (take size (drop offset contents)) else Error ENOENT
+answer c = default_answer c
 
 -- the mark of a forget: how many lookups it gives back
 abbrev pub mark : Call → Option ℕ
@@ -74,7 +73,7 @@ mark c = None
 abbrev pub promise : Promise OneFile
 promise = record {
   may_init = λ old request before result new after. (result ≡ Ok tt) × (after ≡ before);
-  may_answer = λ fs request call a. answer call ≡ Some a;
+  may_answer = λ fs request call a. answer call ≡ a;
   may_note = λ fs request call m. mark call ≡ Some m;
   may_destroy = λ old new. new ≡ old;
   defers = false;

@@ -4,9 +4,12 @@ ghost use Rattle.uses.specs.OneFile.{attr, attr_of, named, promise};
 
 use fuse_config::KernelConfig;
 use fuse_notify::PollNotifier;
-use fuse_reply::{Replied, ReplyAttr, ReplyData, ReplyEntry, ReplyPoll};
+use fuse_reply::{
+    Replied, ReplyAttr, ReplyData, ReplyDirectory, ReplyEmpty, ReplyEntry, ReplyOpen, ReplyPoll,
+    ReplyStatfs,
+};
 use fuse_request::Request;
-use fuse_session::Filesystem;
+use fuse_session::{Filesystem, defaults};
 use fuse_wire::{
     Duration, Errno, FileAttr, FileHandle, FileType, Generation, INodeNo, LockOwner, OpenFlags,
     PollEvents, PollFlags, SystemTime,
@@ -140,6 +143,87 @@ impl Filesystem for OneFile {
         }
     }
 
+    fn symlink(
+        &self,
+        _request: &Request,
+        _parent: INodeNo,
+        _link_name: &[u8],
+        _target: &[u8],
+        reply: ReplyEntry,
+    ) -> Replied {
+        defaults::symlink(reply)
+    }
+
+    fn link(
+        &self,
+        _request: &Request,
+        _ino: INodeNo,
+        _newparent: INodeNo,
+        _newname: &[u8],
+        reply: ReplyEntry,
+    ) -> Replied {
+        defaults::link(reply)
+    }
+
+    fn open(
+        &self,
+        _request: &Request,
+        _ino: INodeNo,
+        _flags: OpenFlags,
+        reply: ReplyOpen,
+    ) -> Replied {
+        defaults::open(reply)
+    }
+
+    fn release(
+        &self,
+        _request: &Request,
+        _ino: INodeNo,
+        _fh: FileHandle,
+        _flags: OpenFlags,
+        _lock_owner: Option<LockOwner>,
+        _flush: bool,
+        reply: ReplyEmpty,
+    ) -> Replied {
+        defaults::release(reply)
+    }
+
+    fn opendir(
+        &self,
+        _request: &Request,
+        _ino: INodeNo,
+        _flags: OpenFlags,
+        reply: ReplyOpen,
+    ) -> Replied {
+        defaults::opendir(reply)
+    }
+
+    fn readdir(
+        &self,
+        _request: &Request,
+        _ino: INodeNo,
+        _fh: FileHandle,
+        _offset: u64,
+        reply: ReplyDirectory,
+    ) -> Replied {
+        defaults::readdir(reply)
+    }
+
+    fn releasedir(
+        &self,
+        _request: &Request,
+        _ino: INodeNo,
+        _fh: FileHandle,
+        _flags: OpenFlags,
+        reply: ReplyEmpty,
+    ) -> Replied {
+        defaults::releasedir(reply)
+    }
+
+    fn statfs(&self, _request: &Request, _ino: INodeNo, reply: ReplyStatfs) -> Replied {
+        defaults::statfs(reply)
+    }
+
     fn poll(
         &self,
         _request: &Request,
@@ -150,7 +234,7 @@ impl Filesystem for OneFile {
         _flags: PollFlags,
         reply: ReplyPoll,
     ) -> Replied {
-        reply.error(Errno::ENOSYS)
+        defaults::poll(reply)
     }
 
     fn destroy(&mut self) {}

@@ -45,5 +45,6 @@ returns-in_default-clause-owed g c m decodes =
     (subst (λ (v : Verdict). OwedBy g.FS.Filesystem.promise c.args.self.now.filesystem (request_of (header_of c.args.request.now)) v c.args._seq
     (header_of c.args.request.now).unique.0 c.refusal-in_default.result)
     (sym (c.unserved_error.ensures (unserved-others c.in-Ok.operation c.in_default.not-Lookup c.in_default.not-Forget c.in_default.not-GetAttr
-    c.in_default.not-Read c.in_default.not-Poll) (header_of c.args.request.now).nodeid.0))
+    c.in_default.not-SymLink c.in_default.not-Link c.in_default.not-Open c.in_default.not-StatFs c.in_default.not-Release c.in_default.not-OpenDir
+    c.in_default.not-ReadDir c.in_default.not-ReleaseDir c.in_default.not-Read c.in_default.not-Poll) (header_of c.args.request.now).nodeid.0))
     (search rules))

@@ -1,4 +1,4 @@
-use Rattle.std.proofs.Common.{◌∙◌, sym, ap, Option, Some}
+use Rattle.std.proofs.Common.{◌∙◌, sym, ap, Option}
 use Rattle.fuse_wire.specs.ErrorNumbers.{ENOENT}
 use Rattle.fuse_wire.specs.declared.file_attr.FileAttr.{FileAttr}
 use Rattle.fuse_reply.specs.Answer.Answer.{Entry}
@@ -9,12 +9,12 @@ use Rattle.uses.proofs.one_file.OneFileFilesystem.lookup.Goals as goal
 pub returns-in-Some : goal.returns-in-Some
 returns-in-Some c =
     Answered-frame (Entry c.a_second.result c.a_second.result 0 c.in-Some.found) tt c.entry.ensures.answer
-    (ap (λ (found : Option FileAttr). Some (entry_or_enoent found)) (sym c.named.ensures ∙ c.in-Some.is)
-    ∙ ap (λ valid. Some (Entry valid valid 0 c.in-Some.found)) (sym c.a_second.ensures))
+    (ap (λ (found : Option FileAttr). entry_or_enoent found) (sym c.named.ensures ∙ c.in-Some.is)
+    ∙ ap (λ valid. Entry valid valid 0 c.in-Some.found) (sym c.a_second.ensures))
     c.entry.ensures.reply
 
 pub returns-in-None : goal.returns-in-None
 returns-in-None c =
     Answered-error ENOENT c.error.ensures.answer.0 c.error.ensures.answer.1
-    (ap (λ (found : Option FileAttr). Some (entry_or_enoent found)) (sym c.named.ensures ∙ c.in-None.is))
+    (ap (λ (found : Option FileAttr). entry_or_enoent found) (sym c.named.ensures ∙ c.in-None.is))
     c.error.ensures.reply
