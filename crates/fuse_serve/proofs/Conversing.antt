@@ -170,8 +170,10 @@ SessionWell-bytes form input input' output output' tree fine = record {
   opens_well = subst OpensWell (sym (front-whole fine.bytes (cut fine.bytes) [] (sym (append-nil (cut fine.bytes))))) fine.opens_well;
   accepts = AcceptsAll-tree tree;
   served = λ is. threads-some form.threads fine.served is;
-  same = fine.input_still.0;
-  counts = let same = fine.input_still.0 in let low = fine.input_still.1 in omega arith;
+  unfailing = record {
+    same = fine.input_still.0;
+    counts = let same = fine.input_still.0 in let low = fine.input_still.1 in omega arith;
+  };
 } where
   threads-some : (n : ℕ) → 0 < n → Some n ≡ Some 0 → ⊥
   threads-some n some is = let none : n ≡ 0 = same_some n 0 is in omega arith

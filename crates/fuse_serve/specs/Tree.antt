@@ -7,7 +7,7 @@ use Rattle.fuse_wire.specs.declared.file_attr.FileAttr.{FileAttr}
 use Rattle.fuse_wire.specs.declared.file_attr.FileType.{FileType}
 use Rattle.fuse_wire.specs.declared.file_attr.FileType.TheVariants.{Directory, RegularFile}
 use Rattle.fuse_request.specs.Call.{Call}
-use Rattle.fuse_request.specs.Call.Call.{Lookup, Forget, GetAttr, Read, ReadDir}
+use Rattle.fuse_request.specs.Call.Call.{Lookup, Forget, GetAttr, Read, ReadDir, BatchForget}
 use Rattle.fuse_reply.specs.Answer.{Answer}
 use Rattle.fuse_reply.specs.Answer.Answer.{Error, Data, Entry, Attr, Directory as Entries}
 use Rattle.fuse_reply.specs.Listing.{DirEntry, dirent}
@@ -99,9 +99,10 @@ tree_answer (Read ino fh offset size flags lock_owner) = bytes offset size (cont
 tree_answer (ReadDir ino fh offset size) = listed ino offset size
 tree_answer c = default_answer c
 
--- the mark of a forget: how many lookups it gives back
+-- the mark of a forget: how many lookups it gives back, or of how many inodes a batch gives back some
 abbrev pub tree_mark : Call → Option ℕ
 tree_mark (Forget ino nlookup) = Some nlookup
+tree_mark (BatchForget rows) = Some (length rows)
 tree_mark c = None
 
 -- the tree accepts each INIT, and leaves what is negotiated as it is

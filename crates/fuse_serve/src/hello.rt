@@ -6,14 +6,16 @@ ghost use Rattle.fuse_serve.specs.Tree.{attr, contents, fitting, member, members
 use fuse_config::KernelConfig;
 use fuse_notify::PollNotifier;
 use fuse_reply::{
-    Replied, ReplyAttr, ReplyData, ReplyDirectory, ReplyEmpty, ReplyEntry, ReplyOpen, ReplyPoll,
-    ReplyStatfs,
+    Replied, ReplyAttr, ReplyBmap, ReplyCreate, ReplyData, ReplyDirectory, ReplyDirectoryPlus,
+    ReplyEmpty, ReplyEntry, ReplyIoctl, ReplyLock, ReplyLseek, ReplyOpen, ReplyPoll, ReplyStatfs,
+    ReplyWrite, ReplyXattr,
 };
-use fuse_request::Request;
+use fuse_request::{ForgetList, Request};
 use fuse_session::{Filesystem, defaults};
 use fuse_wire::{
-    Duration, Errno, FileAttr, FileHandle, FileType, Generation, INodeNo, LockOwner, OpenFlags,
-    PollEvents, PollFlags, SystemTime,
+    AccessFlags, BsdFileFlags, CopyFileRangeFlags, Duration, Errno, FileAttr, FileHandle, FileType,
+    Generation, INodeNo, IoctlFlags, LockOwner, OpenFlags, PollEvents, PollFlags, RenameFlags,
+    SystemTime, TimeOrNow, WriteFlags,
 };
 
 /// What `hello.txt` holds.
@@ -155,7 +157,7 @@ impl Filesystem for Hello {
     ghost DEFERS = { false };
 
     fn init(&mut self, _request: &Request, _config: &mut KernelConfig) -> Result<(), Errno> {
-        Ok(())
+        defaults::init()
     }
 
     fn lookup(
@@ -191,22 +193,29 @@ impl Filesystem for Hello {
         reply.attr(&a_second(), &found)
     }
 
-    #[inline(always)]
-    fn read(
+    fn setattr(
         &self,
         _request: &Request,
-        ino: INodeNo,
-        _fh: FileHandle,
-        offset: u64,
-        size: u32,
-        _flags: OpenFlags,
-        _lock_owner: Option<LockOwner>,
-        reply: ReplyData,
+        _ino: INodeNo,
+        _mode: Option<u32>,
+        _uid: Option<u32>,
+        _gid: Option<u32>,
+        _size: Option<u64>,
+        _atime: Option<TimeOrNow>,
+        _mtime: Option<TimeOrNow>,
+        _ctime: Option<SystemTime>,
+        _fh: Option<FileHandle>,
+        _crtime: Option<SystemTime>,
+        _chgtime: Option<SystemTime>,
+        _bkuptime: Option<SystemTime>,
+        _flags: Option<BsdFileFlags>,
+        reply: ReplyAttr,
     ) -> Replied {
-        let Some(all) = contents(ino.0) else {
-            return reply.error(Errno::ENOENT);
-        };
-        reply.data(part(all, offset, size))
+        defaults::setattr(reply)
+    }
+
+    fn readlink(&self, _request: &Request, _ino: INodeNo, reply: ReplyData) -> Replied {
+        defaults::readlink(reply)
     }
 
     fn symlink(
@@ -218,6 +227,64 @@ impl Filesystem for Hello {
         reply: ReplyEntry,
     ) -> Replied {
         defaults::symlink(reply)
+    }
+
+    fn mknod(
+        &self,
+        _request: &Request,
+        _parent: INodeNo,
+        _name: &[u8],
+        _mode: u32,
+        _umask: u32,
+        _rdev: u32,
+        reply: ReplyEntry,
+    ) -> Replied {
+        defaults::mknod(reply)
+    }
+
+    fn mkdir(
+        &self,
+        _request: &Request,
+        _parent: INodeNo,
+        _name: &[u8],
+        _mode: u32,
+        _umask: u32,
+        reply: ReplyEntry,
+    ) -> Replied {
+        defaults::mkdir(reply)
+    }
+
+    fn unlink(
+        &self,
+        _request: &Request,
+        _parent: INodeNo,
+        _name: &[u8],
+        reply: ReplyEmpty,
+    ) -> Replied {
+        defaults::unlink(reply)
+    }
+
+    fn rmdir(
+        &self,
+        _request: &Request,
+        _parent: INodeNo,
+        _name: &[u8],
+        reply: ReplyEmpty,
+    ) -> Replied {
+        defaults::rmdir(reply)
+    }
+
+    fn rename(
+        &self,
+        _request: &Request,
+        _parent: INodeNo,
+        _name: &[u8],
+        _newparent: INodeNo,
+        _newname: &[u8],
+        _flags: RenameFlags,
+        reply: ReplyEmpty,
+    ) -> Replied {
+        defaults::rename(reply)
     }
 
     fn link(
@@ -241,6 +308,43 @@ impl Filesystem for Hello {
         defaults::open(reply)
     }
 
+    #[inline(always)]
+    fn read(
+        &self,
+        _request: &Request,
+        ino: INodeNo,
+        _fh: FileHandle,
+        offset: u64,
+        size: u32,
+        _flags: OpenFlags,
+        _lock_owner: Option<LockOwner>,
+        reply: ReplyData,
+    ) -> Replied {
+        let Some(all) = contents(ino.0) else {
+            return reply.error(Errno::ENOENT);
+        };
+        reply.data(part(all, offset, size))
+    }
+
+    fn write(
+        &self,
+        _request: &Request,
+        _ino: INodeNo,
+        _fh: FileHandle,
+        _offset: u64,
+        _written: &[u8],
+        _write_flags: WriteFlags,
+        _flags: OpenFlags,
+        _lock_owner: Option<LockOwner>,
+        reply: ReplyWrite,
+    ) -> Replied {
+        defaults::write(reply)
+    }
+
+    fn statfs(&self, _request: &Request, _ino: INodeNo, reply: ReplyStatfs) -> Replied {
+        defaults::statfs(reply)
+    }
+
     fn release(
         &self,
         _request: &Request,
@@ -252,6 +356,72 @@ impl Filesystem for Hello {
         reply: ReplyEmpty,
     ) -> Replied {
         defaults::release(reply)
+    }
+
+    fn fsync(
+        &self,
+        _request: &Request,
+        _ino: INodeNo,
+        _fh: FileHandle,
+        _datasync: bool,
+        reply: ReplyEmpty,
+    ) -> Replied {
+        defaults::fsync(reply)
+    }
+
+    fn setxattr(
+        &self,
+        _request: &Request,
+        _ino: INodeNo,
+        _name: &[u8],
+        _value: &[u8],
+        _flags: i32,
+        _position: u32,
+        reply: ReplyEmpty,
+    ) -> Replied {
+        defaults::setxattr(reply)
+    }
+
+    fn getxattr(
+        &self,
+        _request: &Request,
+        _ino: INodeNo,
+        _name: &[u8],
+        _size: u32,
+        reply: ReplyXattr,
+    ) -> Replied {
+        defaults::getxattr(reply)
+    }
+
+    fn listxattr(
+        &self,
+        _request: &Request,
+        _ino: INodeNo,
+        _size: u32,
+        reply: ReplyXattr,
+    ) -> Replied {
+        defaults::listxattr(reply)
+    }
+
+    fn removexattr(
+        &self,
+        _request: &Request,
+        _ino: INodeNo,
+        _name: &[u8],
+        reply: ReplyEmpty,
+    ) -> Replied {
+        defaults::removexattr(reply)
+    }
+
+    fn flush(
+        &self,
+        _request: &Request,
+        _ino: INodeNo,
+        _fh: FileHandle,
+        _lock_owner: LockOwner,
+        reply: ReplyEmpty,
+    ) -> Replied {
+        defaults::flush(reply)
     }
 
     fn opendir(
@@ -290,8 +460,94 @@ impl Filesystem for Hello {
         defaults::releasedir(reply)
     }
 
-    fn statfs(&self, _request: &Request, _ino: INodeNo, reply: ReplyStatfs) -> Replied {
-        defaults::statfs(reply)
+    fn fsyncdir(
+        &self,
+        _request: &Request,
+        _ino: INodeNo,
+        _fh: FileHandle,
+        _datasync: bool,
+        reply: ReplyEmpty,
+    ) -> Replied {
+        defaults::fsyncdir(reply)
+    }
+
+    fn getlk(
+        &self,
+        _request: &Request,
+        _ino: INodeNo,
+        _fh: FileHandle,
+        _lock_owner: LockOwner,
+        _start: u64,
+        _end: u64,
+        _typ: i32,
+        _pid: u32,
+        reply: ReplyLock,
+    ) -> Replied {
+        defaults::getlk(reply)
+    }
+
+    fn setlk(
+        &self,
+        _request: &Request,
+        _ino: INodeNo,
+        _fh: FileHandle,
+        _lock_owner: LockOwner,
+        _start: u64,
+        _end: u64,
+        _typ: i32,
+        _pid: u32,
+        _sleep: bool,
+        reply: ReplyEmpty,
+    ) -> Replied {
+        defaults::setlk(reply)
+    }
+
+    fn access(
+        &self,
+        _request: &Request,
+        _ino: INodeNo,
+        _mask: AccessFlags,
+        reply: ReplyEmpty,
+    ) -> Replied {
+        defaults::access(reply)
+    }
+
+    fn create(
+        &self,
+        _request: &Request,
+        _parent: INodeNo,
+        _name: &[u8],
+        _mode: u32,
+        _umask: u32,
+        _flags: i32,
+        reply: ReplyCreate,
+    ) -> Replied {
+        defaults::create(reply)
+    }
+
+    fn bmap(
+        &self,
+        _request: &Request,
+        _ino: INodeNo,
+        _blocksize: u32,
+        _idx: u64,
+        reply: ReplyBmap,
+    ) -> Replied {
+        defaults::bmap(reply)
+    }
+
+    fn ioctl(
+        &self,
+        _request: &Request,
+        _ino: INodeNo,
+        _fh: FileHandle,
+        _flags: IoctlFlags,
+        _cmd: u32,
+        _in_data: &[u8],
+        _out_size: u32,
+        reply: ReplyIoctl,
+    ) -> Replied {
+        defaults::ioctl(reply)
     }
 
     fn poll(
@@ -307,7 +563,65 @@ impl Filesystem for Hello {
         defaults::poll(reply)
     }
 
-    fn destroy(&mut self) {}
+    fn batch_forget(&self, _request: &Request, nodes: ForgetList<'_>) -> u64 {
+        nodes.len() as u64
+    }
+
+    fn fallocate(
+        &self,
+        _request: &Request,
+        _ino: INodeNo,
+        _fh: FileHandle,
+        _offset: u64,
+        _length: u64,
+        _mode: i32,
+        reply: ReplyEmpty,
+    ) -> Replied {
+        defaults::fallocate(reply)
+    }
+
+    fn readdirplus(
+        &self,
+        _request: &Request,
+        _ino: INodeNo,
+        _fh: FileHandle,
+        _offset: u64,
+        reply: ReplyDirectoryPlus,
+    ) -> Replied {
+        defaults::readdirplus(reply)
+    }
+
+    fn lseek(
+        &self,
+        _request: &Request,
+        _ino: INodeNo,
+        _fh: FileHandle,
+        _offset: i64,
+        _whence: i32,
+        reply: ReplyLseek,
+    ) -> Replied {
+        defaults::lseek(reply)
+    }
+
+    fn copy_file_range(
+        &self,
+        _request: &Request,
+        _ino_in: INodeNo,
+        _fh_in: FileHandle,
+        _offset_in: u64,
+        _ino_out: INodeNo,
+        _fh_out: FileHandle,
+        _offset_out: u64,
+        _len: u64,
+        _flags: CopyFileRangeFlags,
+        reply: ReplyWrite,
+    ) -> Replied {
+        defaults::copy_file_range(reply)
+    }
+
+    fn destroy(&mut self) {
+        defaults::destroy()
+    }
 
     ghost deferral = { refl };
 }

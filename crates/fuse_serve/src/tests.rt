@@ -51,6 +51,33 @@ const LOOKUP: &[u8; 45] =
 const NEXT_LOOKUP: &[u8; 45] =
     b"\x2d\0\0\0\x01\0\0\0\x03\0\0\0\0\0\0\0\x01\0\0\0\0\0\0\0\0\0\0\0\0\0\0\0\0\0\0\0\0\0\0\0none\0";
 
+/// A BATCH_FORGET with the id 2, of one lookup of node 2 and four of node 3.
+const BATCH_FORGET: &[u8; 80] =
+    b"\x50\0\0\0\x2a\0\0\0\x02\0\0\0\0\0\0\0\0\0\0\0\0\0\0\0\0\0\0\0\0\0\0\0\0\0\0\0\0\0\0\0\x02\0\0\0\0\0\0\0\x02\0\0\0\0\0\0\0\x01\0\0\0\0\0\0\0\x03\0\0\0\0\0\0\0\x04\0\0\0\0\0\0\0";
+
+/// A READLINK of node 2 with the id 2.
+const READLINK: &[u8; 40] =
+    b"\x28\0\0\0\x05\0\0\0\x02\0\0\0\0\0\0\0\x02\0\0\0\0\0\0\0\0\0\0\0\0\0\0\0\0\0\0\0\0\0\0\0";
+
+/// A SETATTR of node 2 with the id 2, but for the 48 zero bytes at its end: the size 5.
+const SETATTR: &[u8; 80] =
+    b"\x80\0\0\0\x04\0\0\0\x02\0\0\0\0\0\0\0\x02\0\0\0\0\0\0\0\0\0\0\0\0\0\0\0\0\0\0\0\0\0\0\0\x08\0\0\0\0\0\0\0\0\0\0\0\0\0\0\0\x05\0\0\0\0\0\0\0\0\0\0\0\0\0\0\0\0\0\0\0\0\0\0\0";
+
+/// A WRITE of `hello` to node 2 with the id 2.
+const WRITE: &[u8; 85] =
+    b"\x55\0\0\0\x10\0\0\0\x02\0\0\0\0\0\0\0\x02\0\0\0\0\0\0\0\0\0\0\0\0\0\0\0\0\0\0\0\0\0\0\0\0\0\0\0\0\0\0\0\0\0\0\0\0\0\0\0\x05\0\0\0\0\0\0\0\0\0\0\0\0\0\0\0\0\0\0\0\0\0\0\0hello";
+
+/// A GETXATTR of `user.a` of node 2 with the id 2.
+const GETXATTR: &[u8; 55] =
+    b"\x37\0\0\0\x16\0\0\0\x02\0\0\0\0\0\0\0\x02\0\0\0\0\0\0\0\0\0\0\0\0\0\0\0\0\0\0\0\0\0\0\0\x40\0\0\0\0\0\0\0user.a\0";
+
+/// An LSEEK of node 2 with the id 2, from the offset -1 to the next contents.
+const LSEEK: &[u8; 64] =
+    b"\x40\0\0\0\x2e\0\0\0\x02\0\0\0\0\0\0\0\x02\0\0\0\0\0\0\0\0\0\0\0\0\0\0\0\0\0\0\0\0\0\0\0\0\0\0\0\0\0\0\0\xff\xff\xff\xff\xff\xff\xff\xff\x03\0\0\0\0\0\0\0";
+
+/// The reply ENOSYS to the id 2.
+const NO_CALL: &[u8; 16] = b"\x10\0\0\0\xda\xff\xff\xff\x02\0\0\0\0\0\0\0";
+
 /// These parts joined.
 fn joined(alloc: Global, parts: &[&[u8]]) -> Result<Vec<u8>, AllocError> {
     let mut bytes = Vec::new(alloc);
@@ -163,6 +190,25 @@ fn inputs_have_their_status_and_frames(rt: HostRuntime) -> Result<(), Fail> {
         assert!(rt;
             ends_so(&rt, &FORM, parts, *status, written, b"")?,
             "input {at}"
+        );
+    }
+    Ok(())
+}
+
+#[test]
+fn requests_have_their_frames(rt: HostRuntime) -> Result<(), Fail> {
+    let cases: [(&[&[u8]], &[&[u8]]); 6] = [
+        (&[INIT, ZEROS, BATCH_FORGET], &[REPLY]),
+        (&[INIT, ZEROS, READLINK], &[REPLY, NO_CALL]),
+        (&[INIT, ZEROS, SETATTR, ZEROS], &[REPLY, NO_CALL]),
+        (&[INIT, ZEROS, WRITE], &[REPLY, NO_CALL]),
+        (&[INIT, ZEROS, GETXATTR], &[REPLY, NO_CALL]),
+        (&[INIT, ZEROS, LSEEK], &[REPLY, NO_CALL]),
+    ];
+    for (at, (parts, written)) in cases.iter().enumerate() {
+        assert!(rt;
+            ends_so(&rt, &FORM, parts, 0, written, b"")?,
+            "request {at}"
         );
     }
     Ok(())

@@ -9,7 +9,7 @@ use std::sync::Wait;
 use std::test::Fail;
 
 /// A request of anybody, by its opcode, its node and its body, and the lowest byte of the status and the payload that it gets.
-type Case<'a> = (u8, u8, &'a [u8], u8, &'a [u8]);
+type Case<'a> = (u16, u8, &'a [u8], u8, &'a [u8]);
 
 /// A length below 256.
 fn short(length: usize) -> u8 {
@@ -19,14 +19,14 @@ fn short(length: usize) -> u8 {
 /// A message with the id 2, gid and pid 0, and this body.
 fn message(
     alloc: Global,
-    opcode: u8,
+    opcode: u16,
     node: u8,
     uid: u8,
     body: &[u8],
 ) -> Result<Vec<u8>, AllocError> {
     let mut bytes = vec![in alloc; 0; 40]?;
     bytes[0] = short(body.len().saturating_add(40));
-    bytes[4] = opcode;
+    bytes[4..6].copy_from_slice(&opcode.to_le_bytes());
     bytes[8] = 2;
     bytes[16] = node;
     bytes[24] = uid;
@@ -148,14 +148,33 @@ fn serves<R: Wait + AllocGlobal + Abort>(
     Ok(())
 }
 
-/// Serves requests of anybody, in one session, each with its one frame.
-fn serve_all<R: Wait + AllocGlobal + Abort>(rt: &R, cases: &[Case<'_>]) -> Result<(), AllocError> {
+/// Whether a request passes whoever sends it: INIT, DESTROY, forgets, and those that go by an open file.
+fn passes(opcode: u16) -> bool {
+    matches!(
+        opcode,
+        2 | 15 | 16 | 18 | 20 | 26 | 28 | 29 | 30 | 38 | 42 | 44
+    )
+}
+
+/// Serves requests of this user, in one session, each with its one frame: its own where the user is served, and EACCES
+/// where not.
+fn serve_user<R: Wait + AllocGlobal + Abort>(
+    rt: &R,
+    acl: SessionACL,
+    uid: u8,
+    is_served: bool,
+    cases: &[Case<'_>],
+) -> Result<(), AllocError> {
     let alloc = rt.alloc();
     let mut messages = Vec::new(alloc);
     let mut replies = Vec::new(alloc);
     for (opcode, node, body, status, payload) in cases {
-        messages.push(message(alloc, *opcode, *node, 0, body)?)?;
-        replies.push(frame(alloc, *status, payload)?)?;
+        messages.push(message(alloc, *opcode, *node, uid, body)?)?;
+        if is_served || passes(*opcode) {
+            replies.push(frame(alloc, *status, payload)?)?;
+        } else {
+            replies.push(frame(alloc, 0xf3, b"")?)?;
+        }
     }
     let mut requests: Vec<&[u8]> = Vec::new(alloc);
     let mut frames: Vec<&[u8]> = Vec::new(alloc);
@@ -163,7 +182,12 @@ fn serve_all<R: Wait + AllocGlobal + Abort>(rt: &R, cases: &[Case<'_>]) -> Resul
         requests.push(message)?;
         frames.push(reply)?;
     }
-    serves(rt, SessionACL::All, &requests, &frames, &[])
+    serves(rt, acl, &requests, &frames, &[])
+}
+
+/// Serves requests of anybody, in one session, each with its one frame.
+fn serve_all<R: Wait + AllocGlobal + Abort>(rt: &R, cases: &[Case<'_>]) -> Result<(), AllocError> {
+    serve_user(rt, SessionACL::All, 0, true, cases)
 }
 
 #[test]
@@ -217,11 +241,20 @@ fn contents(rt: HostRuntime) -> Result<(), Fail> {
     Ok(())
 }
 
+/// The body of a BATCH_FORGET: one lookup of node 2, and four of node 3.
+const TWO_ROWS: [u8; 40] = [
+    2, 0, 0, 0, 0, 0, 0, 0, 2, 0, 0, 0, 0, 0, 0, 0, 1, 0, 0, 0, 0, 0, 0, 0, 3, 0, 0, 0, 0, 0, 0, 0,
+    4, 0, 0, 0, 0, 0, 0, 0,
+];
+
 #[test]
 fn forgets_and_whom_it_serves(rt: HostRuntime) -> Result<(), Fail> {
     let alloc = rt.alloc();
     let forget = message(alloc, 2, 2, 5, &[1, 0, 0, 0, 0, 0, 0, 0])?;
     let short = message(alloc, 2, 2, 5, &[1, 0, 0, 0, 0, 0, 0])?;
+    let batch = message(alloc, 42, 0, 5, &TWO_ROWS)?;
+    let no_rows = message(alloc, 42, 0, 5, &[0; 8])?;
+    let short_batch = message(alloc, 42, 0, 5, TWO_ROWS.get(..39).unwrap_or(&[]))?;
     let unknown = message(alloc, 7, 1, 5, b"")?;
     let lookup = message(alloc, 1, 1, 5, b"big\0")?;
     let text = message(alloc, 15, 2, 5, &read(near(0), 100))?;
@@ -231,9 +264,18 @@ fn forgets_and_whom_it_serves(rt: HostRuntime) -> Result<(), Fail> {
     serves(
         &rt,
         SessionACL::Owner,
-        &[&forget, &short, &unknown, &lookup, &text],
-        &[&no_call, &no_call, &no_access, &greeting],
-        &[(RequestId(2), 1)],
+        &[
+            &forget,
+            &short,
+            &batch,
+            &no_rows,
+            &short_batch,
+            &unknown,
+            &lookup,
+            &text,
+        ],
+        &[&no_call, &no_call, &no_call, &no_access, &greeting],
+        &[(RequestId(2), 1), (RequestId(2), 2), (RequestId(2), 0)],
     )?;
     Ok(())
 }
@@ -311,22 +353,91 @@ fn the_directory(rt: HostRuntime) -> Result<(), Fail> {
     Ok(())
 }
 
+/// The body of a WRITE of five bytes.
+fn write(offset: [u8; 8]) -> [u8; 45] {
+    let mut bytes = [0; 45];
+    bytes[8..16].copy_from_slice(&offset);
+    bytes[16] = 5;
+    bytes[40..].copy_from_slice(b"hello");
+    bytes
+}
+
+/// A good message of each operation but the forgets has the reply of the tree, and no other from whom it does not serve.
 #[test]
-fn what_needs_nothing_of_its_own(rt: HostRuntime) -> Result<(), Fail> {
+fn each_operation(rt: HostRuntime) -> Result<(), Fail> {
+    let hello = attributes(2, 13, 1, [0xa4, 0x81], 1);
+    let here: [u8; 32] = dirent(1, 1, 4, b".");
+    // No blocks and no inodes, a block of 512 bytes, and names of 255.
     let mut full = [0; 80];
     full[41] = 2;
     full[44] = 255;
-    let cases: [Case<'_>; 9] = [
+    let mut backward = [0; 24];
+    backward[8..16].copy_from_slice(&[0xff; 8]);
+    let cases: [Case<'_>; 44] = [
+        (1, 1, b"hello.txt\0", 0, &entry(2, hello)),
+        (3, 2, &[0; 16], 0, &held(hello)),
+        (4, 2, &[0; 88], 0xda, b""),
+        (5, 2, b"", 0xda, b""),
         (6, 1, b"link\0hello.txt\0", 0xff, b""),
+        (
+            8,
+            1,
+            b"\xa4\x81\0\0\0\0\0\0\0\0\0\0\0\0\0\0new\0",
+            0xda,
+            b"",
+        ),
+        (9, 1, b"\xed\x01\0\0\0\0\0\0new\0", 0xda, b""),
+        (10, 1, b"big\0", 0xda, b""),
+        (11, 1, b"big\0", 0xda, b""),
+        (12, 1, b"\x01\0\0\0\0\0\0\0big\0new\0", 0xda, b""),
         (13, 1, b"\x02\0\0\0\0\0\0\0again\0", 0xff, b""),
         (14, 2, &[0; 8], 0, &[0; 16]),
+        (15, 2, &read(near(0), 100), 0, b"Hello World!\n"),
+        (16, 2, &write(near(0)), 0xda, b""),
         (17, 1, b"", 0, &full),
         (18, 2, &[0; 24], 0, b""),
+        (20, 2, &[0; 16], 0xda, b""),
+        (21, 2, b"\x01\0\0\0\0\0\0\0user.a\0b", 0xda, b""),
+        (22, 2, b"\xff\0\0\0\0\0\0\0user.a\0", 0xda, b""),
+        (23, 2, &[0; 8], 0xda, b""),
+        (24, 2, b"user.a\0", 0xda, b""),
+        (25, 2, &[0; 24], 0xda, b""),
+        (26, 0, &[0; 16], 0xfb, b""),
         (27, 1, &[0; 8], 0, &[0; 16]),
+        (28, 1, &read(near(0), 32), 0, &here),
         (29, 1, &[0; 24], 0, b""),
+        (30, 1, &[0; 16], 0xda, b""),
+        (31, 2, &[0; 48], 0xda, b""),
+        (32, 2, &[0; 48], 0xda, b""),
+        (33, 2, &[0; 48], 0xda, b""),
+        (34, 2, &[0; 8], 0xda, b""),
+        (
+            35,
+            1,
+            b"\0\0\0\0\xa4\x81\0\0\0\0\0\0\0\0\0\0new\0",
+            0xda,
+            b"",
+        ),
+        (36, 0, &[0; 8], 0xda, b""),
+        (37, 2, &[0; 16], 0xda, b""),
+        (39, 2, &[0; 32], 0xda, b""),
         (40, 2, &[0; 24], 0xda, b""),
-        (5, 2, b"", 0xda, b""),
+        (41, 2, b"hello", 0xda, b""),
+        (43, 2, &[0; 32], 0xda, b""),
+        (44, 1, &read(near(0), 136), 0xda, b""),
+        (
+            45,
+            1,
+            b"\x01\0\0\0\0\0\0\0\x01\0\0\0\0\0\0\0big\0new\0",
+            0xda,
+            b"",
+        ),
+        (46, 2, &backward, 0xda, b""),
+        (47, 2, &[0; 56], 0xda, b""),
+        (4096, 0, &[0; 64], 0xda, b""),
+        (38, 0, b"", 0, b""),
     ];
     serve_all(&rt, &cases)?;
+    serve_user(&rt, SessionACL::Owner, 5, false, &cases)?;
     Ok(())
 }

@@ -19,9 +19,10 @@ use Rattle.fuse_session.specs.Incoming.Incoming.{Broken, Request}
 use Rattle.fuse_session.specs.Handshake.{greeting, greeting_by_header, greeting_by_operation, greeting_by_version, offer_of, is_old, Greets}
 use Rattle.fuse_session.specs.Handshake.{NegotiationReply, Handshake, HandshakeEnd}
 use Rattle.fuse_session.specs.Handshake.HandshakeEnd.{Open, Accepted, Failed}
-use Rattle.fuse_session.specs.Exchange.{Setup, Outcome, EndedBy, Dialogue, Exchange}
-use Rattle.fuse_session.specs.Complete.{IsInit, GoodHeaders, OpensWell, AcceptsAll, SessionWell}
+use Rattle.fuse_session.specs.Exchange.{Setup, Outcome, EndedBy, Dialogue, Exchange, Unopened}
+use Rattle.fuse_session.specs.Complete.{AcceptsAll, GoodHeaders, HandshakeWell, IsInit, Opens, OpensAtLeast, OpensWell, SessionWell}
 use Rattle.fuse_session.specs.Progress.{Progress}
+use Rattle.fuse_session.specs.Session.{OpensNone}
 use Rattle.fuse_session.specs.declared.error.SessionError.TheVariants as session
 use Rattle.fuse_session.specs.declared.greeting.Greeting.{Greeting}
 use Rattle.fuse_session.specs.declared.greeting.Greeting.TheVariants.{Silent, NotInit, Newer, Old, Offered}
@@ -57,8 +58,8 @@ by_version-offered h i major minor =
     (is_old-no i (omega (arith, major)) minor)
 
 -- a handshake of messages that open well is open, or accepted
-abbrev GoesWell : HandshakeEnd → (rest : List (List ℕ)) → Type 0
-GoesWell end rest = ((end ≡ Open) × OpensWell rest) ⊎ ((end ≡ Accepted) × GoodHeaders rest)
+abbrev GoesWell : (Later : List (List ℕ) → Type 0) → HandshakeEnd → (rest : List (List ℕ)) → Type 0
+GoesWell Later end rest = ((end ≡ Open) × Opens Later rest) ⊎ ((end ≡ Accepted) × Later rest)
 
 negotiates-well : {F : Type 0} (may_init : MayInit F) (page : ℕ) (fs fs1 : F) (request : Asker) (offer : Offer)
     (config : Configuration) (r : Result (Unit {0}) ℕ)
@@ -69,30 +70,32 @@ negotiates-well may_init page fs fs1 request offer config (Err e) frames end acc
     absurd (accepts request (start offer.capabilities.0 offer.max_readahead offer.version) config e fs1 allowed)
 negotiates-well may_init page fs fs1 request offer config (Ok u) frames end accepts allowed p = p.1
 
-greets-well : {F : Type 0} (may_init : MayInit F) (page : ℕ) (fs fs1 : F) (h : Header) (i : InitArguments) (ms rest frames : List (List ℕ)) (end : HandshakeEnd)
+greets-well : {F : Type 0} (Later : List (List ℕ) → Type 0)
+    (may_init : MayInit F) (page : ℕ) (fs fs1 : F) (h : Header) (i : InitArguments) (ms rest frames : List (List ℕ)) (end : HandshakeEnd)
     (later : List (List ℕ) → Type 0)
-    → AcceptsAll may_init fs → (OpensWell (ms ++ rest) → (after : List (List ℕ)) → later after → GoesWell end rest)
+    → AcceptsAll may_init fs → (Opens Later (ms ++ rest) → (after : List (List ℕ)) → later after → GoesWell Later end rest)
     → Greets may_init page fs (greeting_by_version h i) ms frames fs1 end later
-    → ((7 < i.major) × OpensWell (ms ++ rest)) ⊎ ((i.major ≡ 7) × (6 ≤ i.minor) × GoodHeaders (ms ++ rest)) → GoesWell end rest
-greets-well may_init page fs fs1 h i ms rest frames end later accepts more greets (inl w) =
+    → ((7 < i.major) × Opens Later (ms ++ rest)) ⊎ ((i.major ≡ 7) × (6 ≤ i.minor) × Later (ms ++ rest)) → GoesWell Later end rest
+greets-well Later may_init page fs fs1 h i ms rest frames end later accepts more greets (inl w) =
     let newer : Greets may_init page fs (Newer h.unique) ms frames fs1 end later =
     subst (λ (g : Greeting). Greets may_init page fs g ms frames fs1 end later) (by_version-newer h i w.0) greets in
     more w.1 newer.0 newer.2
-greets-well may_init page fs fs1 h i ms rest frames end later accepts more greets (inr w) =
+greets-well Later may_init page fs fs1 h i ms rest frames end later accepts more greets (inr w) =
     let offer : Greets may_init page fs (Offered (request_of h) (offer_of i)) ms frames fs1 end later =
     subst (λ (g : Greeting). Greets may_init page fs g ms frames fs1 end later) (by_version-offered h i w.0 w.1) greets in
     inr (
       negotiates-well may_init page fs fs1 (request_of h) (offer_of i) offer.1.config offer.1.result frames end accepts offer.1.allowed offer.1.replies,
-      subst (λ (x : List (List ℕ)). GoodHeaders (x ++ rest)) offer.0 w.2,
+      subst (λ (x : List (List ℕ)). Later (x ++ rest)) offer.0 w.2,
     )
 
 -- a handshake of the first of some messages that open well
-handshake-well : {F : Type 0} (may_init : MayInit F) (page : ℕ) (fs fs1 : F) (ms rest frames : List (List ℕ)) (end : HandshakeEnd)
-    → AcceptsAll may_init fs → Handshake may_init page fs ms frames fs1 end → OpensWell (ms ++ rest) → GoesWell end rest
-handshake-well may_init page fs fs1 [] rest frames end accepts p w = inl (p.2, w)
-handshake-well may_init page fs fs1 (m ∷ ms) rest frames end accepts p w =
-    greets-well may_init page fs fs1 w.1.head w.0 ms rest frames end (λ after. Handshake may_init page fs ms after fs1 end) accepts
-    (λ well after h. handshake-well may_init page fs fs1 ms rest after end accepts h well)
+handshake-well : {F : Type 0} (Later : List (List ℕ) → Type 0)
+    (may_init : MayInit F) (page : ℕ) (fs fs1 : F) (ms rest frames : List (List ℕ)) (end : HandshakeEnd)
+    → AcceptsAll may_init fs → Handshake may_init page fs ms frames fs1 end → Opens Later (ms ++ rest) → GoesWell Later end rest
+handshake-well Later may_init page fs fs1 [] rest frames end accepts p w = inl (p.2, w)
+handshake-well Later may_init page fs fs1 (m ∷ ms) rest frames end accepts p w =
+    greets-well Later may_init page fs fs1 w.1.head w.0 ms rest frames end (λ after. Handshake may_init page fs ms after fs1 end) accepts
+    (λ well after h. handshake-well Later may_init page fs fs1 ms rest after end accepts h well)
     (subst (λ (g : Greeting). Greets may_init page fs g ms frames fs1 end (λ after. Handshake may_init page fs ms after fs1 end))
     (greeting-init m w.0 w.1) p) w.2
 
@@ -134,31 +137,31 @@ good-after m ms goes (inl is) = absurd (let no : ⊥ = cc in no)
 good-after m ms goes (inr w) = w.1
 
 -- no run that goes on after each message comes to one without a good header
-never-broken : (answered : List (List ℕ)) (last : List ℕ) (rest : List (List ℕ)) (e : RequestError)
+pub never-broken : (answered : List (List ℕ)) (last : List ℕ) (rest : List (List ℕ)) (e : RequestError)
     → AllGoOn answered → header last ≡ Err e → GoodHeaders (answered ++ last ∷ rest) → ⊥
 never-broken [] last rest e go broken good = good-here last rest e broken good
 never-broken (m ∷ ms) last rest e go broken good =
     never-broken ms last rest e go.1 broken (good-after m (ms ++ last ∷ rest) go.0 good)
 
-not-failed : (e : HandshakeError) (end : HandshakeEnd) (rest : List (List ℕ)) → end ≡ Failed e → GoesWell end rest → ⊥
-not-failed e end rest failed (inl w) = let is = w.0 in cc
-not-failed e end rest failed (inr w) = let is = w.0 in cc
+not-failed : (Later : List (List ℕ) → Type 0) (e : HandshakeError) (end : HandshakeEnd) (rest : List (List ℕ)) → end ≡ Failed e → GoesWell Later end rest → ⊥
+not-failed Later e end rest failed (inl w) = let is = w.0 in cc
+not-failed Later e end rest failed (inr w) = let is = w.0 in cc
 
-not-open : (end : HandshakeEnd) → end ≡ Open → GoesWell end [] → ⊥
-not-open end is_open (inl w) = w.1
-not-open end is_open (inr w) = let is = w.0 in cc
+not-open : (Later : List (List ℕ) → Type 0) (end : HandshakeEnd) → end ≡ Open → GoesWell Later end [] → ⊥
+not-open Later end is_open (inl w) = w.1
+not-open Later end is_open (inr w) = let is = w.0 in cc
 
-accepted-good : (end : HandshakeEnd) (rest : List (List ℕ)) → end ≡ Accepted → GoesWell end rest → GoodHeaders rest
+accepted-good : (end : HandshakeEnd) (rest : List (List ℕ)) → end ≡ Accepted → GoesWell GoodHeaders end rest → GoodHeaders rest
 accepted-good end rest accepted (inl w) = absurd (let is = w.0 in let no : ⊥ = cc in no)
 accepted-good end rest accepted (inr w) = w.1
 
 -- what is told after the turns taken
-record Told (turns all : List (List ℕ)) (after : SourceState) : Type 0 where
-  left : List (List ℕ)
-  is_left : after.turns ≡ Some left
-  both : all ≡ turns ++ left
+pub record Told (turns all : List (List ℕ)) (after : SourceState) : Type 0 where
+  pub left : List (List ℕ)
+  pub is_left : after.turns ≡ Some left
+  pub both : all ≡ turns ++ left
 
-told-after : (turns all : List (List ℕ)) (a b : SourceState) → a.turns ≡ Some all → Takes turns a b → Told turns all b
+pub told-after : (turns all : List (List ℕ)) (a b : SourceState) → a.turns ≡ Some all → Takes turns a b → Told turns all b
 told-after turns all a b told takes = by_left b.turns refl where
   by_left : (o : Option (List (List ℕ))) → b.turns ≡ o → Told turns all b
   by_left None is = absurd (let e = takes.turns ∙ ap (option_map (λ left. turns ++ left)) is in let no : ⊥ = cc in no)
@@ -171,35 +174,36 @@ told-after turns all a b told takes = by_left b.turns refl where
     same x y h = cc
 
 -- a source whose count stayed did not fail
-no-failure : (a b : SourceState) → b.faults ≡ a.faults → a.faults < last_count → SourceFailed a b → ⊥
+pub no-failure : (a b : SourceState) → b.faults ≡ a.faults → a.faults < last_count → SourceFailed a b → ⊥
 no-failure a b same low failed =
     let below : b.faults < last_count = omega (arith, same, low) in
     let rose : a.faults < b.faults = failed.1 below in omega (arith, rose, same)
 
 -- what a handshake of messages that open well, all taken, left to come
-goes-well : {F : Type 0} {setup : Setup F} {fs fs1 : F} {o : Outcome} {p q : Progress} (exchange : Exchange setup fs fs1 o p q)
-    → Takes exchange.turns p.source q.source → SessionWell setup.promise.may_init setup.threads fs p.source q.source
+goes-well : {F : Type 0} {setup : Setup F} {fs fs1 : F} {o : Outcome} {p q : Progress} (Later : List (List ℕ) → Type 0)
+    (exchange : Exchange setup fs fs1 o p q) (turns : List (List ℕ)) → Takes exchange.turns p.source q.source
+    → p.source.turns ≡ Some turns → Opens Later (map message turns) → AcceptsAll setup.promise.may_init fs
     → (left : List (List ℕ)) × (q.source.turns ≡ Some left)
-    × GoesWell exchange.dialogue.end (exchange.dialogue.answered ++ (exchange.dialogue.refused ++ map message left))
-goes-well {F} {setup} {fs} {fs1} {o} {p} {q} exchange takes well = (
-  told.left,
-  told.is_left,
-  handshake-well setup.promise.may_init setup.page fs fs1 d.hs (d.answered ++ (d.refused ++ later)) d.handshake_replies d.end well.accepts d.handshake
-      (subst OpensWell opens well.opens_well),
+    × GoesWell Later exchange.dialogue.end (exchange.dialogue.answered ++ (exchange.dialogue.refused ++ map message left))
+goes-well {F} {setup} {fs} {fs1} {o} {p} {q} Later exchange turns takes told opens accepts = (
+  left.left,
+  left.is_left,
+  handshake-well Later setup.promise.may_init setup.page fs fs1 d.hs (d.answered ++ (d.refused ++ later)) d.handshake_replies d.end accepts d.handshake
+      (subst (Opens Later) all opens),
 ) where
   d : Dialogue setup fs fs1 o (NothingLeft q.source) (SourceFailed p.source q.source) (map message exchange.turns) exchange.sent exchange.notes exchange.lost
   d = exchange.dialogue
 
-  told : Told exchange.turns well.turns q.source
-  told = told-after exchange.turns well.turns p.source q.source well.told takes
+  left : Told exchange.turns turns q.source
+  left = told-after exchange.turns turns p.source q.source told takes
 
   later : List (List ℕ)
-  later = map message told.left
+  later = map message left.left
 
-  opens : map message well.turns ≡ d.hs ++ (d.answered ++ (d.refused ++ later))
-  opens =
-      ap (map message) told.both
-      ∙ (map-append message exchange.turns told.left
+  all : map message turns ≡ d.hs ++ (d.answered ++ (d.refused ++ later))
+  all =
+      ap (map message) left.both
+      ∙ (map-append message exchange.turns left.left
       ∙ (ap (λ (ms : List (List ℕ)). ms ++ later) d.heard
       ∙ (append_assoc d.hs (d.answered ++ d.refused) later
       ∙ ap (λ (ms : List (List ℕ)). d.hs ++ ms) (append_assoc d.answered d.refused later))))
@@ -207,6 +211,12 @@ goes-well {F} {setup} {fs} {fs1} {o} {p} {q} exchange takes well = (
 -- nothing is left, where the source tells what is
 left-none : (s : SourceState) (left : List (List ℕ)) → s.turns ≡ Some left → NothingLeft s → left ≡ []
 left-none s left told none = subst (λ (o : Option (List (List ℕ))). IfSome o (λ left. left ≡ [])) told none
+
+session-goes : {F : Type 0} {setup : Setup F} {fs fs1 : F} {o : Outcome} {p q : Progress} (exchange : Exchange setup fs fs1 o p q)
+    → Takes exchange.turns p.source q.source → SessionWell setup.promise.may_init setup.threads fs p.source q.source
+    → (left : List (List ℕ)) × (q.source.turns ≡ Some left)
+    × GoesWell GoodHeaders exchange.dialogue.end (exchange.dialogue.answered ++ (exchange.dialogue.refused ++ map message left))
+session-goes {p = p} exchange takes well = goes-well GoodHeaders exchange well.turns takes well.told well.opens_well well.accepts
 
 -- where nothing is amiss, a session ends well
 pub Ok-from_exchange : {F : Type 0} {setup : Setup F} {fs fs1 : F} {p q : Progress} (o : Outcome) → Exchange setup fs fs1 o p q
@@ -218,32 +228,81 @@ Ok-from_exchange (Err session.CloneFd) exchange well = absurd exchange.dialogue.
 Ok-from_exchange (Err session.Memory) exchange well = absurd exchange.dialogue.ended
 Ok-from_exchange {F} {setup} {fs} {fs1} {p} {q} (Err session.NotConnected) exchange well =
     let e = exchange.dialogue.ended in
-    let goes = goes-well exchange (exchange.taken (λ is. cc)) well in
+    let goes = session-goes exchange (exchange.taken (λ is. cc)) well in
     let none = left-none q.source goes.0 goes.1 e.1 in
-    absurd (not-open exchange.dialogue.end e.0.0
-    (subst (λ (ms : List (List ℕ)). GoesWell exchange.dialogue.end ms)
+    absurd (not-open GoodHeaders exchange.dialogue.end e.0.0
+    (subst (λ (ms : List (List ℕ)). GoesWell GoodHeaders exchange.dialogue.end ms)
     (ap (λ (a : List (List ℕ)). a ++ (exchange.dialogue.refused ++ map message goes.0)) e.0.1
     ∙ (ap (λ (r : List (List ℕ)). r ++ map message goes.0) e.0.2 ∙ ap (map message) none)) goes.2))
 Ok-from_exchange {F} {setup} {fs} {fs1} {p} {q} (Err (session.InvalidData d)) exchange well =
-    let goes = goes-well exchange (exchange.taken (λ is. cc)) well in
+    let goes = session-goes exchange (exchange.taken (λ is. cc)) well in
     absurd (by_part goes.0 goes.2 exchange.dialogue.ended)
   where
     answered : List (List ℕ)
     answered = exchange.dialogue.answered
 
-    by_part : (left : List (List ℕ)) → GoesWell exchange.dialogue.end (answered ++ (exchange.dialogue.refused ++ map message left))
+    by_part : (left : List (List ℕ)) → GoesWell GoodHeaders exchange.dialogue.end (answered ++ (exchange.dialogue.refused ++ map message left))
         → EndedBy (Err (session.InvalidData d)) setup.threads exchange.dialogue.end answered exchange.dialogue.refused
         (NothingLeft q.source) (SourceFailed p.source q.source) → ⊥
     by_part left goes (inl e) =
-        not-failed (InvalidData d) exchange.dialogue.end (answered ++ (exchange.dialogue.refused ++ map message left)) e.0 goes
+        not-failed GoodHeaders (InvalidData d) exchange.dialogue.end (answered ++ (exchange.dialogue.refused ++ map message left)) e.0 goes
     by_part left goes (inr e) =
         never-broken answered e.2.2.0 (map message left) e.2.0 e.1 e.2.2.2
         (subst (λ (r : List (List ℕ)). GoodHeaders (answered ++ (r ++ map message left))) e.2.2.1
         (accepted-good exchange.dialogue.end (answered ++ (exchange.dialogue.refused ++ map message left)) e.0.0 goes))
 Ok-from_exchange (Err (session.Unsupported v)) exchange well =
-    absurd (not-failed (Unsupported v) exchange.dialogue.end _ exchange.dialogue.ended.0 (goes-well exchange (exchange.taken (λ is. cc)) well).2)
+    absurd (not-failed GoodHeaders (Unsupported v) exchange.dialogue.end _ exchange.dialogue.ended.0 (session-goes exchange (exchange.taken (λ is. cc)) well).2)
 Ok-from_exchange (Err (session.Init e)) exchange well =
-    absurd (not-failed (Init e) exchange.dialogue.end _ exchange.dialogue.ended.0 (goes-well exchange (exchange.taken (λ is. cc)) well).2)
+    absurd (not-failed GoodHeaders (Init e) exchange.dialogue.end _ exchange.dialogue.ended.0 (session-goes exchange (exchange.taken (λ is. cc)) well).2)
 Ok-from_exchange (Err session.Threads) exchange well = absurd (well.served exchange.dialogue.ended.1)
 Ok-from_exchange {F} {setup} {fs} {fs1} {p} {q} (Err session.Receive) exchange well =
-    absurd (no-failure p.source q.source well.same well.counts exchange.dialogue.ended.0)
+    absurd (no-failure p.source q.source well.unfailing.same well.unfailing.counts exchange.dialogue.ended.0)
+
+-- where nothing is amiss with a handshake, it is accepted
+pub never-unopened : {F : Type 0} {setup : Setup F} {fs fs1 : F} {p q : Progress} (o : Outcome) → OpensNone o → Unopened setup fs fs1 o p q
+    → HandshakeWell setup.promise.may_init fs p.source q.source → ⊥
+never-unopened {F} {setup} {fs} {fs1} {p} {q} (Err session.NotConnected) none unopened well =
+    let exchange = unopened.exchange in
+    let e = exchange.dialogue.ended in
+    let goes = goes-well (λ _. Unit {0}) exchange well.turns (exchange.taken (λ is. cc)) well.told well.opens well.accepts in
+    let nothing = left-none q.source goes.0 goes.1 e.1 in
+    not-open (λ _. Unit {0}) exchange.dialogue.end e.0.0
+    (subst (λ (ms : List (List ℕ)). GoesWell (λ _. Unit {0}) exchange.dialogue.end ms)
+    (ap (λ (a : List (List ℕ)). a ++ (exchange.dialogue.refused ++ map message goes.0)) e.0.1
+    ∙ (ap (λ (r : List (List ℕ)). r ++ map message goes.0) e.0.2 ∙ ap (map message) nothing)) goes.2)
+never-unopened {F} {setup} {fs} {fs1} {p} {q} (Err (session.InvalidData d)) none unopened well = by_part unopened.exchange.dialogue.ended where
+  by_part : EndedBy (Err (session.InvalidData d)) setup.threads unopened.exchange.dialogue.end unopened.exchange.dialogue.answered
+      unopened.exchange.dialogue.refused (NothingLeft q.source) (SourceFailed p.source q.source) → ⊥
+  by_part (inl e) = not-failed (λ _. Unit {0}) (InvalidData d) unopened.exchange.dialogue.end _ e.0
+      (goes-well (λ _. Unit {0}) unopened.exchange well.turns (unopened.exchange.taken (λ is. cc)) well.told well.opens well.accepts).2
+  by_part (inr e) = unopened.unaccepted e.0.0
+never-unopened (Err (session.Unsupported v)) none unopened well =
+    not-failed (λ _. Unit {0}) (Unsupported v) unopened.exchange.dialogue.end _ unopened.exchange.dialogue.ended.0
+    (goes-well (λ _. Unit {0}) unopened.exchange well.turns (unopened.exchange.taken (λ is. cc)) well.told well.opens well.accepts).2
+never-unopened (Err (session.Init e)) none unopened well =
+    not-failed (λ _. Unit {0}) (Init e) unopened.exchange.dialogue.end _ unopened.exchange.dialogue.ended.0
+    (goes-well (λ _. Unit {0}) unopened.exchange well.turns (unopened.exchange.taken (λ is. cc)) well.told well.opens well.accepts).2
+never-unopened {F} {setup} {fs} {fs1} {p} {q} (Err session.Receive) none unopened well =
+    no-failure p.source q.source well.unfailing.same well.unfailing.counts unopened.exchange.dialogue.ended.0
+never-unopened o none unopened well = none
+
+-- messages that open well begin with a handshake
+opens-init : (i : InitArguments) (ms : List (List ℕ)) → (OpensWell ms → OpensAtLeast ms)
+    → ((7 < i.major) × OpensWell ms) ⊎ ((i.major ≡ 7) × (6 ≤ i.minor) × GoodHeaders ms)
+    → ((7 < i.major) × OpensAtLeast ms) ⊎ ((i.major ≡ 7) × (6 ≤ i.minor) × Unit {0})
+opens-init i ms more (inl newer) = inl (newer.0, more newer.1)
+opens-init i ms more (inr seven) = inr (seven.0, seven.1, tt)
+
+opens-at_least : (ms : List (List ℕ)) → OpensWell ms → OpensAtLeast ms
+opens-at_least [] opens = opens
+opens-at_least (m ∷ ms) opens = (opens.0, opens.1, opens-init opens.0 ms (λ well. opens-at_least ms well) opens.2)
+
+pub HandshakeWell-session : {F : Type 0} {may_init : MayInit F} {threads : Option ℕ} {fs : F} {a b : SourceState}
+    → SessionWell may_init threads fs a b → HandshakeWell may_init fs a b
+HandshakeWell-session well = record {
+  turns = well.turns;
+  told = well.told;
+  opens = opens-at_least (map message well.turns) well.opens_well;
+  accepts = well.accepts;
+  unfailing = well.unfailing;
+}

@@ -11,7 +11,7 @@ use Rattle.fuse_session.specs.Owed.{Owed}
 use Rattle.fuse_session.specs.Handshake.{HandshakeEnd}
 use Rattle.fuse_session.specs.HandshakeStep.{HandshakeRun}
 use Rattle.fuse_session.specs.EventLoop.{Run, RunEnds}
-use Rattle.fuse_session.specs.Exchange.{Setup, Outcome, RunFollows, EndedBy, Exchange}
+use Rattle.fuse_session.specs.Exchange.{Setup, Outcome, RunFollows, EndedBy, Exchange, Unopened}
 use Rattle.fuse_session.specs.SessionEnd.{handshake_error, run_outcome}
 use Rattle.fuse_session.specs.Progress.{Progress}
 use Rattle.fuse_session.specs.declared.error.SessionError.TheVariants.{NotConnected, Threads, Receive}
@@ -39,7 +39,7 @@ EndsWell-last : (last : List ℕ) (none_left : Type 0) → incoming last ≡ Des
 EndsWell-last last none_left is = subst (λ (i : Incoming). EndsAfter i [] (EndsWell [] none_left)) (sym is) refl
 
 -- a session that was no more than its handshake
-alone : {F : Type 0} {setup : Setup F} {fs fs1 : F} {found : HandshakeOutcome} {p q : Progress} (result : Outcome)
+abbrev alone : {F : Type 0} {setup : Setup F} {fs fs1 : F} {found : HandshakeOutcome} {p q : Progress} (result : Outcome)
     (shook : HandshakeRun setup.promise.may_init setup.page found fs fs1 p q) → (result ≢ Err Receive → Takes shook.turns p.source q.source)
     → EndedBy result setup.threads shook.end [] [] (NothingLeft q.source) (SourceFailed p.source q.source)
     → Exchange setup fs fs1 result p q
@@ -77,24 +77,35 @@ pub Exchange-unserved : {F : Type 0} {setup : Setup F} {fs fs1 : F} {p q : Progr
 Exchange-unserved none shook = alone (Err Threads) shook (λ _. shook.taken (λ is. cc)) ((shook.ended, refl, refl), none)
 
 -- no message was left in the handshake
-pub Exchange-gone : {F : Type 0} {setup : Setup F} {fs fs1 : F} {p q : Progress}
-    → HandshakeRun setup.promise.may_init setup.page outcome.Gone fs fs1 p q → Exchange setup fs fs1 (Err NotConnected) p q
-Exchange-gone shook = alone (Err NotConnected) shook (λ _. shook.taken (λ is. cc)) ((shook.ended.0, refl, refl), shook.ended.1)
+pub Unopened-gone : {F : Type 0} {setup : Setup F} {fs fs1 : F} {p q : Progress}
+    → HandshakeRun setup.promise.may_init setup.page outcome.Gone fs fs1 p q → Unopened setup fs fs1 (Err NotConnected) p q
+Unopened-gone shook = record {
+  exchange = alone (Err NotConnected) shook (λ _. shook.taken (λ is. cc)) ((shook.ended.0, refl, refl), shook.ended.1);
+  unaccepted = λ is. let open' = shook.ended.0 in cc;
+}
 
 -- the source failed in the handshake
-pub Exchange-failed : {F : Type 0} {setup : Setup F} {fs fs1 : F} {p q : Progress}
-    → HandshakeRun setup.promise.may_init setup.page outcome.Failed fs fs1 p q → Exchange setup fs fs1 (Err Receive) p q
-Exchange-failed shook = alone (Err Receive) shook (λ other. absurd (other refl)) (shook.ended.1, inl (shook.ended.0, refl, refl))
+pub Unopened-failed : {F : Type 0} {setup : Setup F} {fs fs1 : F} {p q : Progress}
+    → HandshakeRun setup.promise.may_init setup.page outcome.Failed fs fs1 p q → Unopened setup fs fs1 (Err Receive) p q
+Unopened-failed shook = record {
+  exchange = alone (Err Receive) shook (λ other. absurd (other refl)) (shook.ended.1, inl (shook.ended.0, refl, refl));
+  unaccepted = λ is. let open' = shook.ended.0 in cc;
+}
 
 -- a message was refused in the handshake
-pub Exchange-refused : {F : Type 0} {setup : Setup F} {fs fs1 : F} {p q : Progress} (e : HandshakeError)
-    → HandshakeRun setup.promise.may_init setup.page (outcome.Refused e) fs fs1 p q → Exchange setup fs fs1 (Err (handshake_error e)) p q
-Exchange-refused (refusal.InvalidData d) shook =
-    alone (Err (handshake_error (refusal.InvalidData d))) shook (λ _. shook.taken (λ is. cc)) (inl (shook.ended, refl, refl))
-Exchange-refused (refusal.Unsupported v) shook =
-    alone (Err (handshake_error (refusal.Unsupported v))) shook (λ _. shook.taken (λ is. cc)) (shook.ended, refl, refl)
-Exchange-refused (refusal.Init n) shook =
-    alone (Err (handshake_error (refusal.Init n))) shook (λ _. shook.taken (λ is. cc)) (shook.ended, refl, refl)
+refused-by : {F : Type 0} (setup : Setup F) {fs fs1 : F} {p q : Progress} (e : HandshakeError)
+    (shook : HandshakeRun setup.promise.may_init setup.page (outcome.Refused e) fs fs1 p q)
+    → EndedBy (Err (handshake_error e)) setup.threads shook.end [] [] (NothingLeft q.source) (SourceFailed p.source q.source)
+refused-by setup (refusal.InvalidData d) shook = inl (shook.ended, refl, refl)
+refused-by setup (refusal.Unsupported v) shook = (shook.ended, refl, refl)
+refused-by setup (refusal.Init n) shook = (shook.ended, refl, refl)
+
+pub Unopened-refused : {F : Type 0} {setup : Setup F} {fs fs1 : F} {p q : Progress} (e : HandshakeError)
+    → HandshakeRun setup.promise.may_init setup.page (outcome.Refused e) fs fs1 p q → Unopened setup fs fs1 (Err (handshake_error e)) p q
+Unopened-refused {setup = setup} e shook = record {
+  exchange = alone (Err (handshake_error e)) shook (λ _. shook.taken (λ is. cc)) (refused-by setup e shook);
+  unaccepted = λ is. let failed = shook.ended in cc;
+}
 
 -- why a session ended whose run ended so
 ended-run : (end : End) (threads : Option ℕ) (shook : HandshakeEnd) (answered refused : List (List ℕ))

@@ -12,3 +12,5 @@ mod Exchanging
 mod Headlining
 mod Completing
 pub mod Refusing
+mod Running
+mod Opening

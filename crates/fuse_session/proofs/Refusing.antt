@@ -29,7 +29,7 @@ RefusedAs-once config CloneFd _ x y = absurd y
 RefusedAs-once config _ f x y = absurd x
 
 -- options with which nothing is amiss are not refused
-OptionsWell-none : (config : Config) → OptionsWell config → (e : SessionError) → ¬ (RefusedAs config e)
+pub OptionsWell-none : (config : Config) → OptionsWell config → (e : SessionError) → ¬ (RefusedAs config e)
 OptionsWell-none config well (Conflict i j) x = well.no_conflict i j x.conflict
 OptionsWell-none config well AutoUnmount x = well.no_unmount x.1
 OptionsWell-none config well CloneFd x = well.no_clone x.2

@@ -16,7 +16,7 @@ use Rattle.fuse_session.specs.Incoming.Incoming.{Destroy, Request}
 use Rattle.fuse_session.specs.Promise.{Promise}
 use Rattle.fuse_session.specs.Verdict.{Verdict, verdict, verdict_by, serving, admitted_operation, id_of}
 use Rattle.fuse_session.specs.Verdict.Verdict.{Ends}
-use Rattle.fuse_session.specs.Owed.{Owed, OwedBy}
+use Rattle.fuse_session.specs.Owed.{Owes, Owed, OwedBy, OwedMessage}
 
 ok-header : (a b c : Bool) (x y z : RequestError) (f h : Header)
     → (if a then Err x else if b then Err y else if c then Err z else Ok f) ≡ Ok h → h ≡ f
@@ -36,15 +36,14 @@ pub incoming-request : (m : List ℕ) (h : Header) → header m ≡ Ok h → (h.
 incoming-request m h good other = ap incoming_by good ∙ ap (λ (b : Bool). if b then Destroy else Request) other
 
 -- what its verdict owes a request is what its message is owed
-pub Owed-request : {F : Type 0} (promise : Promise F) (fs : F) (acl : SessionACL) (owner seq : ℕ) (out : Out) (request : AnyRequest)
-    (m : List ℕ) (found : Result Op ℕ)
+pub Owed-request : (owes : Owes) (acl : SessionACL) (owner seq : ℕ) (out : Out) (request : AnyRequest) (m : List ℕ) (found : Result Op ℕ)
     → Decodes (Ok request) m → ((header_of request).opcode == FUSE_DESTROY) ≡ false
     → admitted_operation acl owner (header_of request) (operation (header_of request).opcode (body_of request)) ≡ found
-    → OwedBy promise fs (request_of (header_of request)) (serving (header_of request).nodeid.0 found) seq (header_of request).unique.0 out
-    → Owed promise fs acl owner seq m out
-Owed-request promise fs acl owner seq out request m found decodes other is owed =
-    subst (λ (v : Verdict). OwedBy promise fs (request_of (header_fields m)) v seq (id_of m) out) (sym verdict-is)
-    (subst (λ (x : Header). OwedBy promise fs (request_of x) (serving h.nodeid.0 found) seq x.unique.0 out)
+    → owes (request_of (header_of request)) (serving (header_of request).nodeid.0 found) seq (header_of request).unique.0 out
+    → OwedMessage owes acl owner seq m out
+Owed-request owes acl owner seq out request m found decodes other is owed =
+    subst (λ (v : Verdict). owes (request_of (header_fields m)) v seq (id_of m) out) (sym verdict-is)
+    (subst (λ (x : Header). owes (request_of x) (serving h.nodeid.0 found) seq x.unique.0 out)
     (header-fields m h decodes.0) owed)
   where
     h : Header

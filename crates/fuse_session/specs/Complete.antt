@@ -12,6 +12,7 @@ use Rattle.fuse_request.specs.declared.request.Request.{Request}
 use Rattle.fuse_session.specs.Incoming.{incoming}
 use Rattle.fuse_session.specs.Incoming.Incoming.{Destroy, Request as IsRequest}
 use Rattle.fuse_session.specs.Promise.{MayInit}
+use Rattle.fuse_session.specs.Session.{Opened}
 
 -- its header is good, and it decodes to this INIT
 pub record IsInit (m : List ℕ) (init : InitArguments) : Type 0 where
@@ -24,16 +25,28 @@ abbrev pub GoodHeaders : List (List ℕ) → Type 0
 GoodHeaders [] = Unit {0}
 GoodHeaders (m ∷ ms) = (incoming m ≡ Destroy) ⊎ ((incoming m ≡ IsRequest) × GoodHeaders ms)
 
--- some INITs of a major version above 7, or none; one of version 7.6 to 7.x; and after it good headers up to the first DESTROY
+-- some INITs of a major version above 7, or none; one of version 7.6 to 7.x; and after it what `Later` says
+abbrev pub Opens : (Later : List (List ℕ) → Type 0) → List (List ℕ) → Type 0
+Opens Later [] = ⊥
+Opens Later (m ∷ ms) = (init : InitArguments) × IsInit m init
+    × (((7 < init.major) × Opens Later ms) ⊎ ((init.major ≡ 7) × (6 ≤ init.minor) × Later ms))
+
+-- an INIT that can be accepted, and then good headers up to the first DESTROY; or then anything
 abbrev pub OpensWell : List (List ℕ) → Type 0
-OpensWell [] = ⊥
-OpensWell (m ∷ ms) = (init : InitArguments) × IsInit m init
-    × (((7 < init.major) × OpensWell ms) ⊎ ((init.major ≡ 7) × (6 ≤ init.minor) × GoodHeaders ms))
+OpensWell = Opens GoodHeaders
+
+abbrev pub OpensAtLeast : List (List ℕ) → Type 0
+OpensAtLeast = Opens (λ _. Unit {0})
 
 -- `init` may refuse no INIT
 abbrev pub AcceptsAll : {F : Type 0} → MayInit F → F → Type 0
 AcceptsAll {F} may_init fs =
     (request : Request) (config0 config : Configuration) (e : ℕ) (fs1 : F) → ¬ (may_init fs request config0 (Err e) fs1 config)
+
+-- the source did not fail
+pub record Unfailing (before after : SourceState) : Type 0 where
+  pub same : after.faults ≡ before.faults
+  pub counts : before.faults < last_count
 
 -- The source tells messages that open well, and did not fail; some thread is to serve; and `init` refuses no INIT.
 pub record SessionWell {F : Type 0} (may_init : MayInit F) (threads : Option ℕ) (fs : F) (before after : SourceState) : Type 0 where
@@ -42,5 +55,20 @@ pub record SessionWell {F : Type 0} (may_init : MayInit F) (threads : Option ℕ
   pub opens_well : OpensWell (map message turns)
   pub accepts : AcceptsAll may_init fs
   pub served : threads ≢ Some 0
-  pub same : after.faults ≡ before.faults
-  pub counts : before.faults < last_count
+  pub unfailing : Unfailing before after
+
+-- For a handshake alone: the source tells messages that begin with one, and did not fail; and `init` refuses no INIT.
+pub record HandshakeWell {F : Type 0} (may_init : MayInit F) (fs : F) (before after : SourceState) : Type 0 where
+  pub turns : List (List ℕ)
+  pub told : before.turns ≡ Some turns
+  pub opens : OpensAtLeast (map message turns)
+  pub accepts : AcceptsAll may_init fs
+  pub unfailing : Unfailing before after
+
+-- For a run after it: the source tells good headers up to the first DESTROY, and did not fail; and some thread is to serve.
+pub record RunWell {F : Type 0} (session : Opened F) (after : SourceState) : Type 0 where
+  pub turns : List (List ℕ)
+  pub told : session.progress.source.turns ≡ Some turns
+  pub good : GoodHeaders (map message turns)
+  pub served : session.threads ≢ Some 0
+  pub unfailing : Unfailing session.progress.source after

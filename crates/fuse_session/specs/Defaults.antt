@@ -1,5 +1,5 @@
 -- What a call is answered where a filesystem wants nothing of its own: what the Rust crate's default methods answer.
-use Rattle.std.specs.Prelude.{ℕ}
+use Rattle.std.specs.Prelude.{◌≡◌, ℕ, zero, suc, List, Option, None, Some, length, slice_get}
 use Rattle.fuse_wire.specs.ErrorNumbers.{EPERM, ENOSYS}
 use Rattle.fuse_request.specs.Call.{Call}
 use Rattle.fuse_request.specs.Call.Call.{SymLink, Link, Open, StatFs, Release, OpenDir, ReleaseDir}
@@ -21,3 +21,17 @@ default_answer c = Error ENOSYS
 -- the mark of a forget
 abbrev pub default_mark : ℕ
 default_mark = 0
+
+-- the row before a place
+abbrev pub before : {A : Type 0} → (place : ℕ) → List A → Option A
+before zero rows = None
+before (suc place) rows = slice_get rows place
+
+-- the mark that came of a row, or that mark where there is none
+abbrev pub CameOf : (Came : (ino nlookup mark : ℕ) → Type 0) → Option (ℕ × ℕ) → (mark : ℕ) → Type 0
+CameOf Came None mark = mark ≡ default_mark
+CameOf Came (Some row) mark = Came row.0 row.1 mark
+
+-- the mark of a batch of forgets: what came of its last row, or that mark where there is no row
+abbrev pub IsLastMark : (Came : (ino nlookup mark : ℕ) → Type 0) → (rows : List (ℕ × ℕ)) → (mark : ℕ) → Type 0
+IsLastMark Came rows mark = CameOf Came (before (length rows) rows) mark

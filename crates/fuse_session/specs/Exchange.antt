@@ -117,3 +117,16 @@ pub record Mounted {F : Type 0} (setup : Setup F) (fs fs' : F) (outcome : Outcom
   pub unasked : List (List ℕ)
   pub exchange : Exchange setup fs fs1 outcome (progress source sink nothing_yet []) (progress source' sink' counts unasked)
   pub destroyed : setup.promise.may_destroy fs1 fs'
+
+-- a session that was no more than its handshake, in which no INIT was accepted
+pub record Unopened {F : Type 0} (setup : Setup F) (fs fs1 : F) (outcome : Outcome) (before after : Progress) : Type 0 where
+  pub exchange : Exchange setup fs fs1 outcome before after
+  pub unaccepted : exchange.dialogue.end ≢ Accepted
+
+-- the same from its start, with its end, at which `destroy` was called once
+pub record Closed {F : Type 0} (setup : Setup F) (fs fs' : F) (outcome : Outcome)
+    (source source' : SourceState) (sink sink' : SinkState) (counts : Transcript) : Type 0 where
+  pub fs1 : F
+  pub unasked : List (List ℕ)
+  pub unopened : Unopened setup fs fs1 outcome (progress source sink nothing_yet []) (progress source' sink' counts unasked)
+  pub destroyed : setup.promise.may_destroy fs1 fs'

@@ -14,6 +14,11 @@ notice_in (Prompt seq out) = []
 abbrev pub notices_in : List Parcel → List (List ℕ)
 notices_in parcels = flat_map notice_in parcels
 
+-- what a contract sees of a frame line: which line it is, and the notices that were taken off it, in order
+pub record Passing : Type 0 where
+  pub line : TableId
+  pub passed : List (List ℕ)
+
 -- the first pass of this line, which has pushed nothing and counts no other: whoever else pushes has a door
 pub record IsAlone (line : TableId) (pass : Seen Parcel) : Type 0 where
   pub line_is : pass.line ≡ line

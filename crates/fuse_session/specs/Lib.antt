@@ -4,6 +4,7 @@ pub mod Verdict
 pub mod Kind
 pub mod Defaults
 pub mod Owed
+pub mod Asked
 pub mod OneEach
 pub mod FrameLine
 pub mod Progress
@@ -12,7 +13,9 @@ pub mod HandshakeStep
 pub mod Exchange
 pub mod EventLoop
 pub mod SessionEnd
+pub mod Session
 pub mod Headline
 pub mod Complete
 pub mod Decided
 pub mod Refused
+pub mod Probing

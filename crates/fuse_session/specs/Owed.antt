@@ -49,9 +49,13 @@ OwedCall promise fs request c seq id out =
     ⊎ (IsPoll c × (out ≡ Frame (reply id (Error ENOMEM))))
     ⊎ (IsTrue promise.defers × (out ≡ Deferred seq (record { 0 = id })))
 
+-- what a request may be owed, by its verdict, its message's number and its id
+abbrev pub Owes : Type 1
+Owes = Request → Verdict → (seq id : ℕ) → Out → Type 0
+
 -- by its verdict: nothing where it is broken, an empty reply where it ends the run, the reply of the error that is fixed, a note
 -- with a mark that is allowed, or what its call is owed
-abbrev pub OwedBy : {F : Type 0} → Promise F → F → Request → Verdict → (seq id : ℕ) → Out → Type 0
+abbrev pub OwedBy : {F : Type 0} → Promise F → F → Owes
 OwedBy promise fs request (Broken e) seq id out = ⊥
 OwedBy promise fs request Ends seq id out = out ≡ Frame (reply id Empty)
 OwedBy promise fs request (Fixed errno) seq id out = out ≡ Frame (reply id (Error errno))
@@ -59,8 +63,12 @@ OwedBy promise fs request (Forgets c) seq id out =
     (mark : ℕ) × promise.may_note fs request c mark × (out ≡ Note (record { 0 = id }) mark)
 OwedBy promise fs request (Calls c) seq id out = OwedCall promise fs request c seq id out
 
+-- what a message is owed is what its request is owed by its verdict
+abbrev pub OwedMessage : Owes → SessionACL → (owner : ℕ) → (seq : ℕ) → (m : List ℕ) → Out → Type 0
+OwedMessage owes acl owner seq m out = owes (request_of (header_fields m)) (verdict acl owner m) seq (id_of m) out
+
 abbrev pub Owed : {F : Type 0} → Promise F → F → SessionACL → (owner : ℕ) → (seq : ℕ) → (m : List ℕ) → Out → Type 0
-Owed promise fs acl owner seq m out = OwedBy promise fs (request_of (header_fields m)) (verdict acl owner m) seq (id_of m) out
+Owed promise fs = OwedMessage (OwedBy promise fs)
 
 -- where the header says DESTROY, the verdict is that the run ends
 ends-destroy : (acl : SessionACL) (owner : ℕ) (r : Result Header RequestError) (rest : List ℕ)
@@ -73,8 +81,9 @@ ends-destroy acl owner (Ok h) rest is = by_test (h.opcode == FUSE_DESTROY) is wh
   by_test false is = absurd (let no : ⊥ = cc in no)
 
 -- DESTROY is owed an empty reply
-pub Owed-destroy : {F : Type 0} (promise : Promise F) (fs : F) (acl : SessionACL) (owner seq : ℕ) (m : List ℕ)
-    → incoming m ≡ Destroy → Owed promise fs acl owner seq m (Frame (reply (id_of m) Empty))
-Owed-destroy promise fs acl owner seq m is =
-    subst (λ (v : Verdict). OwedBy promise fs (request_of (header_fields m)) v seq (id_of m) (Frame (reply (id_of m) Empty)))
-    (sym (ends-destroy acl owner (header m) (body m) is)) refl
+pub Owed-destroy : (owes : Owes) → ((request : Request) (seq id : ℕ) → owes request Ends seq id (Frame (reply id Empty)))
+    → (acl : SessionACL) (owner seq : ℕ) (m : List ℕ) → incoming m ≡ Destroy
+    → OwedMessage owes acl owner seq m (Frame (reply (id_of m) Empty))
+Owed-destroy owes owes_end acl owner seq m is =
+    subst (λ (v : Verdict). owes (request_of (header_fields m)) v seq (id_of m) (Frame (reply (id_of m) Empty)))
+    (sym (ends-destroy acl owner (header m) (body m) is)) (owes_end (request_of (header_fields m)) seq (id_of m))

@@ -1,6 +1,7 @@
 -- How far a session is, and what a stretch of it takes from the source, hands to the sink and counts.
 use Rattle.std.specs.Prelude.{◌≡◌, ◌⊎◌, ◌≤◌, ◌<◌, ◌+◌, ◌++◌, ℕ, Bool, true, false, not, List, [], ◌∷◌, IfSome, map, length, min, filter}
 use Rattle.std.specs.List.{AllByRecursion}
+use Rattle.atomic_table.specs.Seated.{TableId}
 use Rattle.fuse_wire.specs.Faults.{counted, last_count}
 use Rattle.fuse_wire.specs.Source.{SourceState, Takes, TakesMessage, NothingLeft, Failed as SourceFailed}
 use Rattle.fuse_wire.specs.Sink.{SinkState, Note, Appends}
@@ -22,10 +23,11 @@ pub record Progress : Type 0 where
   pub counts : Transcript
   pub unasked : List (List ℕ)
 
--- what a contract sees of a channel: how far the session is, and the receive buffer
+-- what a contract sees of a channel: how far the session is, the receive buffer, and the line of notices
 pub record ChannelState : Type 0 where
   pub progress : Progress
   pub buffer : List ℕ
+  pub line : TableId
 
 abbrev pub nothing_yet : Transcript
 nothing_yet = record { received = 0; frames = 0; notes = 0; lost = 0; unrecorded = 0 }

@@ -7,6 +7,8 @@ use Rattle.fuse_config.specs.declared.mount_option.MountOption.{MountOption}
 use Rattle.fuse_config.specs.declared.mount_option.MountOption.TheVariants as option
 use Rattle.fuse_config.specs.declared.session_acl.SessionACL.TheVariants.{Owner}
 use Rattle.fuse_session.specs.Exchange.{Outcome}
+use Rattle.fuse_session.specs.Progress.{nothing_yet}
+use Rattle.fuse_session.specs.declared.ended.Ended.{Ended}
 use Rattle.fuse_session.specs.declared.error.SessionError.{SessionError}
 use Rattle.fuse_session.specs.declared.error.SessionError.TheVariants.{Conflict, AutoUnmount, CloneFd, Memory}
 
@@ -57,3 +59,8 @@ Untouched (Err e) = OfOptions e
 -- why a session does not begin
 abbrev pub NotBegun : Config → SessionError → Type 0
 NotBegun config e = RefusedAs config e ⊎ ((e ≡ Memory) × OptionsWell config)
+
+-- all is handed back as it was handed in, and nothing was counted
+abbrev pub IsUntouched : {F S K : Type 0} → F → S → K → Ended F S K → Type 0
+IsUntouched fs source sink ended =
+    (ended.filesystem ≡ fs) × (ended.source ≡ source) × (ended.sink ≡ sink) × (ended.transcript ≡ nothing_yet)

@@ -20,7 +20,7 @@ pub(crate) struct Buffers {
 impl Buffers {
     /// Takes it.
     pub(crate) fn new(alloc: Global) -> Result<Buffers, NoMemory>
-        ensures { IfOk result (λ b. (length b.receive.items ≡ BUFFER_SIZE) × (b.frames ≡ [])) }
+        ensures { IfOk result (λ b. (length b.receive.items ≡ BUFFER_SIZE) × (b.frames.passed ≡ [])) }
     {
         let receive = receive_buffer(alloc)?;
         let (frames, notifier) = FrameLine::new(alloc)?;

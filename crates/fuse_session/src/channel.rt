@@ -1,13 +1,15 @@
 // What a session speaks through: its source, its sink and its buffer, and the counts of what went through them.
-ghost use Rattle.std.specs.Prelude.{◌≡◌, ◌≤◌, [], length, take};
+ghost use Rattle.std.specs.Prelude.{◌≡◌, ◌≤◌, [], IfOk, length, take};
+ghost use Rattle.fuse_notify.specs.Queueing.{fresh_door};
 ghost use Rattle.fuse_session.specs.Progress.{DeliversOnce, NoticesAlone, TakesNext, nothing_yet, progress};
 
 use crate::Transcript;
 use crate::frame_line::FrameLine;
 use crate::taken::Taken;
+use fuse_notify::Notifier;
 use fuse_reply::{Out, OutEnd};
 use fuse_wire::consts::BUFFER_SIZE;
-use fuse_wire::{Received, Sink, Source};
+use fuse_wire::{NoMemory, Received, Sink, Source};
 use std::marker::Model;
 use std::sync::Wait;
 
@@ -29,8 +31,9 @@ impl<S: Source, K: Sink> Model for Channel<S, K> {
     ghost Value = { ChannelState };
 
     ghost view = { λ c. record {
-      progress = progress (S.told c.source) (K.told c.sink) c.transcript c.frames;
+      progress = progress (S.told c.source) (K.told c.sink) c.transcript c.frames.passed;
       buffer = c.buffer.items;
+      line = c.frames.line;
     } };
 
     ghost invariant = { λ c. length c.buffer.items ≡ BUFFER_SIZE };
@@ -40,7 +43,7 @@ impl<S: Source, K: Sink> Channel<S, K> {
     /// A channel through which nothing went yet.
     pub(crate) fn new(source: S, sink: K, buffer: Vec<u8>, frames: FrameLine) -> Channel<S, K>
         requires buffer { length buffer.items ≡ BUFFER_SIZE }
-        requires frames { frames ≡ [] }
+        requires frames { frames.passed ≡ [] }
         ensures { result.progress ≡ progress (S.told source) (K.told sink) nothing_yet [] }
     {
         Channel {
@@ -91,6 +94,14 @@ impl<S: Source, K: Sink> Channel<S, K> {
             }
         }
         unreachable!()
+    }
+
+    /// What queues notices, for whoever passes them on.
+    pub(crate) fn notifier(&mut self) -> Result<Notifier, NoMemory>
+        ensures same { self.new ≡ self.old }
+        ensures fresh { IfOk result (λ n. n ≡ fresh_door self.old.line) }
+    {
+        self.frames.notifier()
     }
 
     /// Hands something to the sink, and counts what became of it.

@@ -1,26 +1,23 @@
 // A filesystem for tests, which counts its calls, and sessions of it.
-ghost use Rattle.std.specs.Prelude.{◌<◌, false, refl};
+ghost use Rattle.std.specs.Prelude.{◌<◌};
 
-use crate::{Ended, Filesystem, SessionError, Transcript, defaults, mount};
-use fuse_config::{Config, KernelConfig};
-use fuse_notify::PollNotifier;
-use fuse_reply::{
-    Replied, ReplyAttr, ReplyData, ReplyDirectory, ReplyEmpty, ReplyEntry, ReplyOpen, ReplyPoll,
-    ReplyStatfs,
-};
+use crate::argument::Argument;
+use crate::probe::Probe;
+use crate::probing::Probing;
+use crate::{Ended, SessionError, Transcript, mount};
+use fuse_config::Config;
+use fuse_reply::{Replied, ReplyAttr, ReplyData, ReplyEntry};
 use fuse_request::Request;
 use fuse_wire::consts::MAX_WRITE_SIZE;
-use fuse_wire::{
-    Errno, FileHandle, INodeNo, LockOwner, OpenFlags, PollEvents, PollFlags, Sink, Source,
-};
+use fuse_wire::{Errno, FileHandle, INodeNo, LockOwner, OpenFlags, Sink, Source};
 use std::sync::Wait;
 use std::sync::atomic::{AtomicU64, Ordering};
 
 /// What a read gives where no other contents are said: more than a frame holds without memory.
 pub(crate) const CONTENTS: [u8; 200] = [0x2a; 200];
 
-/// A filesystem that accepts every kernel, and counts its calls and how often it was destroyed. It knows no name and no
-/// attributes, and reads the same contents from every offset. Its promise allows everything.
+/// A filesystem that counts its calls, each row of a batch of forgets as one too, and how often it was destroyed. It
+/// knows no name and no attributes, and reads the same contents from every offset.
 #[derive(Drop)]
 pub(crate) struct Counting {
     contents: Option<Vec<u8>>,
@@ -50,7 +47,7 @@ pub(crate) fn run<R: Wait + AllocGlobal, S: Source, K: Sink + Send>(
 /// Serves this filesystem in a session of this owner, with pages of this size.
 pub(crate) fn run_with<R: Wait + AllocGlobal, S: Source, K: Sink + Send>(
     rt: &R,
-    filesystem: Counting,
+    counting: Counting,
     source: S,
     sink: K,
     owner: u32,
@@ -59,8 +56,9 @@ pub(crate) fn run_with<R: Wait + AllocGlobal, S: Source, K: Sink + Send>(
 ) -> (Course, S, K)
     requires { 0 < page_size }
 {
+    let filesystem = Probing { probe: counting };
     let Ended {
-        filesystem,
+        filesystem: Probing { probe },
         source,
         sink,
         outcome,
@@ -69,8 +67,8 @@ pub(crate) fn run_with<R: Wait + AllocGlobal, S: Source, K: Sink + Send>(
     let course = Course {
         outcome,
         transcript,
-        calls: filesystem.calls.load(Ordering::SeqCst),
-        destroyed: filesystem.destroyed,
+        calls: probe.calls.load(Ordering::SeqCst),
+        destroyed: probe.destroyed,
     };
     (course, source, sink)
 }
@@ -85,26 +83,25 @@ impl Counting {
         }
     }
 
-    fn count(&self) {
-        self.calls.fetch_add(1, Ordering::SeqCst);
+    /// How often it was destroyed.
+    pub(crate) fn destroyed(&self) -> u64 {
+        self.destroyed
     }
 }
 
-impl Filesystem for Counting {
-    ghost promise = { record {
-      may_init = λ before request config result after config'. Unit {0};
-      may_answer = λ fs request call answer. Unit {0};
-      may_note = λ fs request call mark. Unit {0};
-      may_destroy = λ before after. Unit {0};
-      defers = false;
-    } };
+impl Probe for Counting {
+    ghost own = { λ call answer. Unit {0} };
 
-    const DEFERS: bool = false;
+    fn started(&mut self, _request: &Request) {}
 
-    ghost DEFERS = { false };
-
-    fn init(&mut self, _request: &Request, _config: &mut KernelConfig) -> Result<(), Errno> {
-        Ok(())
+    fn called(
+        &self,
+        _request: &Request,
+        _method: &'static str,
+        _arguments: &[Argument],
+        _texts: &[&[u8]],
+    ) {
+        self.calls.fetch_add(1, Ordering::SeqCst);
     }
 
     fn lookup(
@@ -114,12 +111,10 @@ impl Filesystem for Counting {
         _name: &[u8],
         reply: ReplyEntry,
     ) -> Replied {
-        self.count();
         reply.error(Errno::ENOENT)
     }
 
-    fn forget(&self, _request: &Request, ino: INodeNo, nlookup: u64) -> u64 {
-        self.count();
+    fn forget(&self, ino: INodeNo, nlookup: u64) -> u64 {
         ino.0.saturating_add(nlookup)
     }
 
@@ -130,7 +125,6 @@ impl Filesystem for Counting {
         _fh: Option<FileHandle>,
         reply: ReplyAttr,
     ) -> Replied {
-        self.count();
         reply.unanswered()
     }
 
@@ -145,7 +139,6 @@ impl Filesystem for Counting {
         _lock_owner: Option<LockOwner>,
         reply: ReplyData,
     ) -> Replied {
-        self.count();
         let contents = match &self.contents {
             Some(contents) => contents.as_slice(),
             None => CONTENTS.as_slice(),
@@ -154,112 +147,9 @@ impl Filesystem for Counting {
         reply.data(&contents[..count])
     }
 
-    fn poll(
-        &self,
-        _request: &Request,
-        _ino: INodeNo,
-        _fh: FileHandle,
-        _ph: PollNotifier,
-        _events: PollEvents,
-        _flags: PollFlags,
-        reply: ReplyPoll,
-    ) -> Replied {
-        self.count();
-        reply.error(Errno::ENOSYS)
-    }
-
-    fn symlink(
-        &self,
-        _request: &Request,
-        _parent: INodeNo,
-        _link_name: &[u8],
-        _target: &[u8],
-        reply: ReplyEntry,
-    ) -> Replied {
-        self.count();
-        defaults::symlink(reply)
-    }
-
-    fn link(
-        &self,
-        _request: &Request,
-        _ino: INodeNo,
-        _newparent: INodeNo,
-        _newname: &[u8],
-        reply: ReplyEntry,
-    ) -> Replied {
-        self.count();
-        defaults::link(reply)
-    }
-
-    fn open(
-        &self,
-        _request: &Request,
-        _ino: INodeNo,
-        _flags: OpenFlags,
-        reply: ReplyOpen,
-    ) -> Replied {
-        self.count();
-        defaults::open(reply)
-    }
-
-    fn release(
-        &self,
-        _request: &Request,
-        _ino: INodeNo,
-        _fh: FileHandle,
-        _flags: OpenFlags,
-        _lock_owner: Option<LockOwner>,
-        _flush: bool,
-        reply: ReplyEmpty,
-    ) -> Replied {
-        self.count();
-        defaults::release(reply)
-    }
-
-    fn opendir(
-        &self,
-        _request: &Request,
-        _ino: INodeNo,
-        _flags: OpenFlags,
-        reply: ReplyOpen,
-    ) -> Replied {
-        self.count();
-        defaults::opendir(reply)
-    }
-
-    fn readdir(
-        &self,
-        _request: &Request,
-        _ino: INodeNo,
-        _fh: FileHandle,
-        _offset: u64,
-        reply: ReplyDirectory,
-    ) -> Replied {
-        self.count();
-        defaults::readdir(reply)
-    }
-
-    fn releasedir(
-        &self,
-        _request: &Request,
-        _ino: INodeNo,
-        _fh: FileHandle,
-        _flags: OpenFlags,
-        reply: ReplyEmpty,
-    ) -> Replied {
-        self.count();
-        defaults::releasedir(reply)
-    }
-
-    fn statfs(&self, _request: &Request, _ino: INodeNo, reply: ReplyStatfs) -> Replied {
-        self.count();
-        defaults::statfs(reply)
-    }
-
-    fn destroy(&mut self) {
+    fn destroyed(&mut self) {
         self.destroyed = self.destroyed.saturating_add(1);
     }
 
-    ghost deferral = { refl };
+    ghost allows_default = { λ call. tt };
 }

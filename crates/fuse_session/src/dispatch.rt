@@ -1,33 +1,85 @@
 // What a request comes to: an error that the product fixes, or what the filesystem answers.
 ghost use Rattle.std.specs.Prelude.{◌≡◌, ℕ};
-ghost use Rattle.fuse_request.specs.Header.{header_of, request_of};
-ghost use Rattle.fuse_request.specs.Operation.{plain};
-ghost use Rattle.fuse_session.specs.Owed.{Owed, OwedBy, Owed-destroy};
+ghost use Rattle.fuse_session.specs.Asked.{IsOwed};
+ghost use Rattle.fuse_session.specs.Owed.{Owed-destroy, OwedMessage};
 ghost use Rattle.fuse_session.specs.Progress.{IsPrompt};
-ghost use Rattle.fuse_session.specs.Verdict.{served};
 
-use crate::Filesystem;
 use crate::access::AccessRule;
-use crate::judge::unserved_error;
+use crate::asked::Asked;
+use crate::handler::Handler;
 use crate::refusal::refusal;
 use crate::work::Work;
 use fuse_notify::Notifier;
-use fuse_reply::{
-    Out, ReplyAttr, ReplyData, ReplyDirectory, ReplyEmpty, ReplyEntry, ReplyOpen, ReplyPoll,
-    ReplyStatfs,
-};
+use fuse_reply::Out;
 use fuse_request::{AnyRequest, Operation};
 use fuse_wire::Errno;
 use std::alloc::Global;
 
-/// A filesystem, served to those whom the rule admits.
-pub(crate) struct Service<FS> {
-    pub(crate) filesystem: FS,
+/// A handler, for those whom the rule admits.
+pub(crate) struct Service<H> {
+    pub(crate) handler: H,
     pub(crate) rule: AccessRule,
 }
 
-impl<FS: Filesystem> Work for Service<FS> {
-    ghost owed = { λ service. Owed FS.promise service.filesystem service.rule.acl service.rule.owner };
+impl<H: Handler> Service<H> {
+    /// What an operation of a user who is served comes to.
+    #[inline(always)]
+    fn serve(&self, asked: &Asked, notifier: &mut Notifier, operation: &Operation<'_>) -> Out
+        ensures owed { IsOwed (H.owes self.now.handler) asked.now operation.now result }
+        ensures prompt { IsPrompt result }
+    {
+        match operation {
+            Operation::Lookup(operation) => self.handler.lookup(asked, operation),
+            Operation::Forget(operation) => self.handler.forget(asked, operation),
+            Operation::GetAttr(operation) => self.handler.getattr(asked, operation),
+            Operation::SetAttr(operation) => self.handler.setattr(asked, operation),
+            Operation::ReadLink(operation) => self.handler.readlink(asked, operation),
+            Operation::SymLink(operation) => self.handler.symlink(asked, operation),
+            Operation::MkNod(operation) => self.handler.mknod(asked, operation),
+            Operation::MkDir(operation) => self.handler.mkdir(asked, operation),
+            Operation::Unlink(operation) => self.handler.unlink(asked, operation),
+            Operation::RmDir(operation) => self.handler.rmdir(asked, operation),
+            Operation::Rename(operation) => self.handler.rename(asked, operation),
+            Operation::Link(operation) => self.handler.link(asked, operation),
+            Operation::Open(operation) => self.handler.open(asked, operation),
+            Operation::Read(operation) => self.handler.read(asked, operation),
+            Operation::Write(operation) => self.handler.write(asked, operation),
+            Operation::StatFs(operation) => self.handler.statfs(asked, operation),
+            Operation::Release(operation) => self.handler.release(asked, operation),
+            Operation::FSync(operation) => self.handler.fsync(asked, operation),
+            Operation::SetXAttr(operation) => self.handler.setxattr(asked, operation),
+            Operation::GetXAttr(operation) => self.handler.getxattr(asked, operation),
+            Operation::ListXAttr(operation) => self.handler.listxattr(asked, operation),
+            Operation::RemoveXAttr(operation) => self.handler.removexattr(asked, operation),
+            Operation::Flush(operation) => self.handler.flush(asked, operation),
+            Operation::Init(_) => asked.refusal(Errno::EIO),
+            Operation::OpenDir(operation) => self.handler.opendir(asked, operation),
+            Operation::ReadDir(operation) => self.handler.readdir(asked, operation),
+            Operation::ReleaseDir(operation) => self.handler.releasedir(asked, operation),
+            Operation::FSyncDir(operation) => self.handler.fsyncdir(asked, operation),
+            Operation::GetLk(operation) => self.handler.getlk(asked, operation),
+            Operation::SetLk(operation) => self.handler.setlk(asked, operation),
+            Operation::Access(operation) => self.handler.access(asked, operation),
+            Operation::Create(operation) => self.handler.create(asked, operation),
+            Operation::Interrupt(_) => asked.refusal(Errno::ENOSYS),
+            Operation::BMap(operation) => self.handler.bmap(asked, operation),
+            Operation::Destroy(_) => asked.destroyed(),
+            Operation::IoCtl(operation) => self.handler.ioctl(asked, operation),
+            Operation::Poll(operation) => self.handler.poll(asked, notifier, operation),
+            Operation::NotifyReply(_) => asked.refusal(Errno::ENOSYS),
+            Operation::BatchForget(operation) => self.handler.batch_forget(asked, operation),
+            Operation::FAllocate(operation) => self.handler.fallocate(asked, operation),
+            Operation::ReadDirPlus(operation) => self.handler.readdirplus(asked, operation),
+            Operation::Rename2(operation) => self.handler.rename2(asked, operation),
+            Operation::Lseek(operation) => self.handler.lseek(asked, operation),
+            Operation::CopyFileRange(operation) => self.handler.copy_file_range(asked, operation),
+            Operation::CuseInit(_) => asked.refusal(Errno::ENOSYS),
+        }
+    }
+}
+
+impl<H: Handler> Work for Service<H> {
+    ghost owed = { λ service. OwedMessage (H.owes service.handler) service.rule.acl service.rule.owner };
 
     #[inline(always)]
     fn answer(
@@ -42,106 +94,16 @@ impl<FS: Filesystem> Work for Service<FS> {
             Ok(operation) => operation,
             Err(error) => return refusal(alloc, id, error),
         };
-        let node = request.nodeid();
-        let filesystem = &self.filesystem;
-        let request = &request.request();
-        // Each arm returns: as the value of the match, a frame would be moved once more.
-        match operation {
-            Operation::Lookup(lookup) => {
-                let reply = ReplyEntry::new(alloc, id);
-                return filesystem
-                    .lookup(request, node, lookup.name(), reply)
-                    .into_out();
-            }
-            Operation::Forget(forget) => {
-                return Out::note(id, filesystem.forget(request, node, forget.nlookup()));
-            }
-            Operation::GetAttr(getattr) => {
-                let reply = ReplyAttr::new(alloc, id);
-                return filesystem
-                    .getattr(request, node, getattr.file_handle(), reply)
-                    .into_out();
-            }
-            Operation::SymLink(symlink) => {
-                let reply = ReplyEntry::new(alloc, id);
-                let (link_name, target) = (symlink.link_name(), symlink.target());
-                return filesystem
-                    .symlink(request, node, link_name, target, reply)
-                    .into_out();
-            }
-            Operation::Link(link) => {
-                let reply = ReplyEntry::new(alloc, id);
-                let (ino, dest) = (link.inode_no(), link.dest());
-                return filesystem
-                    .link(request, ino, node, dest.name, reply)
-                    .into_out();
-            }
-            Operation::Open(open) => {
-                let reply = ReplyOpen::new(alloc, id);
-                return filesystem
-                    .open(request, node, open.flags(), reply)
-                    .into_out();
-            }
-            Operation::StatFs(_) => {
-                let reply = ReplyStatfs::new(alloc, id);
-                return filesystem.statfs(request, node, reply).into_out();
-            }
-            Operation::Release(release) => {
-                let reply = ReplyEmpty::new(alloc, id);
-                let fh = release.file_handle();
-                let owner = release.lock_owner();
-                let (flags, flush) = (release.flags(), release.flush());
-                return filesystem
-                    .release(request, node, fh, flags, owner, flush, reply)
-                    .into_out();
-            }
-            Operation::OpenDir(opendir) => {
-                let reply = ReplyOpen::new(alloc, id);
-                return filesystem
-                    .opendir(request, node, opendir.flags(), reply)
-                    .into_out();
-            }
-            Operation::ReadDir(readdir) => {
-                let reply = ReplyDirectory::new(alloc, id, readdir.size() as usize);
-                let (fh, offset) = (readdir.file_handle(), readdir.offset());
-                return filesystem
-                    .readdir(request, node, fh, offset, reply)
-                    .into_out();
-            }
-            Operation::ReleaseDir(releasedir) => {
-                let reply = ReplyEmpty::new(alloc, id);
-                let (fh, flags) = (releasedir.file_handle(), releasedir.flags());
-                return filesystem
-                    .releasedir(request, node, fh, flags, reply)
-                    .into_out();
-            }
-            Operation::Read(read) => match read.offset() {
-                Ok(offset) => {
-                    let reply = ReplyData::new(alloc, id);
-                    let fh = read.file_handle();
-                    let owner = read.lock_owner();
-                    let (size, flags) = (read.size(), read.flags());
-                    return filesystem
-                        .read(request, node, fh, offset, size, flags, owner, reply)
-                        .into_out();
-                }
-                Err(error) => return refusal(alloc, id, error),
-            },
-            Operation::Poll(poll) => match notifier.poll_notifier(poll.kernel_handle()) {
-                Ok(news) => {
-                    let reply = ReplyPoll::new(alloc, id);
-                    let fh = poll.file_handle();
-                    let (events, flags) = (poll.events(), poll.flags());
-                    return filesystem
-                        .poll(request, node, fh, news, events, flags, reply)
-                        .into_out();
-                }
-                Err(_) => return refusal(alloc, id, Errno::ENOMEM),
-            },
-            other => return refusal(alloc, id, unserved_error(&other)),
-        }
+        let asked = Asked {
+            alloc,
+            id,
+            node: request.nodeid(),
+            request: request.request(),
+        };
+        self.serve(&asked, notifier, &operation)
     }
 
     ghost owed_to_destroy = { λ service seq m is.
-        Owed-destroy FS.promise service.filesystem service.rule.acl service.rule.owner seq m is };
+        Owed-destroy (H.owes service.handler) (H.owes_end service.handler)
+        service.rule.acl service.rule.owner seq m is };
 }

@@ -1,5 +1,6 @@
 // The line of frames that nobody asked for.
 ghost use Rattle.std.specs.Prelude.{◌≡◌, ◌++◌, [], ◌∷◌, IfOk, MatchOption};
+ghost use Rattle.fuse_notify.specs.Queueing.{fresh_door};
 
 use fuse_line::{Line, Pass};
 use fuse_notify::Notifier;
@@ -12,8 +13,8 @@ use std::sync::{Arc, Wait};
 /// How many notices can wait to be sent.
 const PLACES: usize = 64;
 
-/// The line of notices that wait to be sent, with its first pass. A contract sees those that were taken off it, in
-/// order.
+/// The line of notices that wait to be sent, with its first pass. A contract sees which line it is,
+/// and those that were taken off it, in order.
 #[derive(Drop)]
 pub(crate) struct FrameLine {
     line: Arc<Line<Parcel>, Global>,
@@ -21,13 +22,12 @@ pub(crate) struct FrameLine {
 }
 
 impl Model for FrameLine {
-    ghost use Rattle.std.specs.Prelude.{ℕ, List};
     ghost use Rattle.std.specs.Arc.{arc_value};
-    ghost use Rattle.fuse_session.specs.FrameLine.{IsAlone, notices_in};
+    ghost use Rattle.fuse_session.specs.FrameLine.{IsAlone, Passing, notices_in};
 
-    ghost Value = { List (List ℕ) };
+    ghost Value = { Passing };
 
-    ghost view = { λ f. notices_in f.pass.hand.taken };
+    ghost view = { λ f. record { line = arc_value f.line; passed = notices_in f.pass.hand.taken } };
 
     ghost invariant = { λ f. IsAlone (arc_value f.line) f.pass };
 }
@@ -35,16 +35,26 @@ impl Model for FrameLine {
 impl FrameLine {
     /// An empty line, and what queues notices on it.
     pub(crate) fn new(alloc: Global) -> Result<(FrameLine, Notifier), NoMemory>
-        ensures fresh { IfOk result (λ made. made.0 ≡ []) }
-        ensures places { IfOk result (λ made. made.1.line.slots ≡ PLACES) }
+        ensures fresh { IfOk result (λ made. (made.0.passed ≡ []) × (made.1 ≡ fresh_door made.0.line)) }
+        ensures places { IfOk result (λ made. made.0.line.slots ≡ PLACES) }
     {
-        let (line, mut pass) = Line::new(alloc, PLACES)?;
-        let door = line.split(&mut pass, true);
+        let (line, pass) = Line::new(alloc, PLACES)?;
         let Ok(line) = Arc::new(alloc, line) else {
             return Err(NoMemory);
         };
-        let share = Arc::try_clone(&line)?;
-        Ok((FrameLine { line, pass }, Notifier::new(share, door)))
+        let mut frames = FrameLine { line, pass };
+        let notifier = frames.notifier()?;
+        Ok((frames, notifier))
+    }
+
+    /// What queues notices on it.
+    pub(crate) fn notifier(&mut self) -> Result<Notifier, NoMemory>
+        ensures same { self.new ≡ self.old }
+        ensures fresh { IfOk result (λ n. n ≡ fresh_door self.old.line) }
+    {
+        let share = Arc::try_clone(&self.line)?;
+        let door = self.line.split(&mut self.pass, true);
+        Ok(Notifier::new(share, door))
     }
 
     /// Whether no notice waits.
@@ -59,7 +69,7 @@ impl FrameLine {
     pub(crate) fn next<R: Wait>(&mut self, rt: &R) -> Option<NoticeFrame>
         ensures { MatchOption result
             (self.new ≡ self.old)
-            (λ notice. self.new ≡ self.old ++ notice ∷ []) }
+            (λ notice. self.new ≡ record self.old { passed = self.old.passed ++ notice ∷ [] }) }
     {
         match self.line.pop(rt, &mut self.pass) {
             Some(Parcel::Notice(notice)) => Some(notice),

@@ -1,10 +1,9 @@
 // The verdict on a message after the handshake.
-ghost use Rattle.std.specs.Prelude.{◌≡◌, ℕ, true};
+ghost use Rattle.std.specs.Prelude.{◌≡◌, ℕ};
 ghost use Rattle.fuse_request.specs.Header.{header_fields};
 ghost use Rattle.fuse_request.specs.Operation.{plain};
 ghost use Rattle.fuse_session.specs.Decided.{Decides};
-ghost use Rattle.fuse_session.specs.Verdict.{is_always_called, is_unserved, served, verdict};
-ghost use Rattle.fuse_session.specs.Verdict.Verdict.{Fixed};
+ghost use Rattle.fuse_session.specs.Verdict.{fixed_error, is_forget, served, verdict};
 
 use crate::Verdict;
 use crate::access::AccessRule;
@@ -13,60 +12,44 @@ use fuse_config::SessionACL;
 use fuse_request::Operation;
 use fuse_wire::Errno;
 
-/// The error of an operation that no filesystem is asked: EIO for another INIT, EINVAL for an offset or a length that
-/// is in no file, and else ENOSYS.
-pub(crate) fn unserved_error(operation: &Operation<'_>) -> Errno
-    ensures { is_unserved (plain operation.now) ≡ true → (node : ℕ) → served node (plain operation.now) ≡ Fixed result }
+/// The error of an operation that no filesystem is asked.
+fn fixed_error(operation: &Operation<'_>) -> Option<Errno>
+    ensures { result ≡ fixed_error (plain operation.now) }
 {
     match operation {
-        Operation::Init(_) => Errno::EIO,
-        Operation::Write(write) => write.offset().err().unwrap_or(Errno::ENOSYS),
-        Operation::FAllocate(range) => {
-            let error = range.offset().err().or(range.len().err());
-            error.unwrap_or(Errno::ENOSYS)
+        Operation::Init(_) => Some(Errno::EIO),
+        Operation::Interrupt(_) | Operation::NotifyReply(_) | Operation::CuseInit(_) => {
+            Some(Errno::ENOSYS)
         }
-        Operation::CopyFileRange(range) => {
-            let error = range.src().err().or(range.dest().err());
-            error.unwrap_or(Errno::ENOSYS)
-        }
-        _ => Errno::ENOSYS,
+        Operation::IoCtl(ioctl) => ioctl.unrestricted().then_some(Errno::ENOSYS),
+        Operation::Read(read) => read.offset().err(),
+        Operation::Write(write) => write.offset().err(),
+        Operation::FAllocate(range) => range.offset().err().or(range.len().err()),
+        Operation::CopyFileRange(range) => range.src().err().or(range.dest().err()),
+        _ => None,
     }
 }
 
-/// Whether the filesystem is asked this operation, whatever its arguments are.
-fn is_always_called(operation: &Operation<'_>) -> bool
-    ensures { result ≡ is_always_called (plain operation.now) }
+/// Whether it is a forget, which leaves a note.
+fn is_forget(operation: &Operation<'_>) -> bool
+    ensures { result ≡ is_forget (plain operation.now) }
 {
-    matches!(
-        operation,
-        Operation::Lookup(_)
-            | Operation::GetAttr(_)
-            | Operation::SymLink(_)
-            | Operation::Link(_)
-            | Operation::Open(_)
-            | Operation::StatFs(_)
-            | Operation::Release(_)
-            | Operation::OpenDir(_)
-            | Operation::ReadDir(_)
-            | Operation::ReleaseDir(_)
-            | Operation::Poll(_)
-    )
+    matches!(operation, Operation::Forget(_) | Operation::BatchForget(_))
 }
 
 /// The verdict on an operation of a user who is served.
 fn judge(operation: Operation<'_>) -> Verdict<'_>
     ensures { (node : ℕ) → Decides node result (served node (plain operation.entry)) }
 {
-    if is_always_called(&operation) {
-        return Verdict::Call(operation);
+    if let Some(error) = fixed_error(&operation) {
+        return Verdict::Fixed(error);
+    }
+    if is_forget(&operation) {
+        return Verdict::Forget(operation);
     }
     match operation {
-        Operation::Forget(forget) => Verdict::Forget(Operation::Forget(forget)),
-        Operation::Read(read) => match read.offset() {
-            Ok(_) => Verdict::Call(Operation::Read(read)),
-            Err(error) => Verdict::Fixed(error),
-        },
-        other => Verdict::Fixed(unserved_error(&other)),
+        Operation::Destroy(_) => Verdict::Ends,
+        other => Verdict::Call(other),
     }
 }
 
@@ -81,8 +64,8 @@ fn judge(operation: Operation<'_>) -> Verdict<'_>
 /// - another INIT: EIO;
 /// - INTERRUPT, NOTIFY_REPLY, CUSE_INIT, and an IOCTL that is not restricted: ENOSYS;
 /// - an offset or a length that is in no file, of READ, WRITE, FALLOCATE or COPY_FILE_RANGE: EINVAL;
-/// - FORGET: `Forget`;
-/// - a call for which the filesystem has a method: `Call`; any other is ENOSYS yet.
+/// - FORGET and BATCH_FORGET: `Forget`;
+/// - all else: `Call`.
 pub fn verdict(acl: SessionACL, owner: u32, message: &[u8]) -> Verdict<'_>
     ensures { Decides (header_fields message.now).nodeid.0 result (verdict acl owner message.now) }
 {

@@ -1,5 +1,6 @@
 // Notices, which are sent after the frame of the message that was answered last.
 use crate::polling::Polling;
+use crate::probing::Probing;
 use crate::test_messages::{ACCEPTED, ENOENT, INIT_7_8, error_reply, getattr, poll, source_of};
 use crate::{Ended, Transcript, mount};
 use fuse_config::{Config, SessionACL};
@@ -44,9 +45,11 @@ fn serves<R: Wait + AllocGlobal + Abort + Send + Sync + Copy>(
     let mut config = Config::new(alloc);
     config.acl = SessionACL::All;
     let source = source_of(alloc, messages)?;
-    let filesystem = Polling::new(*rt, alloc);
+    let filesystem = Probing {
+        probe: Polling::new(*rt, alloc),
+    };
     let Ended {
-        filesystem,
+        filesystem: Probing { probe },
         source: _,
         sink,
         outcome,
@@ -61,7 +64,7 @@ fn serves<R: Wait + AllocGlobal + Abort + Send + Sync + Copy>(
     };
     assert_eq!(rt; (outcome, transcript), (Ok(()), expected));
     assert_eq!(rt;
-        (sink.frames().len(), filesystem.waiting()),
+        (sink.frames().len(), probe.waiting()),
         (frames.len(), waiting)
     );
     for (place, (sent, frame)) in sink.frames().iter().zip(frames).enumerate() {

@@ -1,7 +1,7 @@
 // What a session looks at before anything is taken.
-ghost use Rattle.std.specs.Prelude.{◌≡◌, ◌↔◌, [], IfErr, IfOk, IsTrue, MatchResult, length};
+ghost use Rattle.std.specs.Prelude.{◌≡◌, ◌↔◌, ◌⊎◌, [], IfErr, IfOk, IsTrue, MatchResult, length};
 ghost use Rattle.std.specs.List.{list_any};
-ghost use Rattle.fuse_session.specs.Refused.{ManyThreads, NotBegun, OptionsWell, RefusedAs, is_auto_unmount};
+ghost use Rattle.fuse_session.specs.Refused.{ClonesDevice, ManyThreads, NotBegun, OptionsWell, RefusedAs, is_auto_unmount};
 
 use crate::SessionError;
 use crate::buffers::Buffers;
@@ -11,11 +11,33 @@ use std::alloc::Global;
 
 /// The memory of a session. The options are looked at first.
 pub(crate) fn prepare(alloc: Global, config: &Config) -> Result<Buffers, SessionError>
-    ensures ok { IfOk result (λ b. (length b.receive.items ≡ BUFFER_SIZE) × (b.frames ≡ [])) }
+    ensures ok { IfOk result (λ b. (length b.receive.items ≡ BUFFER_SIZE) × (b.frames.passed ≡ [])) }
     ensures well { IfOk result (λ _. OptionsWell config.now) }
     ensures refused { IfErr result (λ e. NotBegun config.now e) }
 {
     check_options(config)?;
+    take_memory(alloc)
+}
+
+/// The memory of a session over a device that is mounted already. That each of several threads is to have its own is
+/// looked at first.
+pub(crate) fn prepare_device(alloc: Global, config: &Config) -> Result<Buffers, SessionError>
+    ensures ok { IfOk result (λ b. (length b.receive.items ≡ BUFFER_SIZE) × (b.frames.passed ≡ [])) }
+    ensures well { IfOk result (λ _. ¬ (ClonesDevice config.now)) }
+    ensures refused { IfErr result (λ e. ((e ≡ SessionError.CloneFd) × ClonesDevice config.now)
+        ⊎ ((e ≡ SessionError.Memory) × ¬ (ClonesDevice config.now))) }
+{
+    if clones_device(config) {
+        return Err(SessionError::CloneFd);
+    }
+    take_memory(alloc)
+}
+
+/// The memory of a session.
+fn take_memory(alloc: Global) -> Result<Buffers, SessionError>
+    ensures ok { IfOk result (λ b. (length b.receive.items ≡ BUFFER_SIZE) × (b.frames.passed ≡ [])) }
+    ensures refused { IfErr result (λ e. e ≡ SessionError.Memory) }
+{
     match Buffers::new(alloc) {
         Ok(buffers) => Ok(buffers),
         Err(_) => Err(SessionError::Memory),
@@ -32,10 +54,17 @@ fn check_options(config: &Config) -> Result<(), SessionError>
     if config.acl == SessionACL::Owner && lists_auto_unmount(config.mount_options.as_slice()) {
         return Err(SessionError::AutoUnmount);
     }
-    if config.clone_fd && are_many(config.n_threads) {
+    if clones_device(config) {
         return Err(SessionError::CloneFd);
     }
     Ok(())
+}
+
+/// Whether each of several threads is to have a device of its own.
+fn clones_device(config: &Config) -> bool
+    ensures { IsTrue result ↔ ClonesDevice config.now }
+{
+    config.clone_fd && are_many(config.n_threads)
 }
 
 /// Whether `AutoUnmount` is among the options.

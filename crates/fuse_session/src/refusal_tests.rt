@@ -1,4 +1,4 @@
-// What a session itself refuses, and never asks the filesystem.
+// What a session itself refuses, where it never asks the filesystem.
 use crate::Transcript;
 use crate::counting::{Course, run};
 use crate::test_messages::{
@@ -6,9 +6,8 @@ use crate::test_messages::{
 };
 use fuse_config::{Config, SessionACL};
 use fuse_request::opcode::{
-    FUSE_BATCH_FORGET, FUSE_COPY_FILE_RANGE, FUSE_FALLOCATE, FUSE_INIT, FUSE_INTERRUPT, FUSE_IOCTL,
-    FUSE_LSEEK, FUSE_NOTIFY_REPLY, FUSE_READ, FUSE_READDIRPLUS, FUSE_READLINK, FUSE_STATFS,
-    FUSE_WRITE,
+    FUSE_COPY_FILE_RANGE, FUSE_FALLOCATE, FUSE_INIT, FUSE_INTERRUPT, FUSE_IOCTL, FUSE_LSEEK,
+    FUSE_NOTIFY_REPLY, FUSE_READ, FUSE_READDIR, FUSE_READDIRPLUS, FUSE_STATFS, FUSE_WRITE,
 };
 use fuse_wire::{Items, MemorySink, MemorySource, Turn};
 use std::alloc::{AllocError, Global};
@@ -38,11 +37,12 @@ fn took_errors<R: Abort>(rt: &R, sink: &MemorySink, rows: &[Refusal]) {
     }
 }
 
-/// Serves these messages after an INIT, in one session of root. Each gets its error, and the filesystem is not called.
-fn refuses<R: Wait + AllocGlobal + Abort>(
+/// Serves these messages after an INIT, in one session of root. Each gets its error, and so many call the filesystem.
+fn serves<R: Wait + AllocGlobal + Abort>(
     rt: &R,
     acl: SessionACL,
     rows: &[Refusal],
+    calls: u64,
 ) -> Result<(), Fail> {
     let alloc = rt.alloc();
     let mut config = Config::new(rt.alloc());
@@ -60,7 +60,7 @@ fn refuses<R: Wait + AllocGlobal + Abort>(
             lost: 0,
             unrecorded: 0,
         },
-        calls: 0,
+        calls,
         destroyed: 1,
     };
     assert_eq!(rt; course, expected);
@@ -71,57 +71,57 @@ fn refuses<R: Wait + AllocGlobal + Abort>(
 #[test]
 fn refuses_by_what_is_asked(rt: HostRuntime) -> Result<(), Fail> {
     let rows = [
-        // READ, FALLOCATE and COPY_FILE_RANGE with an offset or a length in no file, and in a file
+        // READ, WRITE, FALLOCATE and COPY_FILE_RANGE with an offset or a length in no file
         (FUSE_READ, 2, 55, 0x80, EINVAL),
-        (FUSE_FALLOCATE, 3, 55, 0x80, EINVAL),
-        (FUSE_FALLOCATE, 4, 63, 0x80, EINVAL),
-        (FUSE_FALLOCATE, 5, 63, 0x7f, ENOSYS),
+        (FUSE_WRITE, 3, 55, 0x80, EINVAL),
+        (FUSE_FALLOCATE, 4, 55, 0x80, EINVAL),
+        (FUSE_FALLOCATE, 5, 63, 0x80, EINVAL),
         (FUSE_COPY_FILE_RANGE, 6, 55, 0x80, EINVAL),
         (FUSE_COPY_FILE_RANGE, 7, 79, 0x80, EINVAL),
-        (FUSE_COPY_FILE_RANGE, 8, 79, 0x7f, ENOSYS),
         // INTERRUPT, NOTIFY_REPLY, and an IOCTL that is not restricted
-        (FUSE_INTERRUPT, 9, 40, 0, ENOSYS),
-        (FUSE_NOTIFY_REPLY, 10, 40, 0, ENOSYS),
-        (FUSE_IOCTL, 11, 48, 2, ENOSYS),
-        // READLINK, BATCH_FORGET, and READDIRPLUS and LSEEK, whose offsets are not looked at
-        (FUSE_READLINK, 12, 40, 0, ENOSYS),
-        (FUSE_BATCH_FORGET, 13, 40, 0, ENOSYS),
-        (FUSE_READDIRPLUS, 14, 55, 0x80, ENOSYS),
-        (FUSE_LSEEK, 15, 55, 0x80, ENOSYS),
+        (FUSE_INTERRUPT, 8, 40, 0, ENOSYS),
+        (FUSE_NOTIFY_REPLY, 9, 40, 0, ENOSYS),
+        (FUSE_IOCTL, 10, 48, 2, ENOSYS),
         // another INIT
-        (FUSE_INIT, 16, 40, 7, EIO),
+        (FUSE_INIT, 11, 40, 7, EIO),
     ];
-    refuses(&rt, SessionACL::All, &rows)
+    serves(&rt, SessionACL::All, &rows, 0)
 }
 
 #[test]
-fn refuses_a_write_before_the_file(rt: HostRuntime) -> Result<(), Fail> {
+fn asks_what_is_in_a_file_or_not_looked_at(rt: HostRuntime) -> Result<(), Fail> {
     let rows = [
-        (FUSE_WRITE, 2, 55, 0x80, EINVAL),
-        (FUSE_WRITE, 3, 55, 0x7f, ENOSYS),
+        (FUSE_WRITE, 2, 55, 0x7f, ENOSYS),
+        (FUSE_FALLOCATE, 3, 55, 0x7f, ENOSYS),
+        (FUSE_FALLOCATE, 4, 63, 0x7f, ENOSYS),
+        (FUSE_COPY_FILE_RANGE, 5, 55, 0x7f, ENOSYS),
+        (FUSE_COPY_FILE_RANGE, 6, 79, 0x7f, ENOSYS),
+        // READDIR, READDIRPLUS and LSEEK, whose offsets are not looked at, and how much a COPY_FILE_RANGE copies
+        (FUSE_READDIR, 7, 55, 0x80, ENOSYS),
+        (FUSE_READDIRPLUS, 8, 55, 0x80, ENOSYS),
+        (FUSE_LSEEK, 9, 55, 0x80, ENOSYS),
+        (FUSE_COPY_FILE_RANGE, 10, 87, 0x80, ENOSYS),
     ];
-    refuses(&rt, SessionACL::All, &rows)
+    serves(&rt, SessionACL::All, &rows, 9)
 }
 
 #[test]
 fn refuses_whom_it_does_not_serve(rt: HostRuntime) -> Result<(), Fail> {
     let rows = [
-        // READ, WRITE, READDIRPLUS, BATCH_FORGET and INIT pass
+        // READ, WRITE and INIT pass
         (FUSE_READ, 2, 55, 0x80, EINVAL),
         (FUSE_WRITE, 3, 55, 0x80, EINVAL),
-        (FUSE_READDIRPLUS, 4, 40, 0, ENOSYS),
-        (FUSE_BATCH_FORGET, 5, 40, 0, ENOSYS),
-        (FUSE_INIT, 6, 40, 7, EIO),
+        (FUSE_INIT, 4, 40, 7, EIO),
         // FALLOCATE, COPY_FILE_RANGE, INTERRUPT, NOTIFY_REPLY, IOCTL, STATFS and LSEEK do not
-        (FUSE_FALLOCATE, 7, 55, 0x80, EACCES),
-        (FUSE_COPY_FILE_RANGE, 8, 55, 0x80, EACCES),
-        (FUSE_INTERRUPT, 9, 40, 0, EACCES),
-        (FUSE_NOTIFY_REPLY, 10, 40, 0, EACCES),
-        (FUSE_IOCTL, 11, 48, 2, EACCES),
-        (FUSE_STATFS, 12, 40, 0, EACCES),
-        (FUSE_LSEEK, 13, 40, 0, EACCES),
+        (FUSE_FALLOCATE, 5, 55, 0x80, EACCES),
+        (FUSE_COPY_FILE_RANGE, 6, 55, 0x80, EACCES),
+        (FUSE_INTERRUPT, 7, 40, 0, EACCES),
+        (FUSE_NOTIFY_REPLY, 8, 40, 0, EACCES),
+        (FUSE_IOCTL, 9, 48, 2, EACCES),
+        (FUSE_STATFS, 10, 40, 0, EACCES),
+        (FUSE_LSEEK, 11, 40, 0, EACCES),
         // an opcode that names no operation
-        (NO_OPCODE, 14, 40, 0, ENOSYS),
+        (NO_OPCODE, 12, 40, 0, ENOSYS),
     ];
-    refuses(&rt, SessionACL::Owner, &rows)
+    serves(&rt, SessionACL::Owner, &rows, 0)
 }

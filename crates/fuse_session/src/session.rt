@@ -1,131 +1,319 @@
-// Serving a filesystem, from the first message to the last.
-ghost use Rattle.std.specs.Prelude.{◌≡◌, ◌≢◌, ◌<◌, ◌⊎◌, ◌↔◌, ℕ, [], Ok, Err, false, length};
-ghost use Rattle.fuse_session.specs.Progress.{nothing_yet};
-ghost use Rattle.fuse_session.specs.Complete.{AcceptsAll, SessionWell};
-ghost use Rattle.fuse_session.specs.Exchange.{Exchange, Mounted, setup, setup_of};
+// Sessions: opened by the handshake, and then run.
+ghost use Rattle.std.specs.Prelude.{◌≡◌, ◌≢◌, ◌<◌, ◌⊎◌, ◌↔◌, ℕ, [], Ok, Err, Some, IfErr, IfOk, MatchResult};
+ghost use Rattle.std.specs.Prelude.{false, length};
+ghost use Rattle.fuse_config.specs.declared.session_acl.SessionACL.{SessionACL as ACL};
+ghost use Rattle.fuse_notify.specs.Queueing.{fresh_door};
+ghost use Rattle.fuse_session.specs.Complete.{AcceptsAll, HandshakeWell, RunWell, SessionWell};
+ghost use Rattle.fuse_session.specs.Exchange.{Closed, Mounted, Unopened, setup, setup_of};
 ghost use Rattle.fuse_session.specs.Headline.{Headline, Lossless};
-ghost use Rattle.fuse_session.specs.Refused.{OfOptions, OptionsWell, RefusedAs, Untouched};
-ghost use Rattle.fuse_session.specs.SessionEnd.{run_outcome};
+ghost use Rattle.fuse_session.specs.HandshakeStep.{HandshakeRun};
+ghost use Rattle.fuse_session.specs.Refused.{ClonesDevice, IsUntouched, OfOptions, OptionsWell, RefusedAs, Untouched};
+ghost use Rattle.fuse_session.specs.Session.{Ends, EndsRun, IsOpened, OpensNone, Ran, Serves, setup_for};
+ghost use Rattle.fuse_session.specs.declared.handshake.HandshakeOutcome.TheVariants.{Accepted};
+ghost use Rattle.fuse_wire.specs.Source.{SourceState};
+ghost use Rattle.fuse_wire.specs.Sink.{SinkState};
 
 use crate::access::AccessRule;
+use crate::asking::Asking;
 use crate::buffers::Buffers;
 use crate::channel::Channel;
 use crate::dispatch::Service;
-use crate::event_loop::{End, run_inline};
+use crate::ended::{destroyed, untouched};
+use crate::event_loop::run_inline;
 use crate::handshake::{HandshakeOutcome, handshake};
-use crate::options::prepare;
-use crate::{Filesystem, InvalidData, SessionError, Transcript};
-use fuse_config::Config;
+use crate::options::{prepare, prepare_device};
+use crate::{Ended, Filesystem, SessionError};
+use fuse_config::{Config, SessionACL};
 use fuse_notify::Notifier;
 use fuse_wire::consts::BUFFER_SIZE;
-use fuse_wire::{Sink, Source};
+use fuse_wire::{NoMemory, Sink, Source};
+use std::marker::Model;
 use std::sync::Wait;
 
-/// How a session ended. It hands back all that the session was given.
-#[derive(Debug)]
-pub struct Ended<FS, S, K> {
-    /// The filesystem, after its `destroy` unless the options were refused or no memory was to be had.
-    pub filesystem: FS,
-    /// The source, with the messages that were not taken.
-    pub source: S,
-    /// The sink, with the frames and notes that it took.
-    pub sink: K,
-    /// Ok where the source ended after the handshake, or the kernel sent DESTROY. Else why it ended early.
-    pub outcome: Result<(), SessionError>,
-    /// What the session did, in numbers.
-    pub transcript: Transcript,
-}
-
-impl End {
-    /// The outcome of a session whose run ended so.
-    fn outcome(self) -> Result<(), SessionError>
-        ensures { result ≡ run_outcome self }
-    {
-        match self {
-            End::Gone | End::Destroyed => Ok(()),
-            End::Broken(error) => Err(SessionError::InvalidData(InvalidData::Header(error))),
-            End::Failed => Err(SessionError::Receive),
-        }
-    }
-}
-
-/// The handshake, and where it is accepted and some thread is to serve the run after it.
-fn exchange<R: Wait + AllocGlobal, FS: Filesystem, S: Source, K: Sink>(
-    rt: &R,
-    service: &mut Service<FS>,
-    page_size: u32,
+/// A session whose handshake was accepted. It must be spent: `run` serves it to its end. A contract sees what it was
+/// opened with, and how far it is.
+pub struct Session<FS, S: Source, K: Sink> {
+    service: Service<Asking<FS>>,
     n_threads: Option<usize>,
-    notifier: &mut Notifier,
+    notifier: Notifier,
+    channel: Channel<S, K>,
+}
+
+impl<FS, S: Source, K: Sink> Model for Session<FS, S, K> {
+    ghost use Rattle.fuse_session.specs.Session.{Opened};
+
+    ghost Value = { Opened FS };
+
+    ghost view = { λ s. record {
+      filesystem = s.service.handler.filesystem;
+      acl = s.service.rule.acl;
+      owner = s.service.rule.owner;
+      threads = s.n_threads;
+      progress = s.channel.progress;
+      line = s.channel.line;
+    } };
+}
+
+/// The handshake, whose refusal is the outcome of a session.
+fn shake<R: Wait + AllocGlobal, FS: Filesystem, S: Source, K: Sink>(
+    rt: &R,
+    filesystem: &mut FS,
+    page_size: u32,
     channel: &mut Channel<S, K>,
 ) -> Result<(), SessionError>
     requires { 0 < page_size }
-    ensures rule { service.new.rule ≡ service.old.rule }
-    ensures exchange { Exchange
-        (setup_of FS.promise page_size n_threads service.old.rule.acl service.old.rule.owner)
-        service.old.filesystem service.new.filesystem result channel.old.progress channel.new.progress }
+    ensures { MatchResult result
+        (λ _. HandshakeRun FS.promise.may_init page_size Accepted filesystem.old filesystem.new
+        channel.old.progress channel.new.progress)
+        (λ e. OpensNone (Err e) × ((threads : _) (acl : ACL) (owner : ℕ) →
+        Unopened (setup_of FS.promise page_size threads acl owner) filesystem.old filesystem.new (Err e)
+        channel.old.progress channel.new.progress)) }
 {
-    match handshake(rt, &mut service.filesystem, page_size, channel) {
-        HandshakeOutcome::Accepted if n_threads == Some(0) => Err(SessionError::Threads),
-        HandshakeOutcome::Accepted => run_inline(rt, service, notifier, channel).outcome(),
+    match handshake(rt, filesystem, page_size, channel) {
+        HandshakeOutcome::Accepted => Ok(()),
         HandshakeOutcome::Gone => Err(SessionError::NotConnected),
         HandshakeOutcome::Refused(error) => Err(SessionError::of_handshake(error)),
         HandshakeOutcome::Failed => Err(SessionError::Receive),
     }
 }
 
-/// A session over memory that was taken before.
-fn serve<R: Wait + AllocGlobal, FS: Filesystem, S: Source, K: Sink>(
+/// Opens a session over memory that was taken before.
+fn open<R: Wait + AllocGlobal, FS: Filesystem, S: Source, K: Sink>(
     rt: &R,
-    mut service: Service<FS>,
+    mut filesystem: FS,
     source: S,
     sink: K,
     buffers: Buffers,
     page_size: u32,
+    rule: AccessRule,
     n_threads: Option<usize>,
-) -> Ended<FS, S, K>
+) -> Result<Session<FS, S, K>, Ended<FS, S, K>>
     requires page { 0 < page_size }
     requires buffer { length buffers.receive.items ≡ BUFFER_SIZE }
-    requires frames { buffers.frames ≡ [] }
-    ensures { Mounted (setup_of FS.promise page_size n_threads service.rule.acl service.rule.owner)
-        service.filesystem result.filesystem result.outcome (S.told source) (S.told result.source)
-        (K.told sink) (K.told result.sink) result.transcript }
+    requires frames { buffers.frames.passed ≡ [] }
+    ensures opened { IfOk result (λ s. IsOpened FS.promise page_size filesystem (S.told source) (K.told sink) s
+        × Serves rule.acl rule.owner n_threads s) }
+    ensures closed { IfErr result (λ e. OpensNone e.outcome
+        × Closed (setup_of FS.promise page_size n_threads rule.acl rule.owner) filesystem e.filesystem e.outcome
+        (S.told source) (S.told e.source) (K.told sink) (K.told e.sink) e.transcript) }
 {
     let Buffers {
         receive,
         frames,
-        mut notifier,
+        notifier,
     } = buffers;
     let mut channel = Channel::new(source, sink, receive, frames);
-    let outcome = exchange(
-        rt,
-        &mut service,
-        page_size,
-        n_threads,
-        &mut notifier,
-        &mut channel,
-    );
-    let Service {
-        mut filesystem,
-        rule: _,
-    } = service;
-    filesystem.destroy();
-    let (source, sink, transcript) = channel.into_parts();
-    Ended {
-        filesystem,
-        source,
-        sink,
-        outcome,
-        transcript,
+    match shake(rt, &mut filesystem, page_size, &mut channel) {
+        Ok(()) => {
+            let handler = Asking { filesystem };
+            Ok(Session {
+                service: Service { handler, rule },
+                n_threads,
+                notifier,
+                channel,
+            })
+        }
+        Err(error) => Err(destroyed(filesystem, channel, Err(error))),
     }
 }
 
-/// Serves a filesystem: the handshake with the kernel, then each message, until the source ends or the kernel sends
-/// DESTROY. Each message is answered before the next is taken. `owner` is the user whose session it is, and `config`
-/// says whose requests are served. `page_size` is in bytes, and not 0: the kernel is told how many pages a request may
-/// span. First of all the options of `config` are looked at, and then the memory of the session is taken, the only memory
-/// that it takes itself: where messages are received, and the line of notices. Where the options are refused, or there is
-/// no memory, the outcome says so, and nothing else was done.
-/// Otherwise `destroy` is called once. A frame or a note that the sink refuses is counted as lost, and not sent again.
+/// Serves a session that was opened. No thread is to serve where their number is 0.
+fn serve<R: Wait + AllocGlobal, FS: Filesystem, S: Source, K: Sink>(
+    rt: &R,
+    service: &Service<Asking<FS>>,
+    n_threads: Option<usize>,
+    notifier: &mut Notifier,
+    channel: &mut Channel<S, K>,
+) -> Result<(), SessionError>
+    ensures { Ends FS.promise service.now.handler.filesystem service.now.rule.acl service.now.rule.owner n_threads
+        result channel.old.progress channel.new.progress }
+{
+    if n_threads == Some(0) {
+        return Err(SessionError::Threads);
+    }
+    run_inline(rt, service, notifier, channel).outcome()
+}
+
+impl<FS: Filesystem, S: Source, K: Sink> Session<FS, S, K> {
+    /// Opens a session: first the options of `config` are looked at, then its memory is taken, the only memory that a
+    /// session takes itself (where messages are received, and the line of notices), and then the kernel is greeted.
+    /// `owner` is the user whose session it is, and `config` says whose requests are served. `page_size` is in bytes, and
+    /// not 0: the kernel is told how many pages a request may span.
+    ///
+    /// An error hands all back. Where the options are refused, or there is no memory, nothing else was done; otherwise
+    /// `destroy` was called once. It is never `SessionError::Threads`.
+    pub fn new<R: Wait + AllocGlobal>(
+        rt: &R,
+        filesystem: FS,
+        source: S,
+        sink: K,
+        owner: u32,
+        page_size: u32,
+        config: &Config,
+    ) -> Result<Session<FS, S, K>, Ended<FS, S, K>>
+        requires page { 0 < page_size }
+
+        // A handshake that was accepted opened it.
+        ensures opened { IfOk result (λ s. IsOpened FS.promise page_size filesystem (S.told source) (K.told sink) s
+            × Serves config.now.acl owner config.now.n_threads s) }
+
+        // What was taken, sent, lost and counted where it was not, why it ended so, and that `destroy` was called once.
+        ensures ended { IfErr result (λ e. ¬ (Untouched e.outcome) →
+            Closed (setup FS.promise page_size config.now owner) filesystem e.filesystem e.outcome
+            (S.told source) (S.told e.source) (K.told sink) (K.told e.sink) e.transcript) }
+
+        // Its error is never Ok, and never that no thread is to serve.
+        ensures causes { IfErr result (λ e. OpensNone e.outcome ⊎ Untouched e.outcome) }
+
+        // It is opened where nothing is amiss, but for want of memory.
+        ensures complete { IfErr result (λ e. OptionsWell config.now →
+            HandshakeWell FS.promise.may_init filesystem (S.told source) (S.told e.source) →
+            e.outcome ≡ Err SessionError.Memory) }
+
+        // Where `init` refuses nothing, its error is not the outcome.
+        ensures accepted { IfErr result (λ e. AcceptsAll FS.promise.may_init filesystem →
+            (n : ℕ) → e.outcome ≢ Err (SessionError.Init n)) }
+
+        // Options are refused exactly where a cause holds, and none that is looked at before it.
+        ensures options { (error : SessionError) → OfOptions error →
+            MatchResult result (λ _. ⊥) (λ e. e.outcome ≡ Err error) ↔ RefusedAs config.now error }
+
+        // Refused options, and want of memory, leave all as it was.
+        ensures untouched { IfErr result (λ e. Untouched e.outcome → IsUntouched filesystem source sink e) }
+    {
+        let rule = AccessRule {
+            acl: config.acl,
+            owner,
+        };
+        match prepare(rt.alloc(), config) {
+            Ok(buffers) => open(
+                rt,
+                filesystem,
+                source,
+                sink,
+                buffers,
+                page_size,
+                rule,
+                config.n_threads,
+            ),
+            Err(error) => Err(untouched(filesystem, source, sink, error)),
+        }
+    }
+
+    /// Opens a session over a device that is mounted already: as `new`, but `acl` says whose requests are served, not
+    /// `config`, and of the options `CloneFd` alone is looked at.
+    pub fn from_device<R: Wait + AllocGlobal>(
+        rt: &R,
+        filesystem: FS,
+        source: S,
+        sink: K,
+        acl: SessionACL,
+        owner: u32,
+        page_size: u32,
+        config: Config,
+    ) -> Result<Session<FS, S, K>, Ended<FS, S, K>>
+        requires page { 0 < page_size }
+
+        // A handshake that was accepted opened it.
+        ensures opened { IfOk result (λ s. IsOpened FS.promise page_size filesystem (S.told source) (K.told sink) s
+            × Serves acl owner config.n_threads s) }
+
+        // What was taken, sent, lost and counted where it was not, why it ended so, and that `destroy` was called once.
+        ensures ended { IfErr result (λ e. ¬ (Untouched e.outcome) →
+            Closed (setup_of FS.promise page_size config.n_threads acl owner) filesystem e.filesystem e.outcome
+            (S.told source) (S.told e.source) (K.told sink) (K.told e.sink) e.transcript) }
+
+        // Its error is never Ok, and never that no thread is to serve.
+        ensures causes { IfErr result (λ e. OpensNone e.outcome ⊎ Untouched e.outcome) }
+
+        // It is opened where nothing is amiss, but for want of memory.
+        ensures complete { IfErr result (λ e. ¬ (ClonesDevice config) →
+            HandshakeWell FS.promise.may_init filesystem (S.told source) (S.told e.source) →
+            e.outcome ≡ Err SessionError.Memory) }
+
+        // Where `init` refuses nothing, its error is not the outcome.
+        ensures accepted { IfErr result (λ e. AcceptsAll FS.promise.may_init filesystem →
+            (n : ℕ) → e.outcome ≢ Err (SessionError.Init n)) }
+
+        // The device is refused exactly where each of several threads was to have its own, and no other option is.
+        ensures options { (error : SessionError) → OfOptions error →
+            MatchResult result (λ _. ⊥) (λ e. e.outcome ≡ Err error)
+            ↔ ((error ≡ SessionError.CloneFd) × ClonesDevice config) }
+
+        // A refused device, and want of memory, leave all as it was.
+        ensures untouched { IfErr result (λ e. Untouched e.outcome → IsUntouched filesystem source sink e) }
+    {
+        let rule = AccessRule { acl, owner };
+        match prepare_device(rt.alloc(), &config) {
+            Ok(buffers) => open(
+                rt,
+                filesystem,
+                source,
+                sink,
+                buffers,
+                page_size,
+                rule,
+                config.n_threads,
+            ),
+            Err(error) => Err(untouched(filesystem, source, sink, error)),
+        }
+    }
+
+    /// Serves the session: each message is answered before the next is taken, until the source ends or the kernel sends
+    /// DESTROY. A frame or a note that the sink refuses is counted as lost, and not sent again. `destroy` is called once.
+    pub fn run<R: Wait + AllocGlobal>(self, rt: &R) -> Ended<FS, S, K>
+        // No reply comes after its method has returned.
+        requires prompt { FS.DEFERS ≡ false }
+
+        // What was taken, sent, lost and counted after the handshake, why it ended so, and that `destroy` was called once.
+        ensures ran { Ran FS.promise self result.filesystem result.outcome
+            (S.told result.source) (K.told result.sink) result.transcript }
+
+        // With the handshake that opened it, it is a whole session.
+        ensures session { (page : ℕ) (fs : _) (source : SourceState) (sink : SinkState) →
+            IsOpened FS.promise page fs source sink self →
+            Mounted (setup_for FS.promise page self) fs result.filesystem result.outcome
+            source (S.told result.source) sink (K.told result.sink) result.transcript }
+
+        // One reply for each message: see `Headline`.
+        ensures headline { (page : ℕ) (fs : _) (source : SourceState) (sink : SinkState) →
+            IsOpened FS.promise page fs source sink self →
+            result.outcome ≡ Ok tt → Lossless sink (K.told result.sink) result.transcript →
+            Headline FS.promise page self.acl self.owner fs source (S.told result.source) sink (K.told result.sink) }
+
+        // It ends well where nothing is amiss.
+        ensures complete { RunWell self (S.told result.source) → result.outcome ≡ Ok tt }
+
+        // No thread serves exactly where their number is 0.
+        ensures threads { (result.outcome ≡ Err SessionError.Threads) ↔ (self.threads ≡ Some 0) }
+
+        // A run has no other outcome but Ok, a header that is not good, and a fault of the source.
+        ensures causes { EndsRun result.outcome }
+    {
+        let Session {
+            service,
+            n_threads,
+            mut notifier,
+            mut channel,
+        } = self;
+        let outcome = serve(rt, &service, n_threads, &mut notifier, &mut channel);
+        let Service {
+            handler: Asking { filesystem },
+            rule: _,
+        } = service;
+        destroyed(filesystem, channel, outcome)
+    }
+
+    /// What queues notices, which the session sends after the reply that follows.
+    pub fn notifier(&mut self) -> Result<Notifier, NoMemory>
+        ensures same { self.new ≡ self.old }
+        ensures fresh { IfOk result (λ n. n ≡ fresh_door self.old.line) }
+    {
+        self.channel.notifier()
+    }
+}
+
+/// Serves a filesystem: `Session::new`, and where it is opened `Session::run`.
 pub fn mount<R: Wait + AllocGlobal, FS: Filesystem, S: Source, K: Sink + Send>(
     rt: &R,
     filesystem: FS,
@@ -163,34 +351,10 @@ pub fn mount<R: Wait + AllocGlobal, FS: Filesystem, S: Source, K: Sink + Send>(
         (result.outcome ≡ Err e) ↔ RefusedAs config.now e }
 
     // Refused options, and want of memory, leave all as it was.
-    ensures untouched { Untouched result.outcome →
-        (result.filesystem ≡ filesystem) × (result.source ≡ source) × (result.sink ≡ sink)
-        × (result.transcript ≡ nothing_yet) }
+    ensures untouched { Untouched result.outcome → IsUntouched filesystem source sink result }
 {
-    let buffers = match prepare(rt.alloc(), config) {
-        Ok(buffers) => buffers,
-        Err(error) => {
-            return Ended {
-                filesystem,
-                source,
-                sink,
-                outcome: Err(error),
-                transcript: Transcript::new(),
-            };
-        }
-    };
-    let rule = AccessRule {
-        acl: config.acl,
-        owner,
-    };
-    let service = Service { filesystem, rule };
-    serve(
-        rt,
-        service,
-        source,
-        sink,
-        buffers,
-        page_size,
-        config.n_threads,
-    )
+    match Session::new(rt, filesystem, source, sink, owner, page_size, config) {
+        Ok(session) => session.run(rt),
+        Err(ended) => ended,
+    }
 }

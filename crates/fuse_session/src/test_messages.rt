@@ -1,12 +1,15 @@
 // Messages and frames for tests, byte by byte, and sources of them.
 
 use fuse_request::opcode::{
-    FUSE_FORGET, FUSE_GETATTR, FUSE_INIT, FUSE_LOOKUP, FUSE_POLL, FUSE_READ,
+    FUSE_BATCH_FORGET, FUSE_FORGET, FUSE_GETATTR, FUSE_INIT, FUSE_LINK, FUSE_LOOKUP, FUSE_POLL,
+    FUSE_READ,
 };
 use fuse_wire::{Items, MemorySource, Turn};
 use std::alloc::{AllocError, Global};
 
 // Linux's numbers of errors: `errno-base.h` and `errno.h`.
+pub(crate) const EPERM: u8 = 1;
+
 pub(crate) const ENOENT: u8 = 2;
 
 pub(crate) const EIO: u8 = 5;
@@ -119,6 +122,32 @@ pub(crate) fn forget(id: u8, uid: u8) -> [u8; 48] {
 pub(crate) fn short_forget(id: u8, uid: u8) -> [u8; 47] {
     let mut bytes = [0; 47];
     fill(&mut bytes, &message(FUSE_FORGET, id, 2, uid), &[1]);
+    bytes
+}
+
+/// A LINK of this inode under the name `x` in this directory.
+pub(crate) fn link(id: u8, ino: u8, newparent: u8) -> [u8; 50] {
+    let mut bytes = [0; 50];
+    fill(&mut bytes, &message(FUSE_LINK, id, newparent, 0), &[ino]);
+    bytes[48] = b'x';
+    bytes
+}
+
+/// A BATCH_FORGET of one lookup of the inode 2 and four of the inode 3.
+pub(crate) fn batch_forget(id: u8) -> [u8; 80] {
+    let mut bytes = [0; 80];
+    fill(&mut bytes, &message(FUSE_BATCH_FORGET, id, 0, 0), &[2]);
+    bytes[48] = 2;
+    bytes[56] = 1;
+    bytes[64] = 3;
+    bytes[72] = 4;
+    bytes
+}
+
+/// A BATCH_FORGET of nothing.
+pub(crate) fn empty_batch_forget(id: u8) -> [u8; 48] {
+    let mut bytes = [0; 48];
+    fill(&mut bytes, &message(FUSE_BATCH_FORGET, id, 0, 0), &[]);
     bytes
 }
 

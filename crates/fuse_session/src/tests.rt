@@ -2,8 +2,9 @@
 
 use crate::counting::{CONTENTS, Counting, Course, run, run_with};
 use crate::test_messages::{
-    ACCEPTED, EACCES, EINVAL, EIO, ENOENT, ENOSYS, EPROTO, INIT_7_8, NO_OPCODE, endless_lookup,
-    error_reply, forget, getattr, init, lookup, message, read, short_forget, source_of,
+    ACCEPTED, EACCES, EINVAL, EIO, ENOENT, ENOSYS, EPROTO, INIT_7_8, NO_OPCODE, batch_forget,
+    empty_batch_forget, endless_lookup, error_reply, forget, getattr, init, lookup, message, read,
+    short_forget, source_of,
 };
 use crate::{InvalidData, SessionError, Transcript};
 use fuse_config::{Config, SessionACL};
@@ -249,6 +250,25 @@ fn calls_the_filesystem_once_for_each_message(rt: HostRuntime) -> Result<(), Fai
             lost: 0,
             calls: 5,
             notes: &[(RequestId(5), 3)],
+        },
+    )
+}
+
+#[test]
+fn a_batch_of_forgets_calls_forget_for_each_row(rt: HostRuntime) -> Result<(), Fail> {
+    serves_calls(
+        &rt,
+        &Config::new(rt.alloc()),
+        &[&INIT_7_8, &batch_forget(2), &empty_batch_forget(3)],
+        &[&ACCEPTED],
+        Ok(()),
+        Counts {
+            received: 3,
+            lost: 0,
+            // one for each batch, and one for each row
+            calls: 4,
+            // the mark of the last row, which is the sum of its numbers
+            notes: &[(RequestId(2), 7), (RequestId(3), 0)],
         },
     )
 }

@@ -1,5 +1,8 @@
 // The verdicts on messages, in the order of the rules.
 
+use crate::every_call::{Reply, Row, message_of};
+use crate::file_calls::FILES;
+use crate::node_calls::NODES;
 use crate::test_messages::{
     EACCES, EINVAL, EIO, ENOSYS, INIT_7_8, NO_OPCODE, endless_lookup, forget, getattr, init,
     lookup, message, read, short_forget, with_argument,
@@ -7,20 +10,24 @@ use crate::test_messages::{
 use crate::{Verdict, verdict};
 use fuse_config::SessionACL;
 use fuse_request::opcode::{
-    FUSE_BATCH_FORGET, FUSE_COPY_FILE_RANGE, FUSE_DESTROY, FUSE_FALLOCATE, FUSE_INTERRUPT,
-    FUSE_IOCTL, FUSE_LINK, FUSE_NOTIFY_REPLY, FUSE_OPEN, FUSE_OPENDIR, FUSE_POLL, FUSE_READDIR,
-    FUSE_READLINK, FUSE_RELEASE, FUSE_RELEASEDIR, FUSE_STATFS, FUSE_SYMLINK, FUSE_WRITE,
+    FUSE_BATCH_FORGET, FUSE_COPY_FILE_RANGE, FUSE_DESTROY, FUSE_FALLOCATE, FUSE_FORGET, FUSE_FSYNC,
+    FUSE_FSYNCDIR, FUSE_INIT, FUSE_INTERRUPT, FUSE_IOCTL, FUSE_NOTIFY_REPLY, FUSE_READ,
+    FUSE_READDIR, FUSE_READDIRPLUS, FUSE_READLINK, FUSE_RELEASE, FUSE_RELEASEDIR, FUSE_STATFS,
+    FUSE_WRITE,
 };
 use fuse_request::{Operation, RequestError};
 use std::process::Abort;
+use std::test::Fail;
 
-/// A verdict as plain data: an error by its number, a forget by its lookups, a read by its offset.
+/// A verdict as plain data: an error by its number, a forget by its lookups, a batch of them by its rows, a read by its
+/// offset.
 #[derive(Clone, Copy, Debug, PartialEq)]
 enum Ruling {
     Broken(RequestError),
     Ends,
     Fixed(u8),
     Forget(u64),
+    BatchForget(usize),
     Lookup,
     GetAttr,
     Read(u64),
@@ -31,6 +38,7 @@ enum Ruling {
 fn ruling_of_call(operation: &Operation<'_>) -> Ruling {
     match operation {
         Operation::Forget(forget) => Ruling::Forget(forget.nlookup()),
+        Operation::BatchForget(batch) => Ruling::BatchForget(batch.nodes().len()),
         Operation::Lookup(_) => Ruling::Lookup,
         Operation::GetAttr(_) => Ruling::GetAttr,
         Operation::Read(read) => match read.offset() {
@@ -119,7 +127,7 @@ fn with_user(opcode: u32, uid: u8) -> [u8; 96] {
 
 #[test]
 fn rules_on_what_is_asked(rt: HostRuntime) {
-    let rows: [(&[u8], Ruling); 16] = [
+    let rows: [(&[u8], Ruling); 19] = [
         (&init(7, 40), Ruling::Fixed(EIO)),
         (
             &with_argument(FUSE_INTERRUPT, 2, 40, 1),
@@ -145,24 +153,26 @@ fn rules_on_what_is_asked(rt: HostRuntime) {
             Ruling::Fixed(EINVAL),
         ),
         (
+            &with_argument(FUSE_COPY_FILE_RANGE, 2, 55, 0x80),
+            Ruling::Fixed(EINVAL),
+        ),
+        (
             &with_argument(FUSE_COPY_FILE_RANGE, 2, 79, 0x80),
             Ruling::Fixed(EINVAL),
         ),
         // of 127 * 2^56
         (&read(2, 5, 0x7f, 1), Ruling::Read(0x7f00_0000_0000_0000)),
-        // a filesystem has no method for it yet
+        (&with_argument(FUSE_WRITE, 2, 55, 0x7f), Ruling::Other),
+        (&with_argument(FUSE_FALLOCATE, 2, 63, 0x7f), Ruling::Other),
         (
-            &with_argument(FUSE_WRITE, 2, 55, 0x7f),
-            Ruling::Fixed(ENOSYS),
+            &with_argument(FUSE_COPY_FILE_RANGE, 2, 79, 0x7f),
+            Ruling::Other,
         ),
         (
-            &with_argument(FUSE_BATCH_FORGET, 2, 40, 0),
-            Ruling::Fixed(ENOSYS),
+            &with_argument(FUSE_BATCH_FORGET, 2, 40, 3),
+            Ruling::BatchForget(3),
         ),
-        (
-            &with_argument(FUSE_READLINK, 2, 40, 0),
-            Ruling::Fixed(ENOSYS),
-        ),
+        (&with_argument(FUSE_READLINK, 2, 40, 0), Ruling::Other),
         (&short_forget(2, 5), Ruling::Fixed(ENOSYS)),
         (&forget(2, 5), Ruling::Forget(1)),
         (&getattr(2, 5), Ruling::GetAttr),
@@ -170,22 +180,83 @@ fn rules_on_what_is_asked(rt: HostRuntime) {
     rules(&rt, SessionACL::Owner, &rows);
 }
 
-#[test]
-fn the_filesystem_is_asked(rt: HostRuntime) {
-    let opcodes = [
-        FUSE_SYMLINK,
-        FUSE_LINK,
-        FUSE_OPEN,
-        FUSE_STATFS,
-        FUSE_RELEASE,
-        FUSE_OPENDIR,
-        FUSE_READDIR,
-        FUSE_RELEASEDIR,
-        FUSE_POLL,
-    ];
-    for opcode in opcodes {
-        let message = with_argument(opcode, 2, 40, 0);
-        let found = ruling_of(&verdict(SessionACL::Owner, 5, &message));
-        assert_eq!(rt; found, Ruling::Other, "opcode {opcode}");
+/// The opcodes whose requests pass whoever sends them.
+const PASSING: [u32; 12] = [
+    FUSE_INIT,
+    FUSE_DESTROY,
+    FUSE_READ,
+    FUSE_READDIR,
+    FUSE_READDIRPLUS,
+    FUSE_BATCH_FORGET,
+    FUSE_FORGET,
+    FUSE_WRITE,
+    FUSE_FSYNC,
+    FUSE_FSYNCDIR,
+    FUSE_RELEASE,
+    FUSE_RELEASEDIR,
+];
+
+/// What a verdict is: an error by its number, which is 0 for a header that is not good.
+#[derive(Clone, Copy, Debug, PartialEq)]
+enum Course {
+    Ends,
+    Fixed(u8),
+    Forget,
+    Call,
+}
+
+/// What a verdict is.
+fn course_of(verdict: &Verdict<'_>) -> Course {
+    match verdict {
+        Verdict::Broken(_) => Course::Fixed(0),
+        Verdict::Ends => Course::Ends,
+        Verdict::Fixed(error) => Course::Fixed(error.code().to_le_bytes()[0]),
+        Verdict::Forget(_) => Course::Forget,
+        Verdict::Call(_) => Course::Call,
     }
+}
+
+/// What the verdict on the message of a row is, where its user is served.
+fn expected_of(row: &Row) -> Course {
+    if row.opcode == FUSE_DESTROY {
+        return Course::Ends;
+    }
+    match row.reply {
+        Reply::Note => Course::Forget,
+        Reply::Payload(_) => Course::Call,
+        Reply::Error(errno) => {
+            if row.calls.is_empty() {
+                Course::Fixed(errno)
+            } else {
+                Course::Call
+            }
+        }
+    }
+}
+
+/// The verdicts on the messages of these rows, whose user is neither root nor the user 5.
+fn rules_on_rows<R: AllocGlobal + Abort>(rt: &R, rows: &[Row]) -> Result<(), Fail> {
+    for (place, row) in rows.iter().enumerate() {
+        let message = message_of(rt.alloc(), row, 2)?;
+        let served = expected_of(row);
+        let refused = if PASSING.contains(&row.opcode) {
+            served
+        } else {
+            Course::Fixed(EACCES)
+        };
+        let found = (
+            course_of(&verdict(SessionACL::All, 5, &message)),
+            course_of(&verdict(SessionACL::RootAndOwner, 5, &message)),
+            course_of(&verdict(SessionACL::Owner, 5, &message)),
+            course_of(&verdict(SessionACL::Owner, 0xb4b3_b2b1, &message)),
+        );
+        assert_eq!(rt; found, (served, refused, refused, served), "row {place}");
+    }
+    Ok(())
+}
+
+#[test]
+fn rules_on_every_opcode(rt: HostRuntime) -> Result<(), Fail> {
+    rules_on_rows(&rt, &NODES)?;
+    rules_on_rows(&rt, &FILES)
 }

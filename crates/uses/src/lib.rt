@@ -1,5 +1,6 @@
-//! How a crate of one's own uses the library: a filesystem with one file, its promise, and a session of it.
-//! Whoever reads this may rely on it: every answer of `OneFile` is the one that `specs/OneFile.antt` gives to its call.
+//! How a crate of one's own uses the library: a tree with one file, and a session of it, which only reads it.
+//! Whoever reads this may rely on it: every answer is the one that `fuse_read_only` promises for the tree `one_file` of
+//! `specs/OneFile.antt`.
 #![tactic(auto)]
 
 mod one_file;

@@ -32,9 +32,28 @@ const READ: [u8; 80] = [
     0, 0, 0, 0, 0, 0, 0, 0, 0, 0, 0, 0, 0, 0, 0, 0, 0, 0,
 ];
 
-/// DESTROY, with the id 5.
+/// READDIR of node 1 from offset 0, of at most 4096 bytes, with the id 5: `struct fuse_read_in`.
+const READDIR: [u8; 80] = [
+    80, 0, 0, 0, 28, 0, 0, 0, 5, 0, 0, 0, 0, 0, 0, 0, 1, 0, 0, 0, 0, 0, 0, 0, 0, 0, 0, 0, 0, 0, 0,
+    0, 0, 0, 0, 0, 0, 0, 0, 0, 0, 0, 0, 0, 0, 0, 0, 0, 0, 0, 0, 0, 0, 0, 0, 0, 0, 0x10, 0, 0, 0, 0,
+    0, 0, 0, 0, 0, 0, 0, 0, 0, 0, 0, 0, 0, 0, 0, 0, 0, 0,
+];
+
+/// OPEN of node 2 with `O_WRONLY` (1) and `O_LARGEFILE` (0x8000), with the id 6: `struct fuse_open_in`.
+const OPEN_TO_WRITE: [u8; 48] = [
+    48, 0, 0, 0, 14, 0, 0, 0, 6, 0, 0, 0, 0, 0, 0, 0, 2, 0, 0, 0, 0, 0, 0, 0, 0, 0, 0, 0, 0, 0, 0,
+    0, 0, 0, 0, 0, 0, 0, 0, 0, 0x01, 0x80, 0, 0, 0, 0, 0, 0,
+];
+
+/// MKDIR of `new` in the directory 1, of mode 0o755 under the mask 0o022, with the id 7: `struct fuse_mkdir_in`.
+const MKDIR: [u8; 52] = [
+    52, 0, 0, 0, 9, 0, 0, 0, 7, 0, 0, 0, 0, 0, 0, 0, 1, 0, 0, 0, 0, 0, 0, 0, 0, 0, 0, 0, 0, 0, 0,
+    0, 0, 0, 0, 0, 0, 0, 0, 0, 0xed, 0x01, 0, 0, 0x12, 0, 0, 0, b'n', b'e', b'w', 0,
+];
+
+/// DESTROY, with the id 8.
 const DESTROY: [u8; 40] = [
-    40, 0, 0, 0, 38, 0, 0, 0, 5, 0, 0, 0, 0, 0, 0, 0, 0, 0, 0, 0, 0, 0, 0, 0, 0, 0, 0, 0, 0, 0, 0,
+    40, 0, 0, 0, 38, 0, 0, 0, 8, 0, 0, 0, 0, 0, 0, 0, 0, 0, 0, 0, 0, 0, 0, 0, 0, 0, 0, 0, 0, 0, 0,
     0, 0, 0, 0, 0, 0, 0, 0, 0,
 ];
 
@@ -62,8 +81,23 @@ const BYTES: [u8; 20] = [
     20, 0, 0, 0, 0, 0, 0, 0, 4, 0, 0, 0, 0, 0, 0, 0, b'm', b'i', b'l', b'k',
 ];
 
+/// The entries `.`, `..` and `note`: `struct fuse_dirent` each, with the offset after it, the length of its name,
+/// `DT_DIR` (4) or `DT_REG` (8), and zero bytes behind the name.
+const LISTED: [u8; 112] = [
+    112, 0, 0, 0, 0, 0, 0, 0, 5, 0, 0, 0, 0, 0, 0, 0, 1, 0, 0, 0, 0, 0, 0, 0, 1, 0, 0, 0, 0, 0, 0,
+    0, 1, 0, 0, 0, 4, 0, 0, 0, b'.', 0, 0, 0, 0, 0, 0, 0, 1, 0, 0, 0, 0, 0, 0, 0, 2, 0, 0, 0, 0, 0,
+    0, 0, 2, 0, 0, 0, 4, 0, 0, 0, b'.', b'.', 0, 0, 0, 0, 0, 0, 2, 0, 0, 0, 0, 0, 0, 0, 3, 0, 0, 0,
+    0, 0, 0, 0, 4, 0, 0, 0, 8, 0, 0, 0, b'n', b'o', b't', b'e', 0, 0, 0, 0,
+];
+
+/// EROFS, the error 30, below zero.
+const NOT_OPENED: [u8; 16] = [16, 0, 0, 0, 0xe2, 0xff, 0xff, 0xff, 6, 0, 0, 0, 0, 0, 0, 0];
+
+/// The same to the next.
+const NOT_MADE: [u8; 16] = [16, 0, 0, 0, 0xe2, 0xff, 0xff, 0xff, 7, 0, 0, 0, 0, 0, 0, 0];
+
 /// A status of 0.
-const DONE: [u8; 16] = [16, 0, 0, 0, 0, 0, 0, 0, 5, 0, 0, 0, 0, 0, 0, 0];
+const DONE: [u8; 16] = [16, 0, 0, 0, 0, 0, 0, 0, 8, 0, 0, 0, 0, 0, 0, 0];
 
 /// A source of these messages.
 fn source_of(alloc: Global, messages: &[&[u8]]) -> Result<MemorySource, AllocError> {
@@ -79,8 +113,26 @@ fn source_of(alloc: Global, messages: &[&[u8]]) -> Result<MemorySource, AllocErr
 #[test]
 fn serves_the_file(rt: HostRuntime) -> Result<(), Fail> {
     let alloc = rt.alloc();
-    let messages: [&[u8]; 5] = [&INIT, &LOOKUP_NOTE, &LOOKUP_NONE, &READ, &DESTROY];
-    let frames: [&[u8]; 5] = [&ACCEPTED, &FOUND, &NOT_FOUND, &BYTES, &DONE];
+    let messages: [&[u8]; 8] = [
+        &INIT,
+        &LOOKUP_NOTE,
+        &LOOKUP_NONE,
+        &READ,
+        &READDIR,
+        &OPEN_TO_WRITE,
+        &MKDIR,
+        &DESTROY,
+    ];
+    let frames: [&[u8]; 8] = [
+        &ACCEPTED,
+        &FOUND,
+        &NOT_FOUND,
+        &BYTES,
+        &LISTED,
+        &NOT_OPENED,
+        &NOT_MADE,
+        &DONE,
+    ];
     let source = source_of(alloc, &messages)?;
     let sink = MemorySink::new(alloc, Vec::new(alloc));
     let Ended {
@@ -93,7 +145,7 @@ fn serves_the_file(rt: HostRuntime) -> Result<(), Fail> {
     assert_eq!(rt; outcome, Ok(()));
     assert_eq!(rt;
         (transcript.received, transcript.frames, transcript.lost),
-        (5, 5, 0)
+        (8, 8, 0)
     );
     assert_eq!(rt; sink.frames().len(), frames.len());
     for (sent, frame) in sink.frames().iter().zip(&frames) {

@@ -9,6 +9,6 @@ invariant-loop g l = record {
   nothing : Takes [] l.fn.self.progress.source (g.S.Source.told l.self-inside.source);
   sink : g.K.Sink.told l.self-inside.sink ≡ l.fn.self.progress.sink;
   counts : l.self-inside.transcript ≡ l.fn.self.progress.counts;
-  unasked : l.self-inside.frames ≡ l.fn.self.progress.unasked;
+  unasked : l.self-inside.frames.passed ≡ l.fn.self.progress.unasked;
   buffer : length l.self-inside.buffer.items ≡ BUFFER_SIZE;
 }

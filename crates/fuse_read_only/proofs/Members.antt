@@ -1,0 +1,111 @@
+-- The entries of a directory: one after another is added, up to the first that does not fit.
+use Rattle.std.proofs.Common.{◌≡◌, ◌⊎◌, inl, inr, ◌+◌, ◌<◌, ◌≤◌, ◌++◌, ℕ, suc, Bool, List, [], ◌∷◌, ◌∙◌, None, Some, ap, sym, refl, arith, subst}
+use Rattle.std.proofs.Common.{length, length-append, append_assoc, drop, min, get_or}
+use Rattle.std.specs.Prelude.{if◌then◌else◌}
+use Rattle.std.specs.List.{AllByRecursion, slice_get}
+use Rattle.std.proofs.lemmas.Bool.{le-ltb, lt-ltb}
+use Rattle.std.proofs.lemmas.Option.{slice_get_cases, slice_get_within, get_or_from_slice_get}
+use Rattle.std.proofs.lemmas.List.{append-nil}
+use Rattle.std.proofs.lemmas.Grind.{flat_map-append}
+use Rattle.std.proofs.Math.Seq.{drop-cons}
+use Rattle.std.proofs.Math.ListN.{drop_of_length-le}
+use Rattle.fuse_reply.specs.Listing.{DirEntry, Fits, Listing, dirent, listing}
+use Rattle.fuse_reply.specs.Answer.{IsDirEntry}
+use Rattle.fuse_reply.specs.Sizes.{max_payload}
+use Rattle.fuse_read_only.specs.Tree.{Member, fitting, followed_by, last_offset, numbered}
+
+-- what stands at a place is the first of what stands there and later
+numbered-from : (members : List Member) (place : ℕ) (m : Member) → slice_get members place ≡ Some m → place < last_offset
+    → numbered place (drop place members) ≡ followed_by (place + 1) m ∷ numbered (place + 1) (drop (place + 1) members)
+numbered-from members place m is low =
+    let next : suc place ≡ place + 1 = omega arith in
+    ap (λ (ms : List Member). numbered place ms)
+    (drop-cons members place m (slice_get_within members place m is)
+    ∙ ap (λ (x : Member). x ∷ drop (suc place) members) (get_or_from_slice_get members place m m is)
+    ∙ ap (λ (n : ℕ). m ∷ drop n members) next)
+    ∙ ap
+    (λ (counts : Bool). if counts then followed_by (place + 1) m ∷ numbered (place + 1) (drop (place + 1) members) else [])
+    (lt-ltb place last_offset low)
+
+-- where nothing stands the members are over
+slice_get_beyond : (members : List Member) (place : ℕ) → slice_get members place ≡ None → length members ≤ place
+slice_get_beyond members place is = by_side (slice_get_cases members place).1 where
+  by_side : ((m : Member) × (place < length members) × (slice_get members place ≡ Some m) × (get_or members place m ≡ m))
+      ⊎ ((length members ≤ place) × (slice_get members place ≡ None)) → length members ≤ place
+  by_side (inl within) = absurd (let found : slice_get members place ≡ Some within.0 = within.2 in let no : ⊥ = cc in no)
+  by_side (inr beyond) = beyond.0
+
+-- and nothing follows
+pub numbered-none : (members : List Member) (place : ℕ) → slice_get members place ≡ None → numbered place (drop place members) ≡ []
+numbered-none members place is = ap (λ (ms : List Member). numbered place ms) (drop_of_length-le members (slice_get_beyond members place is))
+
+-- from the last number on no entry has an offset
+pub numbered-last : (members : List Member) (place : ℕ) → last_offset ≤ place → numbered place members ≡ []
+numbered-last [] place last = refl
+numbered-last (m ∷ members) place last =
+    ap (λ (counts : Bool). if counts then followed_by (place + 1) m ∷ numbered (place + 1) members else []) (le-ltb place last_offset last)
+
+-- an entry that fits is taken
+fitting-next : (size held : ℕ) (e : DirEntry) (entries : List DirEntry) → Fits size held (length (dirent e))
+    → fitting size held (e ∷ entries) ≡ e ∷ fitting size (held + length (dirent e)) entries
+fitting-next size held e entries fits =
+    ap (λ (full : Bool). if full then [] else e ∷ fitting size (held + length (dirent e)) entries)
+    (le-ltb (min size max_payload) (held + length (dirent e)) fits)
+
+-- at one that does not fit the listing ends
+fitting-none : (size held : ℕ) (e : DirEntry) (entries : List DirEntry) → (Fits size held (length (dirent e)) → ⊥)
+    → fitting size held (e ∷ entries) ≡ []
+fitting-none size held e entries none =
+    ap (λ (full : Bool). if full then [] else e ∷ fitting size (held + length (dirent e)) entries)
+    (lt-ltb (min size max_payload) (held + length (dirent e)) (omega (arith, none)))
+
+-- an entry behind others, as bytes
+pub listing-add : (taken : List DirEntry) (e : DirEntry) → listing (taken ++ e ∷ []) ≡ listing taken ++ dirent e
+listing-add taken e =
+    flat_map-append dirent taken (e ∷ []) ∙ ap (λ (last : List ℕ). listing taken ++ last) (append-nil (dirent e))
+
+-- those taken and those of the rest that will fit, where one more is taken
+pub joined-next : (size : ℕ) (taken whole rest : List DirEntry) (e : DirEntry) → Fits size (length (listing taken)) (length (dirent e))
+    → taken ++ fitting size (length (listing taken)) (e ∷ rest) ≡ whole
+    → (taken ++ e ∷ []) ++ fitting size (length (listing (taken ++ e ∷ []))) rest ≡ whole
+joined-next size taken whole rest e fits joined =
+    ap (λ (bytes : List ℕ). (taken ++ e ∷ []) ++ fitting size (length bytes) rest) (listing-add taken e)
+    ∙ ap (λ (n : ℕ). (taken ++ e ∷ []) ++ fitting size n rest) (length-append (listing taken) (dirent e))
+    ∙ append_assoc taken (e ∷ []) (fitting size (length (listing taken) + length (dirent e)) rest)
+    ∙ ap (λ (es : List DirEntry). taken ++ es) (sym (fitting-next size (length (listing taken)) e rest fits))
+    ∙ joined
+
+-- where one stands at a place, it is the next one there
+pub joined-here : (members : List Member) (place size : ℕ) (taken whole : List DirEntry) (m : Member) → slice_get members place ≡ Some m
+    → place < last_offset → taken ++ fitting size (length (listing taken)) (numbered place (drop place members)) ≡ whole
+    → taken ++ fitting size (length (listing taken)) (followed_by (place + 1) m ∷ numbered (place + 1) (drop (place + 1) members)) ≡ whole
+joined-here members place size taken whole m is low joined =
+    ap (λ (es : List DirEntry). taken ++ fitting size (length (listing taken)) es) (sym (numbered-from members place m is low))
+    ∙ joined
+
+-- they are all where the next one does not fit
+pub joined-full : (size : ℕ) (taken whole rest : List DirEntry) (e : DirEntry) → (Fits size (length (listing taken)) (length (dirent e)) → ⊥)
+    → taken ++ fitting size (length (listing taken)) (e ∷ rest) ≡ whole → taken ≡ whole
+joined-full size taken whole rest e none joined =
+    sym (append-nil taken)
+    ∙ ap (λ (es : List DirEntry). taken ++ es) (sym (fitting-none size (length (listing taken)) e rest none))
+    ∙ joined
+
+-- and where there is no next one
+pub joined-end : (size : ℕ) (taken whole rest : List DirEntry) → rest ≡ []
+    → taken ++ fitting size (length (listing taken)) rest ≡ whole → taken ≡ whole
+joined-end size taken whole rest none joined =
+    sym (append-nil taken)
+    ∙ ap (λ (es : List DirEntry). taken ++ fitting size (length (listing taken)) es) (sym none)
+    ∙ joined
+
+-- what holds of each holds with one more
+pub each-add : {E : Type 0} (P : E → Type 0) (entries : List E) (e : E) → AllByRecursion P entries → P e → AllByRecursion P (entries ++ e ∷ [])
+each-add P [] e each here = (here, tt)
+each-add P (x ∷ entries) e each here = (each.0, each-add P entries e each.1 here)
+
+-- what was taken is the whole
+pub listed-whole : (taken whole : List DirEntry) (before after : Listing) → after ≡ record before { held = listing taken }
+    → AllByRecursion IsDirEntry taken → taken ≡ whole → (after ≡ record before { held = listing whole }) × AllByRecursion IsDirEntry whole
+listed-whole taken whole before after same in_range all =
+    (same ∙ ap (λ (es : List DirEntry). record before { held = listing es }) all, subst (AllByRecursion IsDirEntry) all in_range)

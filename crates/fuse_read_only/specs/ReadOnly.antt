@@ -1,0 +1,94 @@
+-- What each call to a tree that is only looked at is answered, and the promise of that.
+use Rattle.std.specs.Prelude.{◌≡◌, ◌⊎◌, ℕ, List, Option, None, Some, Ok, take, drop, length, min, false}
+use Rattle.fuse_wire.specs.ErrorNumbers.{ENOENT, ENOMEM}
+use Rattle.fuse_wire.specs.OpenMode.{acc_mode}
+use Rattle.fuse_wire.specs.declared.file_attr.FileAttr.{FileAttr}
+use Rattle.fuse_wire.specs.declared.open_flags.OpenAccMode.{OpenAccMode}
+use Rattle.fuse_wire.specs.declared.open_flags.OpenAccMode.TheVariants.{O_RDONLY, O_WRONLY, O_RDWR}
+use Rattle.fuse_request.specs.Call.{Call}
+use Rattle.fuse_request.specs.Call.Call.{Lookup, Forget, GetAttr, SetAttr, SymLink, MkNod, MkDir, Unlink, RmDir, Rename, Link, Open}
+use Rattle.fuse_request.specs.Call.Call.{Read, Write, SetXAttr, RemoveXAttr, ReadDir, Create, BatchForget, FAllocate, CopyFileRange}
+use Rattle.fuse_reply.specs.Answer.{Answer}
+use Rattle.fuse_reply.specs.Answer.Answer.{Error, Data, Entry, Attr, Open as Opened, Directory}
+use Rattle.fuse_reply.specs.Listing.{DirEntry}
+use Rattle.fuse_reply.specs.Sizes.{max_payload}
+use Rattle.fuse_session.specs.Defaults.{default_answer}
+use Rattle.fuse_session.specs.Promise.{Promise}
+use Rattle.fuse_read_only.specs.Tree.{Tree, fitting, numbered}
+
+-- nothing here can be changed (`asm-generic/errno-base.h`)
+abbrev pub EROFS : ℕ
+EROFS = 30
+
+-- an entry and its attributes hold for so long, and their generation is 0; without one the answer is ENOENT
+abbrev pub entry : (ttl : ℕ) → Option FileAttr → Answer
+entry ttl None = Error ENOENT
+entry ttl (Some found) = Entry ttl ttl 0 found
+
+abbrev pub attributes : (ttl : ℕ) → Option FileAttr → Answer
+attributes ttl None = Error ENOENT
+attributes ttl (Some found) = Attr ttl found
+
+-- a file is open for reading alone, under the number 0 and with no flags
+abbrev pub opened : OpenAccMode → Answer
+opened O_RDONLY = Opened 0 0
+opened O_WRONLY = Error EROFS
+opened O_RDWR = Error EROFS
+
+-- the bytes from the offset on, at most so many, and no more than a frame can carry
+abbrev pub bytes : (offset size : ℕ) → Option (List ℕ) → Answer
+bytes offset size None = Error ENOENT
+bytes offset size (Some all) = Data (take (min size max_payload) (drop offset all))
+
+-- the entries of a node that there is
+abbrev pub listed : List DirEntry → Option FileAttr → Answer
+listed entries None = Error ENOENT
+listed entries (Some found) = Directory entries
+
+-- those from the place `offset` on that fit
+abbrev pub listing_of : Tree → (ino offset size : ℕ) → List DirEntry
+listing_of tree ino offset size = fitting size 0 (numbered offset (drop offset (tree.entries ino)))
+
+-- the answer to a call
+abbrev pub answer : Tree → Call → Answer
+answer tree (Lookup parent name) = entry tree.ttl (tree.names parent name)
+answer tree (GetAttr ino fh) = attributes tree.ttl (tree.attributes ino)
+answer tree (Open ino flags) = opened (acc_mode flags)
+answer tree (Read ino fh offset size flags lock_owner) = bytes offset size (tree.contents ino)
+answer tree (ReadDir ino fh offset size) = listed (listing_of tree ino offset size) (tree.attributes ino)
+answer tree (SetAttr ino mode uid gid size atime mtime ctime fh crtime chgtime bkuptime flags) = Error EROFS
+answer tree (MkNod parent name mode umask rdev) = Error EROFS
+answer tree (MkDir parent name mode umask) = Error EROFS
+answer tree (SymLink parent link_name target) = Error EROFS
+answer tree (Link ino newparent newname) = Error EROFS
+answer tree (Unlink parent name) = Error EROFS
+answer tree (RmDir parent name) = Error EROFS
+answer tree (Rename parent name newparent newname flags) = Error EROFS
+answer tree (Create parent name mode umask flags) = Error EROFS
+answer tree (Write ino fh offset written write_flags flags lock_owner) = Error EROFS
+answer tree (SetXAttr ino name value flags position) = Error EROFS
+answer tree (RemoveXAttr ino name) = Error EROFS
+answer tree (FAllocate ino fh offset len mode) = Error EROFS
+answer tree (CopyFileRange ino_in fh_in offset_in ino_out fh_out offset_out len flags) = Error EROFS
+answer tree c = default_answer c
+
+-- a call has that answer; but a READDIR may have ENOMEM, where no memory is to be had for its entries
+abbrev pub MayHave : Tree → Call → Answer → Type 0
+MayHave tree (ReadDir ino fh offset size) a = (answer tree (ReadDir ino fh offset size) ≡ a) ⊎ (a ≡ Error ENOMEM)
+MayHave tree c a = answer tree c ≡ a
+
+-- the mark of a forget: how many lookups it gives back; that of a batch: how many nodes it names
+abbrev pub mark : Call → Option ℕ
+mark (Forget ino nlookup) = Some nlookup
+mark (BatchForget rows) = Some (length rows)
+mark c = None
+
+-- every kernel is accepted, with what is negotiated left as it is; nothing happens when the session is over
+abbrev pub promise : {F : Type 0} → (F → Tree) → Promise F
+promise tree = record {
+  may_init = λ old request before result new after. (result ≡ Ok tt) × (after ≡ before) × (new ≡ old);
+  may_answer = λ fs request call a. MayHave (tree fs) call a;
+  may_note = λ fs request call m. mark call ≡ Some m;
+  may_destroy = λ old new. new ≡ old;
+  defers = false;
+}

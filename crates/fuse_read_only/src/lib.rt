@@ -1,0 +1,13 @@
+//! Filesystems that are only read. `Files` is a tree of files as plain functions, and `ReadOnly` serves it: whoever
+//! writes the tree proves nothing more than these, and may rely on this: each call has the answer that
+//! `specs/ReadOnly.antt` gives for that tree, and nothing is ever changed.
+#![tactic(auto)]
+
+mod files;
+mod listing;
+mod read_only;
+#[cfg(test)]
+mod tests;
+
+pub use files::{Entry, Files, root_attr};
+pub use read_only::ReadOnly;

@@ -1,0 +1,47 @@
+// The entries of a directory, added to a reply.
+ghost use Rattle.std.specs.Prelude.{◌≡◌, Ok, false, [], IfOk};
+ghost use Rattle.std.specs.List.{AllByRecursion};
+ghost use Rattle.fuse_reply.specs.Answer.{IsDirEntry};
+ghost use Rattle.fuse_reply.specs.Listing.{Adds, dirent, listing};
+ghost use Rattle.fuse_read_only.specs.Tree.{followed_by, member_of};
+ghost use Rattle.fuse_read_only.specs.ReadOnly.{listing_of};
+
+use crate::{Entry, Files};
+use fuse_reply::ReplyDirectory;
+use fuse_wire::{INodeNo, NoMemory};
+
+/// Adds the entries of a directory from the place `offset` on, up to the first that does not fit.
+pub(crate) fn add_entries<T: Files>(
+    files: &T,
+    ino: INodeNo,
+    offset: u64,
+    reply: &mut ReplyDirectory,
+) -> Result<(), NoMemory>
+    requires { reply.old.held ≡ [] }
+    ensures listed { let entries = listing_of (T.tree files.now) ino.0 offset reply.old.size in
+        IfOk result (λ _. (reply.new ≡ record reply.old { held = listing entries })
+        × AllByRecursion IsDirEntry entries) }
+    ensures id { reply.new.id ≡ reply.old.id }
+{
+    for place in offset as usize..usize::MAX {
+        let Some(entry) = files.entry(ino, place) else {
+            return Ok(());
+        };
+        if add_entry(&entry, place as u64 + 1, reply)? {
+            return Ok(());
+        }
+    }
+    Ok(())
+}
+
+/// Adds an entry, with the offset after it. Ok(true) says that it does not fit.
+fn add_entry(entry: &Entry<'_>, offset: u64, reply: &mut ReplyDirectory) -> Result<bool, NoMemory>
+    ensures adds { Adds result (dirent (followed_by offset (member_of entry.now))) reply.old reply.new }
+    ensures in_range { result ≡ Ok false → IsDirEntry (followed_by offset (member_of entry.now)) }
+{
+    // No frame can carry a longer name.
+    if entry.name.len() > u32::MAX as usize {
+        return Ok(true);
+    }
+    reply.add(entry.ino, offset, entry.kind, entry.name)
+}

@@ -1,6 +1,0 @@
-use Rattle.fuse_reply.specs.Answer.Answer.{Empty}
-use Rattle.fuse_session.proofs.Answering.{Answered-frame}
-use Rattle.fuse_session.proofs.polling.PollingFilesystem.releasedir.Goals as goal
-
-pub returns : goal.returns
-returns g c = Answered-frame Empty tt c.releasedir.ensures.answer tt c.releasedir.ensures.reply

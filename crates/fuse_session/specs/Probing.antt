@@ -1,0 +1,26 @@
+-- What filesystems of tests promise.
+use Rattle.std.specs.Prelude.{◌≡◌, ℕ}
+use Rattle.fuse_request.specs.Call.{Call}
+use Rattle.fuse_request.specs.Call.Call.{Lookup, GetAttr, Link, Read, Poll}
+use Rattle.fuse_request.specs.declared.request.Request.{Request}
+use Rattle.fuse_reply.specs.Answer.{Answer}
+use Rattle.fuse_reply.specs.declared.out.Out.{Out}
+use Rattle.fuse_session.specs.Defaults.{default_answer}
+use Rattle.fuse_session.specs.Owed.{Answered}
+
+-- which answer a call may have
+abbrev pub Allows : Type 1
+Allows = Call → Answer → Type 0
+
+-- their own answer to a call that they may answer themselves, and the default answer to each other one
+abbrev pub own_or_default : (own : Allows) → Allows
+own_or_default own (Lookup parent name) a = own (Lookup parent name) a
+own_or_default own (GetAttr ino fh) a = own (GetAttr ino fh) a
+own_or_default own (Link ino newparent newname) a = own (Link ino newparent newname) a
+own_or_default own (Read ino fh offset size flags lock_owner) a = own (Read ino fh offset size flags lock_owner) a
+own_or_default own (Poll ino fh kh events flags) a = own (Poll ino fh kh events flags) a
+own_or_default own c a = default_answer c ≡ a
+
+-- the reply of an answer of their own to the call
+abbrev pub IsAnswered : (own : Allows) → Request → Call → (id : ℕ) → Out → Type 0
+IsAnswered own request c id out = Answered {F = Unit {0}} (λ fs r c' a. own c' a) tt request c id out

@@ -1,0 +1,53 @@
+// A request that is served.
+ghost use Rattle.std.specs.Prelude.{◌≡◌, []};
+ghost use Rattle.fuse_reply.specs.Answer.Answer.{Empty, Error};
+ghost use Rattle.fuse_reply.specs.Frame.{reply};
+ghost use Rattle.fuse_reply.specs.declared.out.Out.{Out};
+
+use fuse_reply::{EntryKind, Out, Reply, ReplyEmpty, ReplyListing};
+use fuse_request::Request;
+use fuse_wire::{Errno, INodeNo, RequestId};
+use std::alloc::Global;
+
+/// A request whose user is served: what its call is made of beside its operation, and what its reply is made with.
+#[derive(Clone, Copy)]
+pub(crate) struct Asked {
+    pub(crate) alloc: Global,
+    pub(crate) id: RequestId,
+    pub(crate) node: INodeNo,
+    pub(crate) request: Request,
+}
+
+impl Asked {
+    /// Its reply, of a fixed size or of data.
+    #[inline(always)]
+    pub(crate) fn reply<Kind>(&self) -> Reply<Kind>
+        ensures { result ≡ self.now.id.0 }
+    {
+        Reply::new(self.alloc, self.id)
+    }
+
+    /// Its reply, of entries that have at most so many bytes.
+    #[inline(always)]
+    pub(crate) fn listing<Kind: EntryKind>(&self, size: u32) -> ReplyListing<Kind>
+        ensures { result ≡ record { id = self.now.id.0; size = size; held = [] } }
+    {
+        ReplyListing::new(self.alloc, self.id, size as usize)
+    }
+
+    /// The reply of an error.
+    #[inline(always)]
+    pub(crate) fn refusal(&self, error: Errno) -> Out
+        ensures { result ≡ Out.Frame (reply self.now.id.0 (Error error)) }
+    {
+        ReplyEmpty::new(self.alloc, self.id).error(error).into_out()
+    }
+
+    /// The reply to DESTROY.
+    #[inline(always)]
+    pub(crate) fn destroyed(&self) -> Out
+        ensures { result ≡ Out.Frame (reply self.now.id.0 Empty) }
+    {
+        ReplyEmpty::new(self.alloc, self.id).ok().into_out()
+    }
+}

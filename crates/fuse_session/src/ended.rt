@@ -1,0 +1,83 @@
+// How a session ended.
+ghost use Rattle.std.specs.Prelude.{◌≡◌};
+ghost use Rattle.fuse_session.specs.Progress.{nothing_yet, progress};
+ghost use Rattle.fuse_session.specs.SessionEnd.{run_outcome};
+
+use crate::channel::Channel;
+use crate::event_loop::End;
+use crate::{Filesystem, InvalidData, SessionError, Transcript};
+use fuse_wire::{Sink, Source};
+
+/// How a session ended. It hands back all that the session was given.
+#[derive(Debug)]
+pub struct Ended<FS, S, K> {
+    /// The filesystem, after its `destroy` unless the options were refused or no memory was to be had.
+    pub filesystem: FS,
+    /// The source, with the messages that were not taken.
+    pub source: S,
+    /// The sink, with the frames and notes that it took.
+    pub sink: K,
+    /// Ok where the source ended after the handshake, or the kernel sent DESTROY. Else why it ended early.
+    pub outcome: Result<(), SessionError>,
+    /// What the session did, in numbers.
+    pub transcript: Transcript,
+}
+
+impl End {
+    /// The outcome of a session whose run ended so.
+    pub(crate) fn outcome(self) -> Result<(), SessionError>
+        ensures { result ≡ run_outcome self }
+    {
+        match self {
+            End::Gone | End::Destroyed => Ok(()),
+            End::Broken(error) => Err(SessionError::InvalidData(InvalidData::Header(error))),
+            End::Failed => Err(SessionError::Receive),
+        }
+    }
+}
+
+/// The end of a session that did nothing, for this reason.
+pub(crate) fn untouched<FS, S, K>(
+    filesystem: FS,
+    source: S,
+    sink: K,
+    error: SessionError,
+) -> Ended<FS, S, K>
+    ensures { result ≡ record {
+      filesystem = filesystem;
+      source = source;
+      sink = sink;
+      outcome = Err error;
+      transcript = nothing_yet;
+    } }
+{
+    Ended {
+        filesystem,
+        source,
+        sink,
+        outcome: Err(error),
+        transcript: Transcript::new(),
+    }
+}
+
+/// The end of a session that took memory: `destroy` is called, and all is handed back.
+pub(crate) fn destroyed<FS: Filesystem, S: Source, K: Sink>(
+    mut filesystem: FS,
+    channel: Channel<S, K>,
+    outcome: Result<(), SessionError>,
+) -> Ended<FS, S, K>
+    ensures destroyed { FS.promise.may_destroy filesystem result.filesystem }
+    ensures outcome { result.outcome ≡ outcome }
+    ensures channel { channel.progress ≡
+        progress (S.told result.source) (K.told result.sink) result.transcript channel.progress.unasked }
+{
+    filesystem.destroy();
+    let (source, sink, transcript) = channel.into_parts();
+    Ended {
+        filesystem,
+        source,
+        sink,
+        outcome,
+        transcript,
+    }
+}
