@@ -16,3 +16,7 @@ mod names;
 mod numbers;
 #[cfg(test)]
 mod requests;
+#[cfg(test)]
+mod runner;
+#[cfg(test)]
+mod vectors;

@@ -143,27 +143,6 @@ fn seconds_and_nanoseconds_are_added(rt: HostRuntime) {
 }
 
 #[test]
-fn rounds_down_and_stays_in_range(rt: HostRuntime) {
-    for &(nanos, expected) in &[
-        (-1_200_000_000, (-2, 800_000_000)),
-        (-9_223_372_036_854_775_808_000_000_000, (i64::MIN, 0)),
-        (-9_223_372_036_854_775_808_000_000_001, (i64::MIN, 0)),
-        (
-            9_223_372_036_854_775_808_000_000_000,
-            (i64::MAX, 999_999_999),
-        ),
-        (-9_223_372_036_854_775_807_000_000_000, (i64::MIN + 1, 0)),
-        (
-            -9_223_372_036_854_775_807_800_000_000,
-            (i64::MIN, 200_000_000),
-        ),
-    ] {
-        let found = time_from_system_time(&SystemTime(nanos));
-        assert_eq!(rt; found, expected, "at {nanos}");
-    }
-}
-
-#[test]
 fn seconds_and_nanoseconds_make_a_time(rt: HostRuntime) {
     for &(secs, nanos, expected) in &[
         (0, 0, 0),

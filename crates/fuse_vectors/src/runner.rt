@@ -1,0 +1,358 @@
+// The runner of the vectors: what each makes is compared with its bytes.
+ghost use Rattle.std.specs.Prelude.{◌≡◌, bit_and, IfOk};
+ghost use Rattle.fuse_reply.specs.Payload.{FOPEN_PASSTHROUGH};
+ghost use Rattle.std.specs.Arc.{arc_value};
+ghost use Rattle.fuse_line.specs.declared.hand.Kind.TheVariants.{First};
+
+use crate::vectors::{Answer, Choice, Fetch, Made, News, VECTORS, Vector};
+use bitflags::Flags;
+use fuse_args::ArgumentIterator;
+use fuse_config::{Config, MountOption, OptionText, check_option_conflicts, option_to_string};
+use fuse_line::{Line, Pass};
+use fuse_notify::{Notice, NoticeError, Notifier, NotifyError, deliver};
+use fuse_reply::{
+    OutEnd, Parcel, Replied, ReplyAttr, ReplyBmap, ReplyCreate, ReplyData, ReplyDirectory,
+    ReplyEmpty, ReplyEntry, ReplyLock, ReplyOpen, ReplyStatfs, ReplyWrite, ReplyXattr,
+};
+use fuse_request::{AnyRequest, MkNod, Operation};
+use fuse_wire::{
+    Duration, Errno, FileAttr, FileHandle, FileType, FopenFlags, Generation, INodeNo, Items,
+    MemorySink, NoMemory, PollHandle, RequestId, SystemTime, system_time_from_time,
+    time_from_system_time,
+};
+use std::alloc::Global;
+use std::process::Abort;
+use std::sync::{Arc, Wait};
+
+#[test]
+fn each_vector_makes_its_bytes(rt: HostRuntime) -> Result<(), NoMemory> {
+    expect_bytes(&rt, &VECTORS)
+}
+
+/// Each of the vectors makes its bytes.
+fn expect_bytes<R: Wait + Abort + AllocGlobal>(rt: &R, vectors: &[Vector]) -> Result<(), NoMemory> {
+    let alloc = rt.alloc();
+    for (name, made, parts) in vectors {
+        let bytes = make(rt, alloc, made)?;
+        let mut expected = Vec::new(alloc);
+        for part in *parts {
+            expected.extend_from_slice(part)?;
+        }
+        assert_eq!(rt; bytes.as_slice(), expected.as_slice(), "{name}");
+    }
+    Ok(())
+}
+
+/// The bytes that this makes.
+fn make<R: Wait + Abort + AllocGlobal>(
+    rt: &R,
+    alloc: Global,
+    made: &Made,
+) -> Result<Vec<u8>, NoMemory> {
+    match made {
+        Made::Reply(answer) => frames(alloc, &answered(rt, alloc, answer)),
+        Made::Sent(news) => frames(alloc, &sent(rt, alloc, news)),
+        Made::Queued(news) => frames(alloc, &queued(rt, alloc, news)?),
+        Made::Request(message, length) => asked(alloc, message.get(..*length).unwrap_or(&[])),
+        Made::Fetched(bytes, fetches) => fetched(alloc, bytes, fetches),
+        Made::Time(nanos) => {
+            let (secs, nanos) = time_from_system_time(&SystemTime(*nanos));
+            Ok(format!(in alloc; "{secs} {nanos}")?.into_bytes())
+        }
+        Made::SecondsAndNanoseconds(secs, nanos) => {
+            let time = system_time_from_time(*secs, *nanos);
+            Ok(format!(in alloc; "{}", time.0)?.into_bytes())
+        }
+        Made::Text(choice) => chosen(rt, alloc, choice),
+        Made::Conflict(texts) => conflicting(alloc, texts),
+    }
+}
+
+/// The frames that a sink took, one behind the other.
+fn frames(alloc: Global, sink: &MemorySink) -> Result<Vec<u8>, NoMemory> {
+    let mut bytes = Vec::new(alloc);
+    for frame in sink.frames() {
+        bytes.extend_from_slice(frame.as_slice())?;
+    }
+    Ok(bytes)
+}
+
+/// The request that is answered.
+const ID: RequestId = RequestId(0xdead_beef);
+
+const GENERATION: Generation = Generation(0xaa);
+
+/// Attributes of an inode whose blocks have this size.
+fn attributes(blksize: u32) -> FileAttr {
+    let time = SystemTime(0x1234 * 1_000_000_000 + 0x5678);
+    FileAttr {
+        ino: INodeNo(0x11),
+        size: 0x22,
+        blocks: 0x33,
+        atime: time,
+        mtime: time,
+        ctime: time,
+        crtime: time,
+        kind: FileType::RegularFile,
+        perm: 0o644,
+        nlink: 0x55,
+        uid: 0x66,
+        gid: 0x77,
+        rdev: 0x88,
+        blksize,
+        flags: 0x99,
+    }
+}
+
+/// Flags of an open file. None of them is `FOPEN_PASSTHROUGH`.
+fn open_flags(rt: &impl Abort, bits: u32) -> FopenFlags
+    ensures { bit_and result.0 FOPEN_PASSTHROUGH ≡ 0 }
+{
+    assert_eq!(rt; bits & 0x80, 0);
+    FopenFlags::from_bits_retain(bits)
+}
+
+/// A sink that took the reply.
+fn answered(rt: &impl Abort, alloc: Global, answer: &Answer) -> MemorySink {
+    let mut sink = MemorySink::new(alloc, Vec::new(alloc));
+    let end = replied(rt, alloc, answer).into_out().send(&mut sink);
+    assert_eq!(rt; end, OutEnd::Written);
+    sink
+}
+
+/// The reply, spent by its own kind.
+fn replied(rt: &impl Abort, alloc: Global, answer: &Answer) -> Replied {
+    let ttl = Duration::new(0x8765, 0x4321);
+    match answer {
+        Answer::Empty => ReplyEmpty::new(alloc, ID).ok(),
+        Answer::Error(code) => ReplyEmpty::new(alloc, ID).error(Errno::from_i32(*code)),
+        Answer::Data(bytes) => ReplyData::new(alloc, ID).data(bytes),
+        Answer::XattrData(bytes) => ReplyXattr::new(alloc, ID).data(bytes),
+        Answer::XattrSize(size) => ReplyXattr::new(alloc, ID).size(*size),
+        Answer::Entry(size) => ReplyEntry::new(alloc, ID).entry(
+            &ttl,
+            &attributes(*size),
+            GENERATION,
+        ),
+        Answer::Attr(size) => ReplyAttr::new(alloc, ID).attr(&ttl, &attributes(*size)),
+        Answer::Created(size, fh, flags) => {
+            let flags = open_flags(rt, *flags);
+            let attr = attributes(*size);
+            ReplyCreate::new(alloc, ID).created(&ttl, &attr, GENERATION, FileHandle(*fh), flags)
+        }
+        Answer::Opened(fh, flags) => {
+            ReplyOpen::new(alloc, ID).opened(FileHandle(*fh), open_flags(rt, *flags))
+        }
+        Answer::Written(size) => ReplyWrite::new(alloc, ID).written(*size),
+        Answer::Bmap(block) => ReplyBmap::new(alloc, ID).bmap(*block),
+        Answer::Statfs([blocks, bfree, bavail, files, ffree], [bsize, namelen, frsize]) => {
+            ReplyStatfs::new(alloc, ID).statfs(
+                *blocks, *bfree, *bavail, *files, *ffree, *bsize, *namelen, *frsize,
+            )
+        }
+        Answer::Locked(start, end, typ, pid) => {
+            ReplyLock::new(alloc, ID).locked(*start, *end, *typ, *pid)
+        }
+        Answer::Directory(entries) => listed(rt, alloc, entries).ok(),
+    }
+}
+
+/// A listing of 4096 bytes with these entries.
+fn listed(
+    rt: &impl Abort,
+    alloc: Global,
+    entries: &[(u64, u64, FileType, &[u8])],
+) -> ReplyDirectory {
+    let mut reply = ReplyDirectory::new(alloc, ID, 4096);
+    for (ino, offset, kind, name) in entries {
+        assert!(rt; name.len() <= 255);
+        let full = reply.add(INodeNo(*ino), *offset, *kind, name);
+        assert_eq!(rt; full, Ok(false));
+    }
+    reply
+}
+
+/// A notice of this.
+fn notice(alloc: Global, news: &News) -> Result<Notice, NoticeError> {
+    match news {
+        News::Poll(handle) => Ok(Notice::poll(alloc, PollHandle(*handle))),
+        News::InvalInode(ino, offset, len) => {
+            Ok(Notice::inval_inode(alloc, INodeNo(*ino), *offset, *len))
+        }
+        News::InvalEntry(parent, name) => Notice::inval_entry(alloc, INodeNo(*parent), name),
+        News::Store(ino, offset, bytes) => Notice::store(alloc, INodeNo(*ino), *offset, bytes),
+        News::Delete(parent, child, name) => {
+            Notice::delete(alloc, INodeNo(*parent), INodeNo(*child), name)
+        }
+    }
+}
+
+/// A sink that took the notice at once.
+fn sent(rt: &impl Abort, alloc: Global, news: &News) -> MemorySink {
+    let mut sink = MemorySink::new(alloc, Vec::new(alloc));
+    let notice = notice(alloc, news).expect(rt, "there is memory");
+    assert_eq!(rt; deliver(&notice, &mut sink), Ok(()));
+    sink
+}
+
+/// Queues the notice.
+fn notify<R: Wait + AllocGlobal>(
+    rt: &R,
+    notifier: &mut Notifier,
+    news: &News,
+) -> Result<(), NotifyError> {
+    match news {
+        News::Poll(handle) => notifier.poll(rt, PollHandle(*handle)),
+        News::InvalInode(ino, offset, len) => {
+            notifier.inval_inode(rt, INodeNo(*ino), *offset, *len)
+        }
+        News::InvalEntry(parent, name) => notifier.inval_entry(rt, INodeNo(*parent), name),
+        News::Store(ino, offset, bytes) => notifier.store(rt, INodeNo(*ino), *offset, bytes),
+        News::Delete(parent, child, name) => {
+            notifier.delete(rt, INodeNo(*parent), INodeNo(*child), name)
+        }
+    }
+}
+
+/// A line, its first pass, and a notifier of it.
+fn line_of(alloc: Global) -> Result<(Arc<Line<Parcel>, Global>, Pass<Parcel>, Notifier), NoMemory>
+    ensures { IfOk result (λ r. (r.1.line ≡ arc_value r.0) × (r.1.hand.kind ≡ First)) }
+{
+    let (line, mut first) = Line::new(alloc, 1)?;
+    let door = line.split(&mut first, true);
+    let Ok(line) = Arc::new(alloc, line) else {
+        return Err(NoMemory);
+    };
+    let notifier = Notifier::new(Arc::try_clone(&line)?, door);
+    Ok((line, first, notifier))
+}
+
+/// A sink that took the notice from a line.
+fn queued<R: Wait + Abort + AllocGlobal>(
+    rt: &R,
+    alloc: Global,
+    news: &News,
+) -> Result<MemorySink, NoMemory> {
+    let mut sink = MemorySink::new(alloc, Vec::new(alloc));
+    let (line, mut first, mut notifier) = line_of(alloc)?;
+    assert_eq!(rt; notify(rt, &mut notifier, news), Ok(()));
+    if let Some(Parcel::Notice(frame)) = line.pop(rt, &mut first) {
+        frame.send(&mut sink);
+    }
+    Ok(sink)
+}
+
+/// Who asks, and what INIT or MKNOD says, as a text; or why the message is no request.
+fn asked(alloc: Global, message: &[u8]) -> Result<Vec<u8>, NoMemory> {
+    let request = match AnyRequest::try_from(message) {
+        Ok(request) => request,
+        Err(error) => return Ok(format!(in alloc; "{error:?}")?.into_bytes()),
+    };
+    let mut bytes = header(alloc, &request)?;
+    match request.operation() {
+        Ok(Operation::Init(init)) => {
+            let (version, max_readahead) = (init.version(), init.max_readahead());
+            let told = format!(in alloc; "version {version} max_readahead {max_readahead}")?;
+            bytes.extend_from_slice(told.as_bytes())?;
+        }
+        Ok(Operation::MkNod(mknod)) => {
+            let told = numbers(alloc, &mknod)?;
+            bytes.extend_from_slice(told.as_bytes())?;
+            bytes.extend_from_slice(mknod.name())?;
+        }
+        _ => {}
+    }
+    Ok(bytes)
+}
+
+/// What MKNOD says in front of its name, as a text.
+fn numbers(alloc: Global, mknod: &MkNod<'_>) -> Result<String, NoMemory> {
+    let text = format!(in alloc;
+        "mode 0o{:o} rdev {} umask 0o{:o} name ",
+        mknod.mode(),
+        mknod.rdev(),
+        mknod.umask()
+    )?;
+    Ok(text)
+}
+
+/// The header of a request, as a text.
+fn header(alloc: Global, request: &AnyRequest<'_>) -> Result<Vec<u8>, NoMemory> {
+    let text = format!(in alloc;
+        "opcode {} unique 0x{:x} nodeid 0x{:x} uid 0x{:x} gid 0x{:x} pid 0x{:x} ",
+        request.opcode(),
+        request.unique().0,
+        request.nodeid().0,
+        request.uid(),
+        request.gid(),
+        request.pid()
+    )?;
+    Ok(text.into_bytes())
+}
+
+/// What is fetched from these bytes, each with a comma behind it, and how many are left.
+fn fetched(alloc: Global, bytes: &[u8], fetches: &[Fetch]) -> Result<Vec<u8>, NoMemory> {
+    let mut arguments = ArgumentIterator::new(bytes);
+    let mut told = Vec::new(alloc);
+    for fetch in fetches {
+        match fetch {
+            Fetch::Name => told.extend_from_slice(arguments.fetch_str().unwrap_or(b"none"))?,
+            Fetch::Number => match arguments.fetch_u64() {
+                Some(number) => told.extend_from_slice(&number.to_le_bytes())?,
+                None => told.extend_from_slice(b"none")?,
+            },
+            Fetch::Access => match arguments.fetch_access() {
+                Some(access) => told.extend_from_slice(&access.mask.to_le_bytes())?,
+                None => told.extend_from_slice(b"none")?,
+            },
+            Fetch::All => told.extend_from_slice(arguments.fetch_all())?,
+        }
+        told.extend_from_slice(b", ")?;
+    }
+    let left = format!(in alloc; "{} left", arguments.len())?;
+    told.extend_from_slice(left.as_bytes())?;
+    Ok(told)
+}
+
+/// The text of an option, in front of which stands the variant of one without a text of its own.
+fn chosen(rt: &impl Abort, alloc: Global, choice: &Choice) -> Result<Vec<u8>, NoMemory> {
+    let option = match choice {
+        Choice::FSName(name) => MountOption::FSName(OptionText::new(alloc, name)?),
+        Choice::Subtype(name) => MountOption::Subtype(OptionText::new(alloc, name)?),
+        Choice::Custom(text) => MountOption::CUSTOM(OptionText::new(alloc, text)?),
+        Choice::Plain(text) => return plain(alloc, text),
+    };
+    text_of(rt, alloc, &option)
+}
+
+/// The text of an option. It names that option.
+fn text_of(rt: &impl Abort, alloc: Global, option: &MountOption) -> Result<Vec<u8>, NoMemory> {
+    let text = option_to_string(alloc, option)?;
+    let named = MountOption::from_str(alloc, text.as_str())?;
+    assert_eq!(rt; &named, option);
+    Ok(text.into_bytes())
+}
+
+/// The option that a text names, and its text again.
+fn plain(alloc: Global, text: &str) -> Result<Vec<u8>, NoMemory> {
+    let option = MountOption::from_str(alloc, text)?;
+    let text = option_to_string(alloc, &option)?;
+    Ok(format!(in alloc; "{option:?} {text}")?.into_bytes())
+}
+
+/// The places of the options that conflict, as a text.
+fn conflicting(alloc: Global, texts: &[&str]) -> Result<Vec<u8>, NoMemory> {
+    let mut options = Vec::new(alloc);
+    for text in texts {
+        let Ok(()) = options.push(MountOption::from_str(alloc, text)?) else {
+            return Err(NoMemory);
+        };
+    }
+    let mut config = Config::new(alloc);
+    config.mount_options = Items::from_vec(options);
+    let places = match check_option_conflicts(&config) {
+        Ok(()) => String::from_str(alloc, "none")?,
+        Err(conflict) => format!(in alloc; "{} and {}", conflict.first, conflict.second)?,
+    };
+    Ok(places.into_bytes())
+}
