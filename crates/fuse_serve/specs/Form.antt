@@ -1,9 +1,10 @@
--- The words that start the program, `serve THREADS ACL OWNER PAGE`, as lists of bytes.
-use Rattle.std.specs.Prelude.{ℕ, ◌+◌, ◌-◌, ◌*◌, ◌&&◌, List, [], ◌∷◌, Option, None, Some, Bool, length, nat_lt, if◌then◌else◌, codes}
+-- The words that start the program, `serve THREADS ACL OWNER PAGE` or `gen SEED COUNT`, as lists of bytes.
+use Rattle.std.specs.Prelude.{◌≡◌, ℕ, ◌+◌, ◌-◌, ◌*◌, ◌&&◌, List, [], ◌∷◌, Option, None, Some, Bool, length, nat_lt, if◌then◌else◌, codes}
 use Rattle.std.specs.Str.{bytes_eq}
 use Rattle.fuse_config.specs.declared.session_acl.SessionACL.{SessionACL}
 use Rattle.fuse_config.specs.declared.session_acl.SessionACL.TheVariants.{All, RootAndOwner, Owner}
 use Rattle.fuse_serve.specs.declared.arguments.ServeForm.{ServeForm}
+use Rattle.fuse_serve.specs.declared.arguments.GenForm.{GenForm}
 
 -- a byte from '0' to '9'
 abbrev pub is_digit : ℕ → Bool
@@ -39,10 +40,25 @@ abbrev pub formed : Option ℕ → Option SessionACL → Option ℕ → Option �
 formed (Some threads) (Some acl) (Some owner) (Some page) = Some record { threads = threads; acl = acl; owner = owner; page = page }
 formed _ _ _ _ = None
 
--- the form that the words are: five of them, `serve`, at most 1024 threads, and a page that is not empty
+-- the form of `serve` that the words are: five of them, `serve`, at most 1024 threads, and a page that is not empty
 abbrev pub form_of : List (List ℕ) → Option ServeForm
 form_of (serve ∷ threads ∷ acl ∷ owner ∷ page ∷ []) =
     if bytes_eq serve (codes "serve")
     then formed (number_within 0 1024 threads) (acl_of acl) (number_within 0 4294967295 owner) (number_within 1 4294967295 page)
     else None
 form_of _ = None
+
+-- a form of `gen` has both of its parts
+abbrev pub gen_formed : Option ℕ → Option ℕ → Option GenForm
+gen_formed (Some seed) (Some count) = Some record { seed = seed; count = count }
+gen_formed _ _ = None
+
+-- the form of `gen` that the words are: three of them, `gen`, a seed below 2^31, and at most 65535 messages
+abbrev pub gen_form_of : List (List ℕ) → Option GenForm
+gen_form_of (gen ∷ seed ∷ count ∷ []) =
+    if bytes_eq gen (codes "gen") then gen_formed (number_within 0 2147483647 seed) (number_within 0 65535 count) else None
+gen_form_of _ = None
+
+-- the words are neither
+abbrev pub IsNoForm : List (List ℕ) → Type 0
+IsNoForm words = (form_of words ≡ None) × (gen_form_of words ≡ None)

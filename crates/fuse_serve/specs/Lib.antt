@@ -2,3 +2,4 @@ pub mod Form
 pub mod Status
 pub mod Tree
 pub mod Program
+pub mod Generated

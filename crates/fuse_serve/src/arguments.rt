@@ -1,7 +1,7 @@
-// The words that start the program: `serve THREADS ACL OWNER PAGE`.
+// The words that start the program: `serve THREADS ACL OWNER PAGE`, or `gen SEED COUNT`.
 
 ghost use Rattle.std.specs.Prelude.{◌≡◌, ◌≤◌, ◌<◌, map, IfSome};
-ghost use Rattle.fuse_serve.specs.Form.{acl_of, decimal_of, form_of, number_within};
+ghost use Rattle.fuse_serve.specs.Form.{acl_of, decimal_of, form_of, gen_form_of, number_within};
 
 use fuse_config::SessionACL;
 
@@ -16,6 +16,15 @@ pub struct ServeForm {
     pub owner: u32,
     /// The bytes in a page of memory, at least 1.
     pub page: u32,
+}
+
+/// What the program is told to generate.
+#[derive(Clone, Copy, Debug, PartialEq, Eq)]
+pub struct GenForm {
+    /// Where the requests begin, below 2^31.
+    pub seed: u32,
+    /// How many requests there are, at most 65535.
+    pub count: u32,
 }
 
 /// The form that the words are, which come after the program's own name.
@@ -34,6 +43,22 @@ pub fn serve_form(words: &[&[u8]]) -> Option<ServeForm>
         acl: acl_named(acl)?,
         owner: number(owner, 0, u32::MAX)?,
         page: number(page, 1, u32::MAX)?,
+    })
+}
+
+/// The same of `gen SEED COUNT`.
+pub fn gen_form(words: &[&[u8]]) -> Option<GenForm>
+    ensures { result ≡ gen_form_of (map (λ w. w.now) words.now) }
+{
+    let [command, seed, count] = words else {
+        return None;
+    };
+    if *command != b"gen".as_slice() {
+        return None;
+    }
+    Some(GenForm {
+        seed: number(seed, 0, 0x7fff_ffff)?,
+        count: number(count, 0, 65535)?,
     })
 }
 
@@ -123,6 +148,37 @@ mod tests {
         ];
         for (words, expected) in cases {
             assert_eq!(rt; serve_form(words), expected);
+        }
+    }
+
+    #[test]
+    fn gen_forms(rt: HostRuntime) {
+        let cases: [(&[&[u8]], Option<GenForm>); 10] = [
+            (&[b"gen", b"0", b"0"], Some(GenForm { seed: 0, count: 0 })),
+            (
+                &[b"gen", b"2147483647", b"65535"],
+                Some(GenForm {
+                    seed: 2_147_483_647,
+                    count: 65535,
+                }),
+            ),
+            (
+                &[b"gen", b"0000000012", b"0000000034"],
+                Some(GenForm {
+                    seed: 12,
+                    count: 34,
+                }),
+            ),
+            (&[b"gen", b"2147483648", b"0"], None),
+            (&[b"gen", b"0", b"65536"], None),
+            (&[b"gen", b"0", b"x"], None),
+            (&[b"gen", b"0"], None),
+            (&[b"gen", b"0", b"0", b"0"], None),
+            (&[b"serve", b"1", b"all", b"0", b"4096"], None),
+            (&[b"genx", b"0", b"0"], None),
+        ];
+        for (words, expected) in cases {
+            assert_eq!(rt; gen_form(words), expected);
         }
     }
 }

@@ -1,13 +1,17 @@
-//! The program: serves a small tree of files to whoever speaks FUSE on its standard input and output.
+//! The program: serves a small tree of files to whoever speaks FUSE on its standard input and output, or writes
+//! messages to send to it.
 #![tactic(auto)]
 
-ghost use Rattle.std.specs.Prelude.{◌≡◌, ◌↔◌, map, None};
-ghost use Rattle.fuse_serve.specs.Form.{form_of};
+ghost use Rattle.std.specs.Prelude.{◌≡◌, ◌↔◌, map};
+ghost use Rattle.fuse_serve.specs.Form.{IsNoForm};
 ghost use Rattle.fuse_serve.specs.Status.{IsExit};
 
 mod arguments;
 #[cfg(test)]
 mod fault_tests;
+mod generator;
+#[cfg(test)]
+mod generator_tests;
 mod hello;
 mod program;
 #[cfg(test)]
@@ -30,7 +34,7 @@ fn run<R: AllocGlobal + Wait, I: Read + Drop, O: Write + Send + Drop>(
     input: I,
     output: O,
 ) -> u8
-    ensures form { (result ≡ 2) ↔ (form_of (map (λ argument. argument.now) arguments.now) ≡ None) }
+    ensures form { (result ≡ 2) ↔ IsNoForm (map (λ argument. argument.now) arguments.now) }
     ensures statuses { IsExit result }
 {
     serve(rt, arguments, StdSource::new(input), StdSink::new(output)).status

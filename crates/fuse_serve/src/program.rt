@@ -1,10 +1,12 @@
 // What the program does with its words, its input and its output.
-ghost use Rattle.std.specs.Prelude.{◌≡◌, ◌≢◌, ◌↔◌, ◌⊎◌, ◌<◌, map, None, IfSome};
-ghost use Rattle.fuse_serve.specs.Form.{form_of};
-ghost use Rattle.fuse_serve.specs.Program.{ByteExchange, EachAnswered, InputWell};
+ghost use Rattle.std.specs.Prelude.{◌≡◌, ◌≢◌, ◌↔◌, ◌⊎◌, ◌<◌, map, IfSome};
+ghost use Rattle.fuse_serve.specs.Form.{IsNoForm, form_of, gen_form_of};
+ghost use Rattle.fuse_serve.specs.Generated.{Generates};
+ghost use Rattle.fuse_serve.specs.Program.{ByteExchange, EachAnswered, InputWell, Still};
 ghost use Rattle.fuse_serve.specs.Status.{IsExit, IsSessionStatus, IsStatus};
 
-use crate::arguments::{ServeForm, serve_form};
+use crate::arguments::{GenForm, ServeForm, gen_form, serve_form};
+use crate::generator::write_stream;
 use crate::hello::Hello;
 use fuse_config::Config;
 use fuse_session::{Ended, SessionError, mount};
@@ -88,7 +90,21 @@ fn serve_tree<R: Wait + AllocGlobal, I: ByteSource, O: ByteSink + Send>(
     }
 }
 
-/// Does what the words say, which stand after the program's own name: `serve THREADS ACL OWNER PAGE` serves the tree.
+/// Writes the messages of `gen`. The input is not read.
+fn generate<I, O: ByteSink>(form: GenForm, input: I, mut output: O) -> Served<I, O>
+    ensures unread { result.input ≡ input }
+    ensures generated { Generates form result.status (O.told output) (O.told result.output) }
+{
+    let whole = write_stream(&mut output, form.seed, form.count);
+    Served {
+        status: if whole { 0 } else { 8 },
+        input,
+        output,
+    }
+}
+
+/// Does what the words say, which stand after the program's own name: `serve THREADS ACL OWNER PAGE` serves the tree, and
+/// `gen SEED COUNT` writes messages that the seed gives.
 pub fn serve<R: Wait + AllocGlobal, I: ByteSource, O: ByteSink + Send>(
     rt: &R,
     words: &[&[u8]],
@@ -96,7 +112,7 @@ pub fn serve<R: Wait + AllocGlobal, I: ByteSource, O: ByteSink + Send>(
     output: O,
 ) -> Served<I, O>
     // The status 2 comes exactly where the words are no form.
-    ensures form { (result.status ≡ 2) ↔ (form_of (map (λ w. w.now) words.now) ≡ None) }
+    ensures form { (result.status ≡ 2) ↔ IsNoForm (map (λ w. w.now) words.now) }
 
     // No status but these comes.
     ensures statuses { IsExit result.status }
@@ -105,7 +121,7 @@ pub fn serve<R: Wait + AllocGlobal, I: ByteSource, O: ByteSink + Send>(
     ensures untouched { (result.status ≡ 2) ⊎ (result.status ≡ 9) →
         (result.input ≡ input) × (result.output ≡ output) }
 
-    // With 0 each message that was read has its one reply: see `EachAnswered`.
+    // For `serve`: with 0 each message that was read has its one reply: see `EachAnswered`.
     ensures answered { result.status ≡ 0 → IfSome (form_of (map (λ w. w.now) words.now)) (λ form.
         EachAnswered form (I.told input) (I.told result.input) (O.told output) (O.told result.output)) }
 
@@ -117,9 +133,20 @@ pub fn serve<R: Wait + AllocGlobal, I: ByteSource, O: ByteSink + Send>(
     ensures complete { IfSome (form_of (map (λ w. w.now) words.now)) (λ form.
         InputWell form (I.told input) (I.told result.input) (O.told output) (O.told result.output) →
         (result.status ≡ 0) ⊎ (result.status ≡ 9)) }
+
+    // For `gen`: nothing is read, and what is written are the first bytes of the stream, or all of them: see `Generates`.
+    ensures generated { IfSome (gen_form_of (map (λ w. w.now) words.now)) (λ form.
+        (result.input ≡ input) × Generates form result.status (O.told output) (O.told result.output)) }
+
+    // Where the output did not fail, these are all.
+    ensures all_generated { IfSome (gen_form_of (map (λ w. w.now) words.now)) (λ form.
+        Still (O.told output).faults (O.told result.output).faults → result.status ≡ 0) }
 {
-    match serve_form(words) {
-        Some(form) => serve_tree(rt, form, input, output),
+    if let Some(form) = serve_form(words) {
+        return serve_tree(rt, form, input, output);
+    }
+    match gen_form(words) {
+        Some(form) => generate(form, input, output),
         None => Served {
             status: 2,
             input,
