@@ -48,13 +48,10 @@ impl AccessRule {
     pub(crate) fn admits(self, uid: u32, opcode: u32) -> bool
         ensures { result ≡ admitted self.acl self.owner uid opcode }
     {
-        if always_passes(opcode) {
-            return true;
-        }
         match self.acl {
             SessionACL::All => true,
-            SessionACL::RootAndOwner => uid == 0 || uid == self.owner,
-            SessionACL::Owner => uid == self.owner,
+            SessionACL::RootAndOwner => uid == 0 || uid == self.owner || always_passes(opcode),
+            SessionACL::Owner => uid == self.owner || always_passes(opcode),
         }
     }
 
