@@ -46,10 +46,11 @@ pub trait Filesystem: Send + Sync {
     fn lookup(&self, request: &Request, parent: INodeNo, name: &[u8], reply: ReplyEntry) -> Replied
         ensures { Answered promise.may_answer self.now request.now (Call.Lookup parent.0 name.now) reply result };
 
-    /// FORGET: the kernel gives back `nlookup` lookups of this inode. Each answer of `lookup`, `symlink` and `link`
-    /// counted as one. Once all are given back the kernel does not name the inode again before another lookup; at the
-    /// end of a session some may never be given back. There is no reply: the result is the mark that the sink notes
-    /// beside the request's id. `defaults::forget` gives 0.
+    /// FORGET: the kernel gives back `nlookup` lookups of this inode. Each inode that `lookup`, `symlink`, `mknod`,
+    /// `mkdir`, `link` or `create` answered counted as one, and so did each entry that `readdirplus` listed, but for `.`
+    /// and `..`. Once all are given back the kernel does not name the inode again before another lookup; at the end of a
+    /// session some may never be given back. There is no reply: the result is the mark that the sink notes beside the
+    /// request's id. `defaults::forget` gives 0.
     fn forget(&self, request: &Request, ino: INodeNo, nlookup: u64) -> u64
         ensures { promise.may_note self.now request.now (Call.Forget ino.0 nlookup) result };
 
