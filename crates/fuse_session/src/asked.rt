@@ -4,6 +4,7 @@ ghost use Rattle.fuse_reply.specs.Answer.Answer.{Empty, Error};
 ghost use Rattle.fuse_reply.specs.Frame.{reply};
 ghost use Rattle.fuse_reply.specs.declared.out.Out.{Out};
 
+use crate::refusal::refusal;
 use fuse_reply::{EntryKind, Out, Reply, ReplyEmpty, ReplyListing};
 use fuse_request::Request;
 use fuse_wire::{Errno, INodeNo, RequestId};
@@ -40,7 +41,7 @@ impl Asked {
     pub(crate) fn refusal(&self, error: Errno) -> Out
         ensures { result ≡ Out.Frame (reply self.now.id.0 (Error error)) }
     {
-        ReplyEmpty::new(self.alloc, self.id).error(error).into_out()
+        refusal(self.alloc, self.id, error)
     }
 
     /// The reply to DESTROY.
