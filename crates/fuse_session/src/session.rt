@@ -134,7 +134,7 @@ fn serve<R: Wait + AllocGlobal, FS: Filesystem, S: Source, K: Sink>(
     run_inline(rt, service, notifier, channel).outcome()
 }
 
-impl<FS: Filesystem, S: Source, K: Sink> Session<FS, S, K> {
+impl<FS: Filesystem, S: Source, K: Sink + Send> Session<FS, S, K> {
     /// Opens a session: first the options of `config` are looked at, then its memory is taken, the only memory that a
     /// session takes itself (where messages are received, and the line of notices), and then the kernel is greeted.
     /// `owner` is the user whose session it is, and `config` says whose requests are served. `page_size` is in bytes, and
