@@ -22,7 +22,8 @@ use fuse_request::{
 };
 
 /// What answers the operations of users who are served: one method for each that may reach a filesystem. It stands
-/// between the table of the operations and a filesystem, since the table may call no function of a `Filesystem`.
+/// between the table of the operations and a filesystem, since a method of an `impl` may call no function that asks for
+/// a `Filesystem`, and the table is called by one.
 pub(crate) trait Handler {
     /// What a request is owed by its verdict, its message's number and its id.
     ghost owes: { Self → Request → Verdict → (seq id : ℕ) → Goes → Type 0 };
