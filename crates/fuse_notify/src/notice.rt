@@ -6,7 +6,7 @@ ghost use Rattle.fuse_reply.specs.Notice.Notice.{Poll, InvalInode, InvalEntry, S
 ghost use Rattle.fuse_notify.specs.Making.{Makes};
 
 use crate::payloads::{entry_head_bytes, range_bytes, wide_head_bytes};
-use fuse_reply::{NoticeFrame, Packed};
+use fuse_reply::{MAX_PAYLOAD, NoticeFrame, Packed};
 use fuse_wire::{INodeNo, PollHandle, RequestId};
 use std::alloc::Global;
 use std::marker::Model;
@@ -21,9 +21,6 @@ const FUSE_NOTIFY_INVAL_ENTRY: i32 = 3;
 const FUSE_NOTIFY_STORE: i32 = 4;
 
 const FUSE_NOTIFY_DELETE: i32 = 6;
-
-/// How many payload bytes a frame can carry: its length field has 4 bytes, and counts the header's 16 too.
-const MAX_PAYLOAD: usize = u32::MAX as usize - 16;
 
 /// A notice has no request.
 const NO_REQUEST: RequestId = RequestId(0);

@@ -9,9 +9,9 @@ use bitflags::Flags;
 use fuse_config::KernelConfig;
 use fuse_notify::PollNotifier;
 use fuse_reply::{
-    Replied, ReplyAttr, ReplyBmap, ReplyCreate, ReplyData, ReplyDirectory, ReplyDirectoryPlus,
-    ReplyEmpty, ReplyEntry, ReplyIoctl, ReplyLock, ReplyLseek, ReplyOpen, ReplyPoll, ReplyStatfs,
-    ReplyWrite, ReplyXattr,
+    MAX_PAYLOAD, Replied, ReplyAttr, ReplyBmap, ReplyCreate, ReplyData, ReplyDirectory,
+    ReplyDirectoryPlus, ReplyEmpty, ReplyEntry, ReplyIoctl, ReplyLock, ReplyLseek, ReplyOpen,
+    ReplyPoll, ReplyStatfs, ReplyWrite, ReplyXattr,
 };
 use fuse_request::{ForgetList, Request};
 use fuse_session::{Filesystem, defaults};
@@ -21,9 +21,6 @@ use fuse_wire::{
     SystemTime, TimeOrNow, WriteFlags,
 };
 use std::marker::Model;
-
-/// The longest payload of a frame.
-const MAX_PAYLOAD: u32 = u32::MAX - 16;
 
 /// A filesystem of these files. What would change something is refused with EROFS, and what the files do not say is
 /// answered as `fuse_session::defaults` does. It leaves what INIT negotiates as it is. A contract sees the files.
@@ -67,7 +64,7 @@ fn part(all: &[u8], offset: u64, size: u32) -> &[u8]
     ensures within { length result.now ≤ max_payload }
 {
     let rest = all.get(offset as usize..).unwrap_or(&[]);
-    rest.get(..size.min(MAX_PAYLOAD) as usize).unwrap_or(rest)
+    rest.get(..(size as usize).min(MAX_PAYLOAD)).unwrap_or(rest)
 }
 
 impl<T: Files + Send + Sync> Filesystem for ReadOnly<T> {

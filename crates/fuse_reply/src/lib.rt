@@ -39,7 +39,7 @@ mod tests;
 
 pub use notice_frame::NoticeFrame;
 pub use out::{Out, OutEnd};
-pub use packed::Packed;
+pub use packed::{MAX_PAYLOAD, Packed};
 pub use parcel::Parcel;
 pub use replied::Replied;
 pub use reply::Reply;

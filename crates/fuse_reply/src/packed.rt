@@ -13,8 +13,8 @@ use std::marker::Model;
 /// How many bytes a frame's header has: those of `struct fuse_out_header`.
 const OUT_HEADER_SIZE: usize = 16;
 
-/// How many payload bytes a frame can carry.
-pub(crate) const MAX_PAYLOAD: usize = u32::MAX as usize - OUT_HEADER_SIZE;
+/// How many payload bytes a frame can carry: its length field has 4 bytes, and counts the header's 16 too.
+pub const MAX_PAYLOAD: usize = u32::MAX as usize - OUT_HEADER_SIZE;
 
 /// How many payload bytes a frame holds without an allocation.
 pub(crate) const INLINE_SIZE: usize = 144;
