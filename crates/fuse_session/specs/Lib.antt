@@ -18,4 +18,3 @@ pub mod Headline
 pub mod Complete
 pub mod Decided
 pub mod Refused
-pub mod Probing

@@ -1,6 +1,0 @@
-use Rattle.fuse_session.proofs.Answering.{Answered-error}
-use Rattle.std.proofs.Common.{lit<}
-use Rattle.fuse_session.proofs.counting.CountingProbe.getattr.Goals as goal
-
-pub returns : goal.returns
-returns c = Answered-error 5 (lit< tt) (lit< tt) tt c.unanswered.ensures

@@ -1,6 +1,0 @@
-use Rattle.fuse_reply.specs.Answer.Answer.{Data}
-use Rattle.fuse_session.proofs.Answering.{Answered-replies}
-use Rattle.fuse_session.proofs.counting.CountingProbe.read.Goals as goal
-
-pub returns : goal.returns
-returns c = Answered-replies (Data _) tt c.data.ensures.answer tt c.data.ensures.replies

@@ -1,6 +1,0 @@
-use Rattle.fuse_session.proofs.Answering.{Answered-replies}
-use Rattle.fuse_session.proofs.probing.ProbingFilesystem.poll.Goals as goal
-
-pub returns : goal.returns
-returns g c =
-    let a = c.poll.ensures in Answered-replies a.answer a.allowed.kind a.allowed.whole a.allowed.allowed a.replies

@@ -1,0 +1,155 @@
+// A filesystem for tests, which counts its calls, and sessions of it.
+ghost use Rattle.std.specs.Prelude.{◌<◌};
+
+use crate::argument::Argument;
+use crate::probe::Probe;
+use crate::probing::Probing;
+use fuse_config::Config;
+use fuse_reply::{Replied, ReplyAttr, ReplyData, ReplyEntry};
+use fuse_request::Request;
+use fuse_session::{Ended, SessionError, Transcript, mount};
+use fuse_wire::consts::MAX_WRITE_SIZE;
+use fuse_wire::{Errno, FileHandle, INodeNo, LockOwner, OpenFlags, Sink, Source};
+use std::sync::Wait;
+use std::sync::atomic::{AtomicU64, Ordering};
+
+/// What a read gives where no other contents are said: more than a frame holds without memory.
+pub(crate) const CONTENTS: [u8; 200] = [0x2a; 200];
+
+/// A filesystem that counts its calls, each row of a batch of forgets as one too, and how often it was destroyed. It
+/// knows no name and no attributes, and reads the same contents from every offset.
+#[derive(Drop)]
+pub(crate) struct Counting {
+    contents: Option<Vec<u8>>,
+    calls: AtomicU64,
+    destroyed: u64,
+}
+
+/// How a session ended, what it did, and how often it called and destroyed its filesystem.
+#[derive(Clone, Copy, Debug, PartialEq)]
+pub(crate) struct Course {
+    pub(crate) outcome: Result<(), SessionError>,
+    pub(crate) transcript: Transcript,
+    pub(crate) calls: u64,
+    pub(crate) destroyed: u64,
+}
+
+/// Serves a filesystem that counts, in a session of root with pages of 4096 bytes. The source and the sink come back.
+pub(crate) fn run<R: Wait + AllocGlobal, S: Source, K: Sink + Send>(
+    rt: &R,
+    source: S,
+    sink: K,
+    config: &Config,
+) -> (Course, S, K) {
+    run_with(rt, Counting::new(None), source, sink, 0, 4096, config)
+}
+
+/// Serves this filesystem in a session of this owner, with pages of this size.
+pub(crate) fn run_with<R: Wait + AllocGlobal, S: Source, K: Sink + Send>(
+    rt: &R,
+    counting: Counting,
+    source: S,
+    sink: K,
+    owner: u32,
+    page_size: u32,
+    config: &Config,
+) -> (Course, S, K)
+    requires { 0 < page_size }
+{
+    let filesystem = Probing { probe: counting };
+    let Ended {
+        filesystem: Probing { probe },
+        source,
+        sink,
+        outcome,
+        transcript,
+    } = mount(rt, filesystem, source, sink, owner, page_size, config);
+    let course = Course {
+        outcome,
+        transcript,
+        calls: probe.calls.load(Ordering::SeqCst),
+        destroyed: probe.destroyed,
+    };
+    (course, source, sink)
+}
+
+impl Counting {
+    /// It was not called yet. These are its contents, or else `CONTENTS`.
+    pub(crate) fn new(contents: Option<Vec<u8>>) -> Counting {
+        Counting {
+            contents,
+            calls: AtomicU64::new(0),
+            destroyed: 0,
+        }
+    }
+
+    /// How often it was destroyed.
+    pub(crate) fn destroyed(&self) -> u64 {
+        self.destroyed
+    }
+}
+
+impl Probe for Counting {
+    ghost own = { λ call answer. Unit {0} };
+
+    fn started(&mut self, _request: &Request) {}
+
+    fn called(
+        &self,
+        _request: &Request,
+        _method: &'static str,
+        _arguments: &[Argument],
+        _texts: &[&[u8]],
+    ) {
+        self.calls.fetch_add(1, Ordering::SeqCst);
+    }
+
+    fn lookup(
+        &self,
+        _request: &Request,
+        _parent: INodeNo,
+        _name: &[u8],
+        reply: ReplyEntry,
+    ) -> Replied {
+        reply.error(Errno::ENOENT)
+    }
+
+    fn forget(&self, ino: INodeNo, nlookup: u64) -> u64 {
+        ino.0.saturating_add(nlookup)
+    }
+
+    fn getattr(
+        &self,
+        _request: &Request,
+        _ino: INodeNo,
+        _fh: Option<FileHandle>,
+        reply: ReplyAttr,
+    ) -> Replied {
+        reply.unanswered()
+    }
+
+    fn read(
+        &self,
+        _request: &Request,
+        _ino: INodeNo,
+        _fh: FileHandle,
+        _offset: u64,
+        size: u32,
+        _flags: OpenFlags,
+        _lock_owner: Option<LockOwner>,
+        reply: ReplyData,
+    ) -> Replied {
+        let contents = match &self.contents {
+            Some(contents) => contents.as_slice(),
+            None => CONTENTS.as_slice(),
+        };
+        let count = contents.len().min(size as usize).min(MAX_WRITE_SIZE);
+        reply.data(&contents[..count])
+    }
+
+    fn destroyed(&mut self) {
+        self.destroyed = self.destroyed.saturating_add(1);
+    }
+
+    ghost allows_default = { λ call. tt };
+}

@@ -1,0 +1,74 @@
+// LINK: which inode gets one more name, and in which directory.
+use crate::argument::Argument;
+use crate::probe::Probe;
+use crate::probing::Probing;
+use crate::test_messages::{ACCEPTED, EIO, EPERM, INIT_7_8, error_reply, link, source_of};
+use fuse_config::{Config, SessionACL};
+use fuse_reply::{Replied, ReplyEntry};
+use fuse_request::Request;
+use fuse_session::{Ended, mount};
+use fuse_wire::{Errno, INodeNo, MemorySink};
+use std::test::Fail;
+
+/// A filesystem that lets no name be given, and answers EPERM for the inode 2 in the directory 1 alone, and else EIO.
+#[derive(Drop)]
+struct Linking;
+
+impl Probe for Linking {
+    ghost own = { λ call answer. Unit {0} };
+
+    fn started(&mut self, _request: &Request) {}
+
+    fn called(
+        &self,
+        _request: &Request,
+        _method: &'static str,
+        _arguments: &[Argument],
+        _texts: &[&[u8]],
+    ) {}
+
+    fn link(
+        &self,
+        _request: &Request,
+        ino: INodeNo,
+        newparent: INodeNo,
+        _newname: &[u8],
+        reply: ReplyEntry,
+    ) -> Replied {
+        let error = match (ino.0, newparent.0) {
+            (2, 1) => Errno::EPERM,
+            _ => Errno::EIO,
+        };
+        reply.error(error)
+    }
+
+    fn destroyed(&mut self) {}
+
+    ghost allows_default = { λ call. tt };
+}
+
+#[test]
+fn a_link_is_of_the_old_inode_in_the_new_directory(rt: HostRuntime) -> Result<(), Fail> {
+    let alloc = rt.alloc();
+    let mut config = Config::new(alloc);
+    config.acl = SessionACL::All;
+    let source = source_of(alloc, &[&INIT_7_8, &link(3, 2, 1), &link(4, 1, 2)])?;
+    let sink = MemorySink::new(alloc, Vec::new(alloc));
+    let filesystem = Probing { probe: Linking };
+    let Ended {
+        filesystem: _,
+        source: _,
+        sink,
+        outcome,
+        transcript,
+    } = mount(&rt, filesystem, source, sink, 0, 4096, &config);
+    assert_eq!(rt;
+        (outcome, transcript.frames, sink.frames().len()),
+        (Ok(()), 3, 3)
+    );
+    let expected: [&[u8]; 3] = [&ACCEPTED, &error_reply(3, EPERM), &error_reply(4, EIO)];
+    for (sent, frame) in sink.frames().iter().zip(&expected) {
+        assert_eq!(rt; sent.as_slice(), *frame);
+    }
+    Ok(())
+}

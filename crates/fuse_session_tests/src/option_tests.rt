@@ -1,0 +1,141 @@
+// Options that are refused before anything is taken, and options that are not.
+use crate::counting::{Course, run};
+use crate::test_messages::{INIT_7_8, source_of};
+use fuse_config::{Config, MountOption, SessionACL};
+use fuse_session::{SessionError, Transcript};
+use fuse_wire::{Items, MemorySink};
+use std::process::Abort;
+use std::sync::Wait;
+use std::test::Fail;
+
+const OWNER: SessionACL = SessionACL::Owner;
+
+/// The texts of the options, the access rule, the threads, whether each has a device of its own, and the outcome.
+type Row = (
+    &'static [&'static str],
+    SessionACL,
+    Option<usize>,
+    bool,
+    Result<(), SessionError>,
+);
+
+/// How a session of an INIT ends, of which so many messages were taken.
+fn course_of(outcome: Result<(), SessionError>, taken: u64) -> Course {
+    Course {
+        outcome,
+        transcript: Transcript {
+            received: taken,
+            frames: taken,
+            notes: 0,
+            lost: 0,
+            unrecorded: 0,
+        },
+        calls: 0,
+        destroyed: taken,
+    }
+}
+
+/// Serves a session of an INIT, which is taken or not. Where it was not, it is there for a session without options.
+fn ends<R: Wait + AllocGlobal + Abort>(rt: &R, row: &Row, taken: u64) -> Result<(), Fail> {
+    let alloc = rt.alloc();
+    let (texts, acl, n_threads, clone_fd, outcome) = row;
+    let mut options = Vec::new(alloc);
+    for text in *texts {
+        options.push(MountOption::from_str(alloc, text)?)?;
+    }
+    let config = Config {
+        mount_options: Items::from_vec(options),
+        acl: *acl,
+        n_threads: *n_threads,
+        clone_fd: *clone_fd,
+    };
+    let source = source_of(alloc, &[&INIT_7_8])?;
+    let sink = MemorySink::new(alloc, Vec::new(alloc));
+    let (course, source, sink) = run(rt, source, sink, &config);
+    assert_eq!(rt; course, course_of(*outcome, taken));
+    assert_eq!(rt; sink.frames().len() as u64, taken);
+    let (later, _, _) = run(rt, source, sink, &Config::new(alloc));
+    assert_eq!(rt; later.transcript.received, 1u64.saturating_sub(taken));
+    Ok(())
+}
+
+const CONFLICT: Result<(), SessionError> = Err(SessionError::Conflict {
+    first: 0,
+    second: 3,
+});
+
+const REFUSED: [Row; 6] = [
+    (
+        &["ro", "dev", "nodev", "rw"],
+        SessionACL::All,
+        None,
+        false,
+        CONFLICT,
+    ),
+    (
+        &["ro", "auto_unmount", "dev", "rw"],
+        OWNER,
+        Some(2),
+        true,
+        CONFLICT,
+    ),
+    (
+        &["sync", "auto_unmount"],
+        OWNER,
+        None,
+        false,
+        Err(SessionError::AutoUnmount),
+    ),
+    (
+        &["auto_unmount"],
+        OWNER,
+        Some(2),
+        true,
+        Err(SessionError::AutoUnmount),
+    ),
+    (&[], OWNER, Some(2), true, Err(SessionError::CloneFd)),
+    (
+        &["auto_unmount"],
+        SessionACL::All,
+        Some(usize::MAX),
+        true,
+        Err(SessionError::CloneFd),
+    ),
+];
+
+const FINE: [Row; 6] = [
+    (&["suid", "noexec"], OWNER, None, false, Ok(())),
+    (
+        &["auto_unmount"],
+        SessionACL::RootAndOwner,
+        Some(2),
+        false,
+        Ok(()),
+    ),
+    (
+        &["auto_unmount", "fsname=x"],
+        SessionACL::All,
+        None,
+        false,
+        Ok(()),
+    ),
+    (&["dirsync"], OWNER, Some(1), true, Ok(())),
+    (&[], OWNER, None, true, Ok(())),
+    (&["ro"], OWNER, Some(0), true, Err(SessionError::Threads)),
+];
+
+#[test]
+fn refuses_options_and_takes_nothing(rt: HostRuntime) -> Result<(), Fail> {
+    for row in &REFUSED {
+        ends(&rt, row, 0)?;
+    }
+    Ok(())
+}
+
+#[test]
+fn serves_with_options_that_are_fine(rt: HostRuntime) -> Result<(), Fail> {
+    for row in &FINE {
+        ends(&rt, row, 1)?;
+    }
+    Ok(())
+}

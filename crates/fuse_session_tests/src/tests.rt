@@ -1,0 +1,356 @@
+// Whole sessions, from memory to memory.
+
+use crate::counting::{CONTENTS, Counting, Course, run, run_with};
+use crate::test_messages::{
+    ACCEPTED, EACCES, EINVAL, EIO, ENOENT, ENOSYS, EPROTO, INIT_7_8, NO_OPCODE, batch_forget,
+    empty_batch_forget, endless_lookup, error_reply, forget, getattr, init, lookup, message, read,
+    short_forget, source_of,
+};
+use fuse_config::{Config, SessionACL};
+use fuse_request::RequestError;
+use fuse_request::opcode::{FUSE_DESTROY, FUSE_LOOKUP};
+use fuse_session::{InvalidData, SessionError, Transcript};
+use fuse_wire::{MemorySink, MemorySource, RequestId, Version};
+use std::alloc::{AllocError, Global};
+use std::process::Abort;
+use std::sync::Wait;
+use std::test::Fail;
+
+/// How many messages a session takes, how many frames and notes it loses, how often it calls its filesystem, and what
+/// it notes.
+#[derive(Clone, Copy)]
+pub(crate) struct Counts<'a> {
+    pub(crate) received: u64,
+    pub(crate) lost: u64,
+    pub(crate) calls: u64,
+    pub(crate) notes: &'a [(RequestId, u64)],
+}
+
+/// Serves this source in a session with this outcome and these counts, of which the sink takes these frames and the
+/// notes, and no other. The source comes back.
+pub(crate) fn serves_source<R: Wait + AllocGlobal + Abort>(
+    rt: &R,
+    config: &Config,
+    source: MemorySource,
+    sink: MemorySink,
+    frames: &[&[u8]],
+    outcome: Result<(), SessionError>,
+    counts: Counts<'_>,
+) -> MemorySource {
+    let (course, source, sink) = run(rt, source, sink, config);
+    let expected = Course {
+        outcome,
+        transcript: Transcript {
+            received: counts.received,
+            frames: frames.len() as u64,
+            notes: counts.notes.len() as u64,
+            lost: counts.lost,
+            unrecorded: 0,
+        },
+        calls: counts.calls,
+        destroyed: 1,
+    };
+    assert_eq!(rt; course, expected);
+    assert_eq!(rt;
+        (sink.notes(), sink.frames().len()),
+        (counts.notes, frames.len())
+    );
+    for (sent, frame) in sink.frames().iter().zip(frames) {
+        assert_eq!(rt; sent.as_slice(), *frame);
+    }
+    source
+}
+
+/// Serves the first of these messages in a session that sends these frames, with this outcome and these counts.
+fn serves_calls<R: Wait + AllocGlobal + Abort>(
+    rt: &R,
+    config: &Config,
+    messages: &[&[u8]],
+    frames: &[&[u8]],
+    outcome: Result<(), SessionError>,
+    counts: Counts<'_>,
+) -> Result<(), Fail> {
+    let alloc = rt.alloc();
+    let source = source_of(alloc, messages)?;
+    let sink = MemorySink::new(alloc, Vec::new(alloc));
+    let _source = serves_source(rt, config, source, sink, frames, outcome, counts);
+    Ok(())
+}
+
+/// Serves the first of these messages, so many, in a session with this outcome, which sends these frames and no note,
+/// and calls the filesystem for none.
+fn serves<R: Wait + AllocGlobal + Abort>(
+    rt: &R,
+    config: &Config,
+    messages: &[&[u8]],
+    received: u64,
+    frames: &[&[u8]],
+    outcome: Result<(), SessionError>,
+) -> Result<(), Fail> {
+    let counts = Counts {
+        received,
+        lost: 0,
+        calls: 0,
+        notes: &[],
+    };
+    serves_calls(rt, config, messages, frames, outcome, counts)
+}
+
+/// A faulty header.
+fn header_error(error: RequestError) -> Result<(), SessionError> {
+    Err(SessionError::InvalidData(InvalidData::Header(error)))
+}
+
+#[test]
+fn ends_at_a_faulty_header(rt: HostRuntime) -> Result<(), Fail> {
+    let config = Config::new(rt.alloc());
+    let mut wrong = INIT_7_8;
+    wrong[0] = 0x27;
+    let mut short = [0; 20];
+    short.copy_from_slice(&INIT_7_8[..20]);
+    let no_header = header_error(RequestError::ShortReadHeader(20));
+    let late = header_error(RequestError::ShortReadHeader(20));
+    let cut = header_error(RequestError::ShortRead(48, 104));
+    let contradictory = header_error(RequestError::InsufficientData);
+    serves(&rt, &config, &[&short], 1, &[], no_header)?;
+    serves(&rt, &config, &[&INIT_7_8[..48]], 1, &[], cut)?;
+    serves(&rt, &config, &[&wrong], 1, &[], contradictory)?;
+    serves(&rt, &config, &[&INIT_7_8, &short], 2, &[&ACCEPTED], late)
+}
+
+#[test]
+fn agrees_on_a_version(rt: HostRuntime) -> Result<(), Fail> {
+    let mut offer = [0; 80];
+    offer[..24].copy_from_slice(&[
+        0x50, 0, 0, 0, 0, 0, 0, 0, 1, 0, 0, 0, 0, 0, 0, 0, 7, 0, 0, 0, 0x28, 0, 0, 0,
+    ]);
+    let mut full = [0; 80];
+    full[..48].copy_from_slice(&[
+        0x50, 0, 0, 0, 0, 0, 0, 0, 1, 0, 0, 0, 0, 0, 0, 0, 7, 0, 0, 0, 0x28, 0, 0, 0, 0, 0, 2, 0,
+        0x21, 0, 0x40, 0x40, 0x10, 0, 0x0c, 0, 0, 0, 0, 1, 1, 0, 0, 0, 0, 0x10, 0, 0,
+    ]);
+    let mut latest = init(7, 40);
+    latest[49] = 0;
+    latest[50] = 2;
+    latest[52] = 0x21;
+    latest[54] = 0x40;
+    latest[55] = 0x40;
+    latest[56] = 0x20;
+    let old = Err(SessionError::Unsupported(Version(7, 5)));
+    let config = Config::new(rt.alloc());
+    serves(&rt, &config, &[&INIT_7_8], 1, &[&ACCEPTED], Ok(()))?;
+    serves(&rt, &config, &[&latest], 1, &[&full], Ok(()))?;
+    serves(
+        &rt,
+        &config,
+        &[&init(8, 0), &INIT_7_8],
+        2,
+        &[&offer, &ACCEPTED],
+        Ok(()),
+    )?;
+    serves(
+        &rt,
+        &config,
+        &[&init(7, 5)],
+        1,
+        &[&error_reply(1, EPROTO)],
+        old,
+    )
+}
+
+#[test]
+fn awaits_init(rt: HostRuntime) -> Result<(), Fail> {
+    let config = Config::new(rt.alloc());
+    let unknown = InvalidData::Operation(RequestError::UnknownOperation(7));
+    let unknown = Err(SessionError::InvalidData(unknown));
+    let destroy = Err(SessionError::InvalidData(InvalidData::NotInit(FUSE_DESTROY)));
+    let early = Err(SessionError::InvalidData(InvalidData::NotInit(FUSE_LOOKUP)));
+    let refused = error_reply(2, EIO);
+    serves(&rt, &config, &[], 0, &[], Err(SessionError::NotConnected))?;
+    serves(
+        &rt,
+        &config,
+        &[&message(NO_OPCODE, 2, 1, 0)],
+        1,
+        &[],
+        unknown,
+    )?;
+    serves(
+        &rt,
+        &config,
+        &[&message(FUSE_DESTROY, 2, 0, 0)],
+        1,
+        &[&refused],
+        destroy,
+    )?;
+    serves(&rt, &config, &[&lookup(2, 5)], 1, &[&refused], early)
+}
+
+#[test]
+fn serves_after_init(rt: HostRuntime) -> Result<(), Fail> {
+    let config = Config::new(rt.alloc());
+    let unknown = message(NO_OPCODE, 2, 1, 5);
+    let destroy = message(FUSE_DESTROY, 2, 0, 0);
+    let done = [16, 0, 0, 0, 0, 0, 0, 0, 2, 0, 0, 0, 0, 0, 0, 0];
+    let mut idle = Config::new(rt.alloc());
+    idle.n_threads = Some(0);
+    let no_threads = Err(SessionError::Threads);
+    serves(
+        &rt,
+        &config,
+        &[&INIT_7_8, &unknown],
+        2,
+        &[&ACCEPTED, &error_reply(2, ENOSYS)],
+        Ok(()),
+    )?;
+    serves(
+        &rt,
+        &config,
+        &[&INIT_7_8, &destroy, &lookup(3, 0)],
+        2,
+        &[&ACCEPTED, &done],
+        Ok(()),
+    )?;
+    serves(&rt, &idle, &[&INIT_7_8], 1, &[&ACCEPTED], no_threads)
+}
+
+/// The reply of a read to this id.
+fn contents_for(id: u8) -> [u8; 216] {
+    let mut frame = [0; 216];
+    frame[..16].copy_from_slice(&[216, 0, 0, 0, 0, 0, 0, 0, id, 0, 0, 0, 0, 0, 0, 0]);
+    frame[16..].copy_from_slice(&CONTENTS);
+    frame
+}
+
+#[test]
+fn calls_the_filesystem_once_for_each_message(rt: HostRuntime) -> Result<(), Fail> {
+    serves_calls(
+        &rt,
+        &Config::new(rt.alloc()),
+        &[
+            &INIT_7_8,
+            &lookup(2, 0),
+            &lookup(2, 0),
+            &getattr(3, 0),
+            &read(4, 0, 0, 4096),
+            &forget(5, 0),
+            &short_forget(6, 0),
+        ],
+        &[
+            &ACCEPTED,
+            &error_reply(2, ENOENT),
+            &error_reply(2, ENOENT),
+            &error_reply(3, EIO),
+            &contents_for(4),
+            &error_reply(6, ENOSYS),
+        ],
+        Ok(()),
+        Counts {
+            received: 7,
+            lost: 0,
+            calls: 5,
+            notes: &[(RequestId(5), 3)],
+        },
+    )
+}
+
+#[test]
+fn a_batch_of_forgets_calls_forget_for_each_row(rt: HostRuntime) -> Result<(), Fail> {
+    serves_calls(
+        &rt,
+        &Config::new(rt.alloc()),
+        &[&INIT_7_8, &batch_forget(2), &empty_batch_forget(3)],
+        &[&ACCEPTED],
+        Ok(()),
+        Counts {
+            received: 3,
+            lost: 0,
+            // one for each batch, and one for each row
+            calls: 4,
+            // the mark of the last row, which is the sum of its numbers
+            notes: &[(RequestId(2), 7), (RequestId(3), 0)],
+        },
+    )
+}
+
+#[test]
+fn refuses_before_the_filesystem_is_called(rt: HostRuntime) -> Result<(), Fail> {
+    let mut owner = Config::new(rt.alloc());
+    owner.n_threads = Some(1);
+    serves_calls(
+        &rt,
+        &owner,
+        &[
+            &INIT_7_8,
+            &lookup(2, 5),
+            &endless_lookup(3, 5),
+            &forget(4, 5),
+            &read(5, 5, 0x80, 4096),
+            &read(7, 5, 0x7f, 4096),
+            &init(7, 8),
+        ],
+        &[
+            &ACCEPTED,
+            &error_reply(2, EACCES),
+            &error_reply(3, ENOSYS),
+            &error_reply(5, EINVAL),
+            &contents_for(7),
+            &error_reply(1, EIO),
+        ],
+        Ok(()),
+        Counts {
+            received: 7,
+            lost: 0,
+            calls: 2,
+            notes: &[(RequestId(4), 3)],
+        },
+    )
+}
+
+#[test]
+fn serves_any_owner_pages_and_threads(rt: HostRuntime) -> Result<(), Fail> {
+    let alloc = rt.alloc();
+    let rows = [
+        (0, 1, None),
+        (1000, 4096, Some(1)),
+        (u32::MAX, 65536, Some(64)),
+        (1, u32::MAX, Some(usize::MAX)),
+    ];
+    for (owner, page_size, n_threads) in &rows {
+        let mut config = Config::new(rt.alloc());
+        config.acl = SessionACL::RootAndOwner;
+        config.n_threads = *n_threads;
+        let source = source_of(alloc, &[&INIT_7_8])?;
+        let sink = MemorySink::new(alloc, Vec::new(alloc));
+        let fresh = Counting::new(None);
+        let (course, _, sink) = run_with(&rt, fresh, source, sink, *owner, *page_size, &config);
+        assert_eq!(rt; (course.outcome, sink.frames().len()), (Ok(()), 1));
+    }
+    Ok(())
+}
+
+/// Reads a file of so many bytes at once: the frame has this header and all of them.
+fn reads_whole<R: Wait + AllocGlobal + Abort>(
+    rt: &R,
+    size: u32,
+    header: &[u8; 16],
+) -> Result<(), Fail> {
+    let alloc = rt.alloc();
+    let contents = vec![in alloc; 0x2a; size as usize]?;
+    let source = source_of(alloc, &[&INIT_7_8, &read(2, 0, 0, size)])?;
+    let sink = MemorySink::new(alloc, Vec::new(alloc));
+    let full = Counting::new(Some(contents.clone()?));
+    let (course, _, sink) = run_with(rt, full, source, sink, 0, 4096, &Config::new(rt.alloc()));
+    assert_eq!(rt; course.outcome, Ok(()));
+    let frame = sink.frames().last().ok_or("no frame")?.as_slice();
+    assert_eq!(rt; frame.len(), contents.len().saturating_add(16));
+    assert!(rt; frame.starts_with(header));
+    assert!(rt; frame.ends_with(&contents));
+    Ok(())
+}
+
+#[test]
+fn reads_two_mebibytes_whole(rt: HostRuntime) -> Result<(), Fail> {
+    let header = [16, 0, 0x20, 0, 0, 0, 0, 0, 2, 0, 0, 0, 0, 0, 0, 0];
+    reads_whole(&rt, 0x20_0000, &header)
+}
