@@ -1,7 +1,7 @@
 -- The entries of a directory: one after another is added, up to the first that does not fit.
 use Rattle.std.proofs.Common.{◌≡◌, ◌⊎◌, inl, inr, ◌+◌, ◌<◌, ◌≤◌, ◌++◌, ℕ, suc, Bool, List, [], ◌∷◌, ◌∙◌, None, Some, ap, sym, refl, arith, subst}
 use Rattle.std.proofs.Common.{length, length-append, append_assoc, drop, min, get_or}
-use Rattle.std.specs.Prelude.{if◌then◌else◌}
+use Rattle.std.specs.Prelude.{if◌then◌else◌, Result, Ok, Err, IfErr}
 use Rattle.std.specs.List.{AllByRecursion, slice_get}
 use Rattle.std.proofs.lemmas.Bool.{le-ltb, lt-ltb}
 use Rattle.std.proofs.lemmas.Option.{slice_get_cases, slice_get_within, get_or_from_slice_get}
@@ -109,3 +109,26 @@ pub listed-whole : (taken whole : List DirEntry) (before after : Listing) → af
     → AllByRecursion IsDirEntry taken → taken ≡ whole → (after ≡ record before { held = listing whole }) × AllByRecursion IsDirEntry whole
 listed-whole taken whole before after same in_range all =
     (same ∙ ap (λ (es : List DirEntry). record before { held = listing es }) all, subst (AllByRecursion IsDirEntry) all in_range)
+
+-- where one that fits takes more than so many bytes, all of them do
+pub listed-more : (size limit : ℕ) (taken whole rest : List DirEntry) (e : DirEntry) → Fits size (length (listing taken)) (length (dirent e))
+    → limit < length (listing taken) + length (dirent e) → taken ++ fitting size (length (listing taken)) (e ∷ rest) ≡ whole
+    → limit < length (listing whole)
+listed-more size limit taken whole rest e fits more joined =
+    let later = fitting size (length (listing taken) + length (dirent e)) rest in
+    let is : taken ++ e ∷ later ≡ whole =
+    ap (λ (es : List DirEntry). taken ++ es) (sym (fitting-next size (length (listing taken)) e rest fits)) ∙ joined in
+    let bytes : listing whole ≡ listing taken ++ (dirent e ++ listing later) =
+    ap listing (sym is) ∙ flat_map-append dirent taken (e ∷ later) in
+    omega (
+      arith,
+      more,
+      ap length bytes,
+      length-append (listing taken) (dirent e ++ listing later),
+      length-append (dirent e) (listing later),
+    )
+
+-- what holds anyway holds where there is an error
+pub of-error : {A E P : Type 0} (result : Result A E) → P → IfErr result (λ _. P)
+of-error (Ok a) holds = tt
+of-error (Err e) holds = holds

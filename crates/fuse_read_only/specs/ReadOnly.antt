@@ -1,5 +1,5 @@
 -- What each call to a tree that is only looked at is answered, and the promise of that.
-use Rattle.std.specs.Prelude.{◌≡◌, ◌⊎◌, ℕ, List, Option, None, Some, Ok, take, drop, length, min, false}
+use Rattle.std.specs.Prelude.{◌≡◌, ◌⊎◌, ◌<◌, ℕ, List, Option, None, Some, Ok, take, drop, length, min, false}
 use Rattle.fuse_wire.specs.ErrorNumbers.{ENOENT, ENOMEM}
 use Rattle.fuse_wire.specs.OpenMode.{acc_mode}
 use Rattle.fuse_wire.specs.declared.file_attr.FileAttr.{FileAttr}
@@ -10,8 +10,8 @@ use Rattle.fuse_request.specs.Call.Call.{Lookup, Forget, GetAttr, SetAttr, SymLi
 use Rattle.fuse_request.specs.Call.Call.{Read, Write, SetXAttr, RemoveXAttr, ReadDir, Create, BatchForget, FAllocate, CopyFileRange}
 use Rattle.fuse_reply.specs.Answer.{Answer}
 use Rattle.fuse_reply.specs.Answer.Answer.{Error, Data, Entry, Attr, Open as Opened, Directory}
-use Rattle.fuse_reply.specs.Listing.{DirEntry}
-use Rattle.fuse_reply.specs.Sizes.{max_payload}
+use Rattle.fuse_reply.specs.Listing.{DirEntry, listing}
+use Rattle.fuse_reply.specs.Sizes.{inline_size, max_payload}
 use Rattle.fuse_session.specs.Defaults.{default_answer}
 use Rattle.fuse_session.specs.Promise.{Promise}
 use Rattle.fuse_read_only.specs.Tree.{Tree, fitting, numbered}
@@ -72,9 +72,15 @@ answer tree (FAllocate ino fh offset len mode) = Error EROFS
 answer tree (CopyFileRange ino_in fh_in offset_in ino_out fh_out offset_out len flags) = Error EROFS
 answer tree c = default_answer c
 
--- a call has that answer; but a READDIR may have ENOMEM, where no memory is to be had for its entries
+-- an answer of entries that are too many bytes to be held without memory
+abbrev pub IsLongListing : Answer → Type 0
+IsLongListing (Directory entries) = inline_size < length (listing entries)
+IsLongListing a = ⊥
+
+-- a call has that answer; but a READDIR whose answer is so long may have ENOMEM, where no memory is to be had for its entries
 abbrev pub MayHave : Tree → Call → Answer → Type 0
-MayHave tree (ReadDir ino fh offset size) a = (answer tree (ReadDir ino fh offset size) ≡ a) ⊎ (a ≡ Error ENOMEM)
+MayHave tree (ReadDir ino fh offset size) a =
+    (answer tree (ReadDir ino fh offset size) ≡ a) ⊎ (IsLongListing (answer tree (ReadDir ino fh offset size)) × (a ≡ Error ENOMEM))
 MayHave tree c a = answer tree c ≡ a
 
 -- the mark of a forget: how many lookups it gives back; that of a batch: how many nodes it names

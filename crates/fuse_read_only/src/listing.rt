@@ -1,8 +1,9 @@
 // The entries of a directory, added to a reply.
-ghost use Rattle.std.specs.Prelude.{◌≡◌, Ok, false, [], IfOk};
+ghost use Rattle.std.specs.Prelude.{◌≡◌, ◌<◌, ◌≤◌, ◌+◌, Ok, false, [], length, IfErr, IfOk, IsOk};
 ghost use Rattle.std.specs.List.{AllByRecursion};
 ghost use Rattle.fuse_reply.specs.Answer.{IsDirEntry};
 ghost use Rattle.fuse_reply.specs.Listing.{Adds, dirent, listing};
+ghost use Rattle.fuse_reply.specs.Sizes.{inline_size};
 ghost use Rattle.fuse_read_only.specs.Tree.{followed_by, member_of};
 ghost use Rattle.fuse_read_only.specs.ReadOnly.{listing_of};
 
@@ -10,7 +11,8 @@ use crate::{Entry, Files};
 use fuse_reply::ReplyDirectory;
 use fuse_wire::{INodeNo, NoMemory};
 
-/// Adds the entries of a directory from the place `offset` on, up to the first that does not fit.
+/// Adds the entries of a directory from the place `offset` on, up to the first that does not fit. Up to 144 bytes of
+/// them take no memory.
 pub(crate) fn add_entries<T: Files>(
     files: &T,
     ino: INodeNo,
@@ -21,6 +23,8 @@ pub(crate) fn add_entries<T: Files>(
     ensures listed { let entries = listing_of (T.tree files.now) ino.0 offset reply.old.size in
         IfOk result (λ _. (reply.new ≡ record reply.old { held = listing entries })
         × AllByRecursion IsDirEntry entries) }
+    ensures starved { IfErr result (λ _.
+        inline_size < length (listing (listing_of (T.tree files.now) ino.0 offset reply.old.size))) }
     ensures id { reply.new.id ≡ reply.old.id }
 {
     for place in offset as usize..usize::MAX {
@@ -38,6 +42,8 @@ pub(crate) fn add_entries<T: Files>(
 fn add_entry(entry: &Entry<'_>, offset: u64, reply: &mut ReplyDirectory) -> Result<bool, NoMemory>
     ensures adds { Adds result (dirent (followed_by offset (member_of entry.now))) reply.old reply.new }
     ensures in_range { result ≡ Ok false → IsDirEntry (followed_by offset (member_of entry.now)) }
+    ensures inline { length reply.old.held + length (dirent (followed_by offset (member_of entry.now))) ≤ inline_size
+        → IsOk result }
 {
     // No frame can carry a longer name.
     if entry.name.len() > u32::MAX as usize {

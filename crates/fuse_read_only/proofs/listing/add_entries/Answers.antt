@@ -1,11 +1,12 @@
-use Rattle.std.proofs.Common.{◌+◌, ◌++◌, ◌∙◌, ℕ, Bool, true, false, List, [], ◌∷◌, Ok, ap, sym, subst, length, drop}
+use Rattle.std.proofs.Common.{◌≡◌, ◌+◌, ◌++◌, ◌∙◌, ◌≤◌, arith, ℕ, Bool, true, false, List, [], ◌∷◌, Ok, ap, sym, subst, length, drop}
 use Rattle.std.specs.Prelude.{option_map}
 use Rattle.fuse_wire.specs.declared.no_memory.NoMemory.{NoMemory}
 use Rattle.fuse_reply.specs.Answer.{IsDirEntry}
 use Rattle.fuse_reply.specs.Listing.{Adds, DirEntry, Fits, Listing, dirent, listing}
+use Rattle.fuse_reply.specs.Sizes.{inline_size}
 use Rattle.fuse_read_only.specs.Tree.{fitting, followed_by, member_of, numbered}
 use Rattle.fuse_read_only.specs.ReadOnly.{listing_of}
-use Rattle.fuse_read_only.proofs.Members.{each-add, joined-end, joined-full, joined-here, joined-next, listed-whole, listing-add}
+use Rattle.fuse_read_only.proofs.Members.{each-add, joined-end, joined-full, joined-here, joined-next, listed-more, listed-whole, listing-add, of-error}
 use Rattle.fuse_read_only.proofs.Members.{numbered-last, numbered-none}
 use Rattle.fuse_read_only.proofs.listing.add_entries.Goals as goal
 
@@ -69,3 +70,22 @@ loop-place-preserved g c =
           (subst (λ (l : Listing). Fits l.size (length l.held) (length (dirent e))) before.same adds.0)
           (joined-here members at size before.taken whole m is c.loop-place-test.true before.joined);
     }
+
+pub returns-in_err-add_entry-clause-starved : goal.returns-in_err-add_entry-clause-starved
+returns-in_err-add_entry-clause-starved g c =
+    let before = c.loop-place.invariant in
+    let members = (g.T.Files.tree c.args.files.now).entries c.args.ino.0 in
+    let size = c.args.reply.now.size in
+    let at = c.loop-place.place in
+    let whole = listing_of (g.T.Files.tree c.args.files.now) c.args.ino.0 c.args.offset size in
+    let m = member_of c.in-Some.entry in
+    let e = followed_by (at + 1) m in
+    let is = sym c.entry.ensures ∙ ap (λ r. option_map member_of r) c.in-Some.is in
+    let held = subst (λ (l : Listing). length l.held + length (dirent e) ≤ inline_size → false ≡ true) before.same c.in_err-add_entry.ensures.inline in
+    let is_long : length (listing before.taken) + length (dirent e) ≤ inline_size → ⊥ =
+    λ short. let wrong : false ≡ true = held short in let never : ⊥ = cc in never in
+    of-error c.from_residual.result
+    (listed-more size inline_size before.taken whole (numbered (at + 1) (drop (at + 1) members)) e
+    (subst (λ (l : Listing). Fits l.size (length l.held) (length (dirent e))) before.same c.in_err-add_entry.ensures.adds.0)
+    (omega (arith, is_long))
+    (joined-here members at size before.taken whole m is c.loop-place-test.true before.joined))

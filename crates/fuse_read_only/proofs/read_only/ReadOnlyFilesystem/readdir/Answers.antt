@@ -7,7 +7,7 @@ use Rattle.fuse_reply.specs.Frame.{reply}
 use Rattle.fuse_reply.specs.Listing.{DirEntry, Listing, listing}
 use Rattle.fuse_reply.specs.declared.out.Out.TheVariants.{Frame}
 use Rattle.fuse_session.proofs.Answering.{Answered-error, Answered-frame}
-use Rattle.fuse_read_only.specs.ReadOnly.{MayHave, listed, listing_of}
+use Rattle.fuse_read_only.specs.ReadOnly.{IsLongListing, MayHave, listed, listing_of}
 use Rattle.fuse_read_only.proofs.read_only.ReadOnlyFilesystem.readdir.Goals as goal
 
 pub returns-in_default : goal.returns-in_default
@@ -32,5 +32,9 @@ returns-in-Ok g c =
 
 pub returns-in-Err : goal.returns-in-Err
 returns-in-Err g c =
-    Answered-error ENOMEM c.error-in-Err.ensures.answer.0 c.error-in-Err.ensures.answer.1 (inr refl)
+    let entries : List DirEntry = listing_of (g.T.Files.tree c.self.inside.files) c.args.ino.0 c.args.offset c.args.reply.size in
+    let is_long = subst (λ (found : Option FileAttr). IsLongListing (listed entries found)) (sym c.in-Some.is ∙ c.attr.ensures) c.in-Err.ensures.starved in
+    Answered-error ENOMEM c.error-in-Err.ensures.answer.0 c.error-in-Err.ensures.answer.1
+    (subst (λ files. MayHave (g.T.Files.tree files) (ReadDir c.args.ino.0 c.args._fh.0 c.args.offset c.args.reply.size) (Error ENOMEM)) c.self.view_is
+    (inr (is_long, refl)))
     (subst (λ id. c.error-in-Err.result ≡ Frame (reply id (Error ENOMEM))) c.in-Err.ensures.id c.error-in-Err.ensures.reply)
