@@ -6,6 +6,7 @@ ghost use Rattle.fuse_reply.specs.Notice.{IsNoticeFrame};
 
 use crate::Packed;
 use fuse_wire::{Sending, Sink};
+use std::alloc::AllocError;
 use std::marker::Model;
 
 /// The frame of a notice: what is told to the kernel unasked. A contract sees its bytes, and they are a notice in range,
@@ -24,6 +25,17 @@ impl Model for NoticeFrame {
     ghost view = { λ f. f.packed };
 
     ghost invariant = { λ f. IsNoticeFrame f.packed };
+}
+
+/// A copy is the same frame.
+impl Clone for NoticeFrame {
+    ghost is_clone = { λ frame copy. copy ≡ frame };
+
+    fn clone(&self) -> Result<NoticeFrame, AllocError> {
+        Ok(NoticeFrame {
+            packed: self.packed.clone()?,
+        })
+    }
 }
 
 impl NoticeFrame {

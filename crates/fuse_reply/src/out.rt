@@ -4,6 +4,7 @@ ghost use Rattle.fuse_reply.specs.Deliver.{Delivers, NoNotice};
 
 use crate::ReplyFrame;
 use fuse_wire::{Noting, RequestId, Sending, Sink};
+use std::alloc::AllocError;
 
 /// What goes out for a message.
 #[derive(Debug, Drop)]
@@ -14,6 +15,19 @@ pub enum Out {
     Note(RequestId, u64),
     /// Nothing yet: the reply of the message with this number and request comes later.
     Deferred(u64, RequestId),
+}
+
+/// A copy is the same.
+impl Clone for Out {
+    ghost is_clone = { λ out copy. copy ≡ out };
+
+    fn clone(&self) -> Result<Out, AllocError> {
+        match self {
+            Out::Frame(frame) => Ok(Out::Frame(frame.clone()?)),
+            Out::Note(id, mark) => Ok(Out::Note(*id, *mark)),
+            Out::Deferred(seq, id) => Ok(Out::Deferred(*seq, *id)),
+        }
+    }
 }
 
 /// What became of it.

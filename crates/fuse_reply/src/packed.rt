@@ -7,7 +7,7 @@ ghost use Rattle.fuse_reply.specs.Frame.{frame, frame_status, out_header};
 
 use fuse_wire::{NoMemory, RequestId, Sending, Sink, i32_at};
 use smallvec::SmallVec;
-use std::alloc::Global;
+use std::alloc::{AllocError, Global};
 use std::marker::Model;
 
 /// How many bytes a frame's header has: those of `struct fuse_out_header`.
@@ -36,6 +36,21 @@ impl Model for Packed {
     ghost view = { λ p. p.header ++ p.payload.items };
 
     ghost invariant = { λ p. number p.header 0 4 ≡ out_header_size + length p.payload.items };
+}
+
+/// A copy is the same frame.
+impl Clone for Packed {
+    ghost use Rattle.std.specs.Prelude.{◌≡◌};
+
+    ghost is_clone = { λ frame copy. copy ≡ frame };
+
+    fn clone(&self) -> Result<Packed, AllocError> {
+        let payload = SmallVec::from_slice(*self.payload.allocator(), self.payload.as_slice())?;
+        Ok(Packed {
+            header: self.header,
+            payload,
+        })
+    }
 }
 
 /// The header of a frame whose payload has so many bytes.

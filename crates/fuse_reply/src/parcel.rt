@@ -4,6 +4,7 @@ ghost use Rattle.fuse_reply.specs.Parcel.{is_prompt};
 
 use crate::{NoticeFrame, Out};
 use fuse_line::Class;
+use std::alloc::AllocError;
 
 /// What goes from whoever answers or notifies to whoever sends.
 #[derive(Debug, Drop)]
@@ -12,6 +13,18 @@ pub enum Parcel {
     Prompt(u64, Out),
     /// A notice.
     Notice(NoticeFrame),
+}
+
+/// A copy is the same.
+impl Clone for Parcel {
+    ghost is_clone = { λ parcel copy. copy ≡ parcel };
+
+    fn clone(&self) -> Result<Parcel, AllocError> {
+        match self {
+            Parcel::Prompt(seq, out) => Ok(Parcel::Prompt(*seq, out.clone()?)),
+            Parcel::Notice(frame) => Ok(Parcel::Notice(frame.clone()?)),
+        }
+    }
 }
 
 /// What goes out for a message is an inner item: whoever notifies can't push it.

@@ -5,6 +5,7 @@ ghost use Rattle.fuse_reply.specs.Frame.{IsReply, is_set_aside};
 
 use crate::Packed;
 use fuse_wire::{Sending, Sink};
+use std::alloc::AllocError;
 use std::marker::Model;
 
 /// The frame that answers a request. A contract sees its bytes, and they are a reply to some request, always.
@@ -22,6 +23,17 @@ impl Model for ReplyFrame {
     ghost view = { λ f. f.packed };
 
     ghost invariant = { λ f. IsReply f.packed };
+}
+
+/// A copy is the same frame.
+impl Clone for ReplyFrame {
+    ghost is_clone = { λ frame copy. copy ≡ frame };
+
+    fn clone(&self) -> Result<ReplyFrame, AllocError> {
+        Ok(ReplyFrame {
+            packed: self.packed.clone()?,
+        })
+    }
 }
 
 impl ReplyFrame {
