@@ -1,0 +1,87 @@
+-- What may happen on any number of workers, one step after another, and what each step makes of the state. The lists stand for what
+-- the threads share: a line of jobs, a hand for each worker, and a line of parcels for whoever sends.
+use Rattle.std.specs.Prelude.{◌≡◌, ◌<◌, ◌++◌, ℕ, List, [], ◌∷◌, Option, Some, None, Ok, length, replicate, slice_get, slice_set}
+use Rattle.fuse_request.specs.Header.{header}
+use Rattle.fuse_request.specs.declared.any_request.Header.{Header}
+use Rattle.fuse_reply.specs.declared.out.Out.{Out}
+use Rattle.fuse_reply.specs.declared.out.Out.TheVariants.{Frame, Note, Deferred}
+use Rattle.fuse_reply.specs.declared.parcel.Parcel.{Parcel}
+use Rattle.fuse_reply.specs.declared.parcel.Parcel.TheVariants.{Prompt, Notice}
+use Rattle.fuse_workers.specs.declared.event.Event.{Event}
+use Rattle.fuse_workers.specs.declared.event.Event.TheVariants.{Receive, Take, Answer, Push, Send, Own, Notify}
+use Rattle.fuse_workers.specs.declared.state.TheConstants.{LINE_PLACES}
+use Rattle.fuse_workers.specs.declared.state.Hand.{Hand}
+use Rattle.fuse_workers.specs.declared.state.Hand.TheVariants.{Empty, Asked, Answered}
+use Rattle.fuse_workers.specs.declared.state.Job.{Job}
+use Rattle.fuse_workers.specs.declared.state.State.{State}
+
+-- nothing has happened yet, and there are so many workers
+abbrev pub empty : (workers : ℕ) → State
+empty workers = record { received = []; jobs = []; hands = replicate workers Empty; line = []; sent = []; marks = [] }
+
+-- a line has a place for one more
+abbrev pub HasRoom : {X : Type 0} → List X → Type 0
+HasRoom xs = length xs < LINE_PLACES
+
+-- What may go out for a message: a reply that comes later is marked with the message's number and with the id of its header, which
+-- must be good. Of all else nothing is asked.
+abbrev pub StandsFor : (seq : ℕ) → (m : List ℕ) → Out → Type 0
+StandsFor seq m (Deferred number id) = (number ≡ seq) × ((h : Header) × (header m ≡ Ok h) × (id ≡ h.unique))
+StandsFor seq m (Frame f) = Unit {0}
+StandsFor seq m (Note id mark) = Unit {0}
+
+-- a message with its number
+abbrev pub job : (seq : ℕ) → (m : List ℕ) → Job
+job seq m = record { seq = seq; message = m }
+
+-- the state with another thing in a worker's hand
+abbrev pub with_hand : State → (worker : ℕ) → Hand → State
+with_hand s worker hand = record s { hands = slice_set s.hands worker hand }
+
+-- what sending a parcel makes of a state: what goes out for a message was sent, or marks that the reply comes later
+abbrev pub went : Parcel → State → State
+went (Prompt seq (Deferred number id)) s = record s { marks = s.marks ++ record { seq = number; id = id } ∷ [] }
+went (Prompt seq (Frame f)) s = record s { sent = s.sent ++ record { seq = seq; out = Frame f } ∷ [] }
+went (Prompt seq (Note id mark)) s = record s { sent = s.sent ++ record { seq = seq; out = Note id mark } ∷ [] }
+went (Notice f) s = s
+
+-- The event may happen in the first state, and makes the other of it.
+abbrev pub Happens : State → Event → State → Type 0
+-- a message gets the next number, and is the last job
+Happens s (Receive m) t =
+    HasRoom s.jobs × (t ≡ record s { received = s.received ++ m ∷ []; jobs = s.jobs ++ job (length s.received) m ∷ [] })
+-- the first job goes to an empty hand
+Happens s (Take worker) t =
+    (first : Job) × (rest : List Job) × (s.jobs ≡ first ∷ rest) × (slice_get s.hands worker ≡ Some Empty)
+    × (t ≡ with_hand (record s { jobs = rest }) worker (Asked first))
+-- a hand with a job comes to hold what goes out for it
+Happens s (Answer worker out) t =
+    (asked : Job) × (slice_get s.hands worker ≡ Some (Asked asked)) × StandsFor asked.seq asked.message out
+    × (t ≡ with_hand s worker (Answered asked.seq out))
+-- what a hand holds is the last parcel
+Happens s (Push worker) t =
+    (seq : ℕ) × (out : Out) × (slice_get s.hands worker ≡ Some (Answered seq out)) × HasRoom s.line
+    × (t ≡ with_hand (record s { line = s.line ++ Prompt seq out ∷ [] }) worker Empty)
+-- the first parcel leaves
+Happens s Send t = (first : Parcel) × (rest : List Parcel) × (s.line ≡ first ∷ rest) × (t ≡ went first (record s { line = rest }))
+-- a message gets the next number, and what goes out for it is the last parcel
+Happens s (Own m out) t =
+    HasRoom s.line × StandsFor (length s.received) m out
+    × (t ≡ record s { received = s.received ++ m ∷ []; line = s.line ++ Prompt (length s.received) out ∷ [] })
+-- a notice is the last parcel
+Happens s (Notify f) t = HasRoom s.line × (t ≡ record s { line = s.line ++ Notice f ∷ [] })
+
+-- the state after the event, or none where the event cannot happen
+abbrev pub Follows : State → Event → Option State → Type 0
+Follows s event (Some t) = Happens s event t
+Follows s event None = (t : State) → ¬ (Happens s event t)
+
+-- these events may happen one after another, and make the other state of the first
+abbrev pub Runs : State → List Event → State → Type 0
+Runs s [] t = t ≡ s
+Runs s (event ∷ events) t = (next : State) × Happens s event next × Runs next events t
+
+-- the state after the events, or none where one of them cannot happen
+abbrev pub LeadsTo : State → List Event → Option State → Type 0
+LeadsTo s events (Some t) = Runs s events t
+LeadsTo s events None = (t : State) → ¬ (Runs s events t)

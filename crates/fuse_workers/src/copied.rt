@@ -1,0 +1,94 @@
+// Copies, for which memory may be wanting.
+ghost use Rattle.std.specs.Prelude.{◌≡◌, IfOk};
+
+use crate::{Hand, Job, Mark, SentOut, State};
+use fuse_reply::{Out, Parcel};
+use fuse_wire::{Items, NoMemory};
+use std::alloc::Global;
+
+/// What has copies.
+pub(crate) trait Copied: Drop {
+    /// A copy, which is the same.
+    fn copied(&self, alloc: Global) -> Result<Self, NoMemory>
+        ensures { IfOk result (λ copy. copy ≡ self.now) };
+}
+
+impl Copied for Items<u8> {
+    fn copied(&self, alloc: Global) -> Result<Items<u8>, NoMemory> {
+        Ok(Items::from_vec(self.as_slice().to_vec(alloc)?))
+    }
+}
+
+impl Copied for Job {
+    fn copied(&self, alloc: Global) -> Result<Job, NoMemory> {
+        Ok(Job {
+            seq: self.seq,
+            message: self.message.copied(alloc)?,
+        })
+    }
+}
+
+impl Copied for Out {
+    fn copied(&self, _alloc: Global) -> Result<Out, NoMemory> {
+        Ok(self.clone()?)
+    }
+}
+
+impl Copied for Parcel {
+    fn copied(&self, _alloc: Global) -> Result<Parcel, NoMemory> {
+        Ok(self.clone()?)
+    }
+}
+
+impl Copied for Hand {
+    fn copied(&self, alloc: Global) -> Result<Hand, NoMemory> {
+        match self {
+            Hand::Empty => Ok(Hand::Empty),
+            Hand::Asked(job) => Ok(Hand::Asked(job.copied(alloc)?)),
+            Hand::Answered(seq, out) => Ok(Hand::Answered(*seq, out.copied(alloc)?)),
+        }
+    }
+}
+
+impl Copied for SentOut {
+    fn copied(&self, alloc: Global) -> Result<SentOut, NoMemory> {
+        Ok(SentOut {
+            seq: self.seq,
+            out: self.out.copied(alloc)?,
+        })
+    }
+}
+
+impl Copied for Mark {
+    fn copied(&self, _alloc: Global) -> Result<Mark, NoMemory> {
+        Ok(*self)
+    }
+}
+
+impl Copied for State {
+    fn copied(&self, alloc: Global) -> Result<State, NoMemory> {
+        Ok(State {
+            received: copies(alloc, &self.received)?,
+            jobs: copies(alloc, &self.jobs)?,
+            hands: copies(alloc, &self.hands)?,
+            line: copies(alloc, &self.line)?,
+            sent: copies(alloc, &self.sent)?,
+            marks: copies(alloc, &self.marks)?,
+        })
+    }
+}
+
+/// A copy of each item, in order.
+fn copies<T: Copied>(alloc: Global, items: &Items<T>) -> Result<Items<T>, NoMemory>
+    ensures { IfOk result (λ copies. copies ≡ items.now) }
+{
+    let originals = items.as_slice();
+    let mut copies = Vec::with_capacity(alloc, originals.len())?;
+    for item in originals {
+        let copy = item.copied(alloc)?;
+        if copies.push(copy).is_err() {
+            return Err(NoMemory);
+        }
+    }
+    Ok(Items::from_vec(copies))
+}
