@@ -5,6 +5,7 @@
 mod attributes;
 #[cfg(test)]
 mod directory_tests;
+mod door;
 mod entries;
 #[cfg(test)]
 mod fixed_tests;
@@ -37,6 +38,7 @@ mod reply_xattr;
 #[cfg(test)]
 mod tests;
 
+pub use door::{Door, NoDoor};
 pub use notice_frame::NoticeFrame;
 pub use out::{Out, OutEnd};
 pub use packed::{MAX_PAYLOAD, Packed};
