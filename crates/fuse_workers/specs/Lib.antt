@@ -1,3 +1,4 @@
 pub mod Step
 pub mod Balanced
 pub mod Owing
+pub mod Answering

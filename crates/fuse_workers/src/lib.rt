@@ -6,12 +6,15 @@
 
 mod copied;
 mod event;
+pub mod laws;
 mod lists;
 mod state;
 mod stepping;
 #[cfg(test)]
 mod tests;
+mod work;
 
 pub use event::Event;
 pub use state::{Hand, Job, LINE_PLACES, Mark, SentOut, State};
 pub use stepping::{run, step};
+pub use work::Work;

@@ -1,0 +1,37 @@
+// What answers messages.
+ghost use Rattle.std.specs.Prelude.{◌≡◌, ℕ, List, Bool};
+ghost use Rattle.fuse_reply.specs.declared.out.Out.{Out as Goes};
+ghost use Rattle.fuse_workers.specs.Answering.{DoorFits, IsRequest, MayComeLater};
+
+use fuse_notify::Notifier;
+use fuse_reply::{Door, NoDoor, Out};
+use std::alloc::AllocGlobal;
+use std::sync::Wait;
+
+/// What answers messages. Whoever runs it knows neither a filesystem nor an access rule.
+pub trait Work: Sync {
+    /// What a message is owed, by its number.
+    ghost owed: { Self → ℕ → List ℕ → Goes → Type 0 };
+
+    /// Whether a reply may come after `answer` has returned.
+    const DEFERS: bool;
+
+    /// That constant, as a contract names it.
+    ghost DEFERS: { Bool };
+
+    /// Answers the message of this number, which has a good header and is no DESTROY. A poll is told of news through
+    /// what the notifier makes. The reply may come later only through the door: where there is none, the error says
+    /// why, and it is `Shut` exactly where no reply of this work comes later.
+    fn answer<R: Wait + AllocGlobal>(
+        &self,
+        rt: &R,
+        notifier: &mut Notifier,
+        door: Result<Door, NoDoor>,
+        seq: u64,
+        message: &[u8],
+    ) -> Out
+        requires message { IsRequest message.now }
+        requires door { DoorFits DEFERS door }
+        ensures owed { owed self.now seq message.now result }
+        ensures later { MayComeLater door seq message.now result };
+}
