@@ -342,6 +342,11 @@ pub fn mount<R: Wait + AllocGlobal, FS: Filesystem, S: Source, K: Sink + Send>(
         (S.told source) (S.told result.source) →
         (result.outcome ≡ Ok tt) ⊎ (result.outcome ≡ Err SessionError.Memory) }
 
+    // Where no thread is to serve, and nothing is amiss before that, the outcome says so, or comes for want of memory.
+    ensures unserved { config.now.n_threads ≡ Some 0 → OptionsWell config.now →
+        HandshakeWell FS.promise.may_init filesystem (S.told source) (S.told result.source) →
+        (result.outcome ≡ Err SessionError.Threads) ⊎ (result.outcome ≡ Err SessionError.Memory) }
+
     // Where `init` refuses nothing, its error is not the outcome.
     ensures accepted { AcceptsAll FS.promise.may_init filesystem →
         (e : ℕ) → result.outcome ≢ Err (SessionError.Init e) }
