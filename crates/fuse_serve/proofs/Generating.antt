@@ -37,6 +37,10 @@ pub front-none : (seed : ℕ) → concat (front seed 0) ≡ init
 front-none seed = append-nil init
 
 -- one more request
+pub front-one_more : (seed place : ℕ) → front seed (place + 1) ≡ front seed place ++ request_at seed place ∷ []
+front-one_more seed place =
+    ap (λ (later : List (List ℕ)). init ∷ later) (map-range_with_len_more (request_at seed) 0 place place (omega arith))
+
 pub front-next : (seed place : ℕ) → concat (front seed (place + 1)) ≡ concat (front seed place) ++ request_at seed place
 front-next seed place =
     ap (λ (later : List (List ℕ)). init ++ concat later) (map-range_with_len_more (request_at seed) 0 place place (omega arith))

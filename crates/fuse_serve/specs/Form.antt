@@ -1,10 +1,11 @@
--- The words that start the program, `serve THREADS ACL OWNER PAGE` or `gen SEED COUNT`, as lists of bytes.
+-- The words that start the program, `serve THREADS ACL OWNER PAGE`, `gen SEED COUNT` or `load SEED COUNT THREADS`, as lists of bytes.
 use Rattle.std.specs.Prelude.{◌≡◌, ℕ, ◌+◌, ◌-◌, ◌*◌, ◌&&◌, List, [], ◌∷◌, Option, None, Some, Bool, length, nat_lt, if◌then◌else◌, codes}
 use Rattle.std.specs.Str.{bytes_eq}
 use Rattle.fuse_config.specs.declared.session_acl.SessionACL.{SessionACL}
 use Rattle.fuse_config.specs.declared.session_acl.SessionACL.TheVariants.{All, RootAndOwner, Owner}
 use Rattle.fuse_serve.specs.declared.arguments.ServeForm.{ServeForm}
 use Rattle.fuse_serve.specs.declared.arguments.GenForm.{GenForm}
+use Rattle.fuse_serve.specs.declared.arguments.LoadForm.{LoadForm}
 
 -- a byte from '0' to '9'
 abbrev pub is_digit : ℕ → Bool
@@ -59,6 +60,19 @@ gen_form_of (gen ∷ seed ∷ count ∷ []) =
     if bytes_eq gen (codes "gen") then gen_formed (number_within 0 2147483647 seed) (number_within 0 65535 count) else None
 gen_form_of _ = None
 
--- the words are neither
+-- a form of `load` has all of its parts
+abbrev pub load_formed : Option ℕ → Option ℕ → Option ℕ → Option LoadForm
+load_formed (Some seed) (Some count) (Some threads) = Some record { seed = seed; count = count; threads = threads }
+load_formed _ _ _ = None
+
+-- the form of `load` that the words are: four of them, `load`, a seed and a number of messages as for `gen`, and at most 1024 threads
+abbrev pub load_form_of : List (List ℕ) → Option LoadForm
+load_form_of (load ∷ seed ∷ count ∷ threads ∷ []) =
+    if bytes_eq load (codes "load")
+    then load_formed (number_within 0 2147483647 seed) (number_within 0 65535 count) (number_within 0 1024 threads)
+    else None
+load_form_of _ = None
+
+-- the words are none of these
 abbrev pub IsNoForm : List (List ℕ) → Type 0
-IsNoForm words = (form_of words ≡ None) × (gen_form_of words ≡ None)
+IsNoForm words = (form_of words ≡ None) × (gen_form_of words ≡ None) × (load_form_of words ≡ None)

@@ -3,3 +3,4 @@ pub mod Status
 pub mod Tree
 pub mod Program
 pub mod Generated
+pub mod Load

@@ -1,7 +1,7 @@
-// The words that start the program: `serve THREADS ACL OWNER PAGE`, or `gen SEED COUNT`.
+// The words that start the program: `serve THREADS ACL OWNER PAGE`, `gen SEED COUNT`, or `load SEED COUNT THREADS`.
 
 ghost use Rattle.std.specs.Prelude.{◌≡◌, ◌≤◌, ◌<◌, map, IfSome};
-ghost use Rattle.fuse_serve.specs.Form.{acl_of, decimal_of, form_of, gen_form_of, number_within};
+ghost use Rattle.fuse_serve.specs.Form.{acl_of, decimal_of, form_of, gen_form_of, load_form_of, number_within};
 
 use fuse_config::SessionACL;
 
@@ -25,6 +25,17 @@ pub struct GenForm {
     pub seed: u32,
     /// How many requests there are, at most 65535.
     pub count: u32,
+}
+
+/// What the program is told to generate and to serve from memory.
+#[derive(Clone, Copy, Debug, PartialEq, Eq)]
+pub struct LoadForm {
+    /// Where the requests begin, below 2^31.
+    pub seed: u32,
+    /// How many requests there are, at most 65535.
+    pub count: u32,
+    /// How many threads are asked for, at most 1024.
+    pub threads: usize,
 }
 
 /// The form that the words are, which come after the program's own name.
@@ -59,6 +70,23 @@ pub fn gen_form(words: &[&[u8]]) -> Option<GenForm>
     Some(GenForm {
         seed: number(seed, 0, 0x7fff_ffff)?,
         count: number(count, 0, 65535)?,
+    })
+}
+
+/// The same of `load SEED COUNT THREADS`.
+pub fn load_form(words: &[&[u8]]) -> Option<LoadForm>
+    ensures { result ≡ load_form_of (map (λ w. w.now) words.now) }
+{
+    let [command, seed, count, threads] = words else {
+        return None;
+    };
+    if *command != b"load".as_slice() {
+        return None;
+    }
+    Some(LoadForm {
+        seed: number(seed, 0, 0x7fff_ffff)?,
+        count: number(count, 0, 65535)?,
+        threads: number(threads, 0, 1024)? as usize,
     })
 }
 
@@ -179,6 +207,40 @@ mod tests {
         ];
         for (words, expected) in cases {
             assert_eq!(rt; gen_form(words), expected);
+        }
+    }
+
+    #[test]
+    fn load_forms(rt: HostRuntime) {
+        let cases: [(&[&[u8]], Option<LoadForm>); 11] = [
+            (
+                &[b"load", b"2147483647", b"65535", b"1024"],
+                Some(LoadForm {
+                    seed: 2_147_483_647,
+                    count: 65535,
+                    threads: 1024,
+                }),
+            ),
+            (
+                &[b"load", b"0", b"0", b"0"],
+                Some(LoadForm {
+                    seed: 0,
+                    count: 0,
+                    threads: 0,
+                }),
+            ),
+            (&[b"load", b"2147483648", b"0", b"1"], None),
+            (&[b"load", b"0", b"65536", b"1"], None),
+            (&[b"load", b"0", b"0", b"1025"], None),
+            (&[b"load", b"0", b"0", b"-1"], None),
+            (&[b"load", b"0", b"0", b""], None),
+            (&[b"load", b"0", b"0"], None),
+            (&[b"load", b"0", b"0", b"1", b"1"], None),
+            (&[b"gen", b"0", b"0", b"1"], None),
+            (&[b"Load", b"0", b"0", b"1"], None),
+        ];
+        for (words, expected) in cases {
+            assert_eq!(rt; load_form(words), expected);
         }
     }
 }

@@ -1,5 +1,5 @@
 // A stream of messages that a seed gives: an INIT, requests to the tree, and a DESTROY.
-ghost use Rattle.std.specs.Prelude.{◌≡◌, ◌+◌, ◌*◌, ◌%◌, ◌^◌, ◌≤◌, ◌++◌, length, take, codes, replicate};
+ghost use Rattle.std.specs.Prelude.{◌≡◌, ◌+◌, ◌*◌, ◌%◌, ◌^◌, ◌≤◌, ◌++◌, length, take, codes, replicate, IfOk};
 ghost use Rattle.std.specs.Int.{w32, w64, to_le_bytes};
 ghost use Rattle.std.specs.List.{concat};
 ghost use Rattle.fuse_wire.specs.StreamSink.{WritesAll};
@@ -10,8 +10,11 @@ use fuse_request::opcode::{
     FUSE_DESTROY, FUSE_FORGET, FUSE_GETATTR, FUSE_INIT, FUSE_LOOKUP, FUSE_READ, FUSE_READDIR,
     FUSE_WRITE,
 };
-use fuse_wire::consts::{FUSE_KERNEL_MINOR_VERSION, FUSE_KERNEL_VERSION, REQUEST_HEADER_SIZE};
+use fuse_wire::consts::{
+    BUFFER_SIZE, FUSE_KERNEL_MINOR_VERSION, FUSE_KERNEL_VERSION, REQUEST_HEADER_SIZE,
+};
 use fuse_wire::{ByteSink, ByteWrite};
+use std::alloc::{AllocError, Global};
 use std::marker::Model;
 
 /// How many bytes the longest message has, which is INIT.
@@ -25,19 +28,20 @@ const NO_OPERATION: u32 = 7;
 
 /// A message, in a piece of memory of fixed size. A contract sees its bytes.
 #[derive(Drop)]
-struct Message {
+pub struct Message {
     bytes: [u8; LONGEST],
     size: usize,
 }
 
 impl Model for Message {
     ghost use Rattle.std.specs.Prelude.{◌≤◌, ℕ, List, take};
+    ghost use Rattle.fuse_serve.specs.declared.generator.TheConstants.{LONGEST};
 
     ghost Value = { List ℕ };
 
     ghost view = { λ m. take m.size m.bytes };
 
-    ghost invariant = { λ m. m.size ≤ 104 };
+    ghost invariant = { λ m. m.size ≤ LONGEST };
 }
 
 impl Message {
@@ -52,6 +56,18 @@ impl Message {
         put_at(&mut bytes, 0, &header_bytes(size as u32, opcode, id, node));
         put_at(&mut bytes, REQUEST_HEADER_SIZE, body);
         Message { bytes, size }
+    }
+
+    /// Copies the message to the front of a receive buffer, and says how long it is. The bytes that no message fills are
+    /// copied too: a copy of fixed size costs less than one of just the message.
+    pub fn put(&self, buffer: &mut [u8]) -> usize
+        requires { length buffer.old ≡ BUFFER_SIZE }
+        ensures whole { result ≡ length self.now }
+        ensures short { result ≤ LONGEST }
+        ensures front { take result buffer.new ≡ self.now }
+    {
+        buffer[..LONGEST].copy_from_slice(&self.bytes);
+        self.size
     }
 
     /// Writes the message, or says that a write failed.
@@ -79,14 +95,14 @@ fn header_bytes(size: u32, opcode: u32, id: u64, node: u64) -> [u8; REQUEST_HEAD
 
 /// Puts bytes into an array, from a place on.
 fn put_at(array: &mut [u8; LONGEST], at: usize, bytes: &[u8])
-    requires { at + length bytes.now ≤ 104 }
+    requires { at + length bytes.now ≤ LONGEST }
     ensures { take (at + length bytes.now) array.new ≡ take at array.old ++ bytes.now }
 {
     array[at..at + bytes.len()].copy_from_slice(bytes);
 }
 
 /// Writes the whole piece, or says that a write failed.
-fn write_all<O: ByteSink>(output: &mut O, piece: &[u8]) -> bool
+pub fn write_all<O: ByteSink>(output: &mut O, piece: &[u8]) -> bool
     ensures { WritesAll result piece.now (O.told output.old) (O.told output.new) }
 {
     let mut count = 0;
@@ -177,6 +193,21 @@ fn next(x: u32) -> u32
     ensures { result ≡ (x * 1103515245 + 12345) % 2 ^ 31 }
 {
     ((u64::from(x) * 1_103_515_245 + 12_345) % 0x8000_0000) as u32
+}
+
+/// The same messages in memory, all of which is taken at once.
+pub fn stored_stream(alloc: Global, seed: u32, count: u32) -> Result<Vec<Message>, AllocError>
+    ensures { IfOk result (λ messages. messages.items ≡ stream seed count) }
+{
+    let mut messages = Vec::with_capacity(alloc, count as usize + 2)?;
+    messages.push(init_message())?;
+    let mut x = seed;
+    for place in 0..count {
+        x = next(x);
+        messages.push(request(u64::from(place) + 2, x))?;
+    }
+    messages.push(destroy_message(u64::from(count) + 2))?;
+    Ok(messages)
 }
 
 /// Writes the stream of so many requests that the seed gives, or says that a write failed.

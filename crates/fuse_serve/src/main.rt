@@ -1,5 +1,5 @@
-//! The program: serves a small tree of files to whoever speaks FUSE on its standard input and output, or writes
-//! messages to send to it.
+//! The program: serves a small tree of files to whoever speaks FUSE on its standard input and output, writes messages to
+//! send to it, or serves these from memory and says what that came to.
 #![tactic(auto)]
 
 ghost use Rattle.std.specs.Prelude.{◌≡◌, ◌↔◌, map};
@@ -9,11 +9,18 @@ ghost use Rattle.fuse_serve.specs.Status.{IsExit};
 mod arguments;
 #[cfg(test)]
 mod fault_tests;
+mod frame_store;
 mod generator;
 #[cfg(test)]
 mod generator_tests;
 mod hello;
+mod load;
+#[cfg(test)]
+mod load_tests;
 mod program;
+mod status;
+mod stored_messages;
+mod summary;
 #[cfg(test)]
 mod tests;
 #[cfg(test)]

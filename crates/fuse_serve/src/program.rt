@@ -1,15 +1,18 @@
 // What the program does with its words, its input and its output.
 ghost use Rattle.std.specs.Prelude.{◌≡◌, ◌≢◌, ◌↔◌, ◌⊎◌, ◌<◌, map, IfSome};
-ghost use Rattle.fuse_serve.specs.Form.{IsNoForm, form_of, gen_form_of};
+ghost use Rattle.fuse_serve.specs.Form.{IsNoForm, form_of, gen_form_of, load_form_of};
 ghost use Rattle.fuse_serve.specs.Generated.{Generates};
+ghost use Rattle.fuse_serve.specs.Load.{Loads};
 ghost use Rattle.fuse_serve.specs.Program.{ByteExchange, EachAnswered, InputWell, Still};
-ghost use Rattle.fuse_serve.specs.Status.{IsExit, IsSessionStatus, IsStatus};
+ghost use Rattle.fuse_serve.specs.Status.{IsExit, IsSessionStatus};
 
-use crate::arguments::{GenForm, ServeForm, gen_form, serve_form};
-use crate::generator::write_stream;
+use crate::arguments::{GenForm, LoadForm, ServeForm, gen_form, load_form, serve_form};
+use crate::generator::{write_all, write_stream};
 use crate::hello::Hello;
+use crate::load::summary_line;
+use crate::status::status_of;
 use fuse_config::Config;
-use fuse_session::{Ended, SessionError, mount};
+use fuse_session::{Ended, mount};
 use fuse_wire::{ByteSink, ByteSource, StreamSink, StreamSource};
 use std::sync::Wait;
 
@@ -22,29 +25,6 @@ pub struct Served<I, O> {
     pub input: I,
     /// The output, after what was written.
     pub output: O,
-}
-
-/// The status of an outcome, where so many frames were lost, or a write failed.
-fn status_of(outcome: &Result<(), SessionError>, lost: u64, broken: bool) -> u8
-    ensures { IsStatus result outcome.now lost broken }
-{
-    match outcome {
-        Ok(()) if lost > 0 || broken => 8,
-        Ok(()) => 0,
-        Err(SessionError::NotConnected) => 3,
-        // The tree never refuses an INIT.
-        Err(SessionError::InvalidData(_) | SessionError::Init(_)) => 4,
-        Err(SessionError::Unsupported(_)) => 5,
-        Err(SessionError::Receive) => 7,
-        // The program lists no options, so that they are never refused.
-        Err(
-            SessionError::Conflict { .. }
-            | SessionError::AutoUnmount
-            | SessionError::CloneFd
-            | SessionError::Memory,
-        ) => 9,
-        Err(SessionError::Threads) => 10,
-    }
 }
 
 /// Serves the tree.
@@ -103,8 +83,31 @@ fn generate<I, O: ByteSink>(form: GenForm, input: I, mut output: O) -> Served<I,
     }
 }
 
-/// Does what the words say, which stand after the program's own name: `serve THREADS ACL OWNER PAGE` serves the tree, and
-/// `gen SEED COUNT` writes messages that the seed gives.
+/// Serves the messages of `load`, and writes the line of what that came to. The input is not read.
+fn load<R: Wait + AllocGlobal, I, O: ByteSink>(
+    rt: &R,
+    form: LoadForm,
+    input: I,
+    mut output: O,
+) -> Served<I, O>
+    ensures unread { result.input ≡ input }
+    ensures loaded { Loads form result.status (O.told output) (O.told result.output) }
+    ensures untouched { (result.status ≡ 9) ⊎ (result.status ≡ 10) → result.output ≡ output }
+{
+    let status = match summary_line(rt, form) {
+        Ok(line) if write_all(&mut output, line.as_bytes()) => 0,
+        Ok(_) => 8,
+        Err(status) => status,
+    };
+    Served {
+        status,
+        input,
+        output,
+    }
+}
+
+/// Does what the words say, which stand after the program's own name: `serve THREADS ACL OWNER PAGE` serves the tree,
+/// `gen SEED COUNT` writes messages that the seed gives, and `load SEED COUNT THREADS` serves these from memory.
 pub fn serve<R: Wait + AllocGlobal, I: ByteSource, O: ByteSink + Send>(
     rt: &R,
     words: &[&[u8]],
@@ -141,12 +144,27 @@ pub fn serve<R: Wait + AllocGlobal, I: ByteSource, O: ByteSink + Send>(
     // Where the output did not fail, these are all.
     ensures all_generated { IfSome (gen_form_of (map (λ w. w.now) words.now)) (λ form.
         Still (O.told output).faults (O.told result.output).faults → result.status ≡ 0) }
+
+    // For `load`: nothing is read, and what is written is the line of what the stream comes to, or a part: see `Loads`.
+    ensures loaded { IfSome (load_form_of (map (λ w. w.now) words.now)) (λ form.
+        (result.input ≡ input) × Loads form result.status (O.told output) (O.told result.output)) }
+
+    // Where no thread is to serve it, nothing is written.
+    ensures unserved { result.status ≡ 10 → IfSome (load_form_of (map (λ w. w.now) words.now)) (λ form.
+        result.output ≡ output) }
+
+    // Where the output did not fail, and some thread is to serve, the whole line is, but for want of memory.
+    ensures all_loaded { IfSome (load_form_of (map (λ w. w.now) words.now)) (λ form. 0 < form.threads →
+        Still (O.told output).faults (O.told result.output).faults → (result.status ≡ 0) ⊎ (result.status ≡ 9)) }
 {
     if let Some(form) = serve_form(words) {
         return serve_tree(rt, form, input, output);
     }
-    match gen_form(words) {
-        Some(form) => generate(form, input, output),
+    if let Some(form) = gen_form(words) {
+        return generate(form, input, output);
+    }
+    match load_form(words) {
+        Some(form) => load(rt, form, input, output),
         None => Served {
             status: 2,
             input,
