@@ -28,11 +28,14 @@ mod tree_tests;
 
 use fuse_wire::{StdSink, StdSource};
 use program::serve;
-use std::io::{Read, Write};
+use std::io::{BufReader, Read, Write};
 use std::process::ExitCode;
 use std::rt::Env;
 use std::sync::Wait;
 use std::{env, io};
+
+/// How many bytes of the input are read ahead, so that a small message costs no read of the system's.
+const READ_AHEAD: usize = 65536;
 
 /// Runs the program on these arguments, without its own name, over these streams, and says with which status it ends.
 fn run<R: AllocGlobal + Wait, I: Read + Drop, O: Write + Send + Drop>(
@@ -47,7 +50,8 @@ fn run<R: AllocGlobal + Wait, I: Read + Drop, O: Write + Send + Drop>(
     serve(rt, arguments, StdSource::new(input), StdSink::new(output)).status
 }
 
-/// The same on the arguments of the process. The error is that there was no memory for them, or that they can't be had.
+/// The same on the arguments of the process, with the input read ahead. The error is that there was no memory for the
+/// arguments or the input's buffer, and then nothing is read, or that the arguments can't be had.
 fn run_process<R: Env + AllocGlobal + Wait, I: Read + Drop, O: Write + Send + Drop>(
     rt: &R,
     input: I,
@@ -61,6 +65,7 @@ fn run_process<R: Env + AllocGlobal + Wait, I: Read + Drop, O: Write + Send + Dr
     for word in &words {
         arguments.push(word.as_bytes())?;
     }
+    let input = BufReader::with_capacity(rt.alloc(), READ_AHEAD, input)?;
     Ok(run(rt, arguments.as_slice(), input, output))
 }
 
