@@ -4,10 +4,6 @@
 
 mod argument;
 mod fixed;
-#[cfg(test)]
-mod part_tests;
-#[cfg(test)]
-mod tests;
 
 pub use argument::ArgumentIterator;
 pub use fixed::{

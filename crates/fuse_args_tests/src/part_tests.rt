@@ -1,5 +1,5 @@
 // Each part of fixed size, fetched from bytes of which each 4 are their number, from 1.
-use crate::{
+use fuse_args::{
     AccessArguments, ArgumentIterator, BMapArguments, BatchForgetArguments, CopyFileRangeArguments,
     CreateArguments, FAllocateArguments, FSyncArguments, FlushArguments, GetAttrArguments,
     GetLkArguments, GetXAttrArguments, IoCtlArguments, LseekArguments, MkDirArguments,

@@ -1,5 +1,5 @@
 // What is fetched from bodies of several lengths: INIT as kernels of several ages send it, names, and rows.
-use crate::ArgumentIterator;
+use fuse_args::ArgumentIterator;
 use std::test::Fail;
 
 /// What a new kernel sends: an older one sends fewer of these bytes.

@@ -1,0 +1,7 @@
+//! The tests of `fuse_args`: each part of fixed size, whole and cut off at each length, names, rows and numbers.
+#![tactic(auto)]
+
+#[cfg(test)]
+mod part_tests;
+#[cfg(test)]
+mod tests;
