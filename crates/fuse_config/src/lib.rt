@@ -7,14 +7,8 @@ mod conflict;
 mod kernel_config;
 pub mod laws;
 mod mount_option;
-#[cfg(test)]
-mod option_tests;
 mod option_text;
 mod session_acl;
-#[cfg(test)]
-mod setter_tests;
-#[cfg(test)]
-mod tests;
 
 pub use config::Config;
 pub use conflict::{Conflict, check_option_conflicts};

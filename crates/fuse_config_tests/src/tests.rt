@@ -1,6 +1,6 @@
 // The INIT reply's bytes, and a fresh configuration.
-use crate::{Config, KernelConfig, SessionACL, version_reply};
 use bitflags::Flags;
+use fuse_config::{Config, KernelConfig, SessionACL, version_reply};
 use fuse_wire::{InitFlags, Version};
 use std::test::Fail;
 

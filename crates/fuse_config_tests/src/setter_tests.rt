@@ -1,6 +1,6 @@
 // Each setter at its edges, and what the INIT reply has of it.
-use crate::KernelConfig;
 use bitflags::Flags;
+use fuse_config::KernelConfig;
 use fuse_wire::{Duration, InitFlags, Version};
 use std::test::Fail;
 

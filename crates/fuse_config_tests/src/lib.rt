@@ -1,0 +1,9 @@
+//! The tests of `fuse_config`: what INIT negotiates, what can be set, and the options of a mount.
+#![tactic(auto)]
+
+#[cfg(test)]
+mod option_tests;
+#[cfg(test)]
+mod setter_tests;
+#[cfg(test)]
+mod tests;
