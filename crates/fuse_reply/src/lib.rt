@@ -3,12 +3,8 @@
 #![tactic(auto)]
 
 mod attributes;
-#[cfg(test)]
-mod directory_tests;
 mod door;
 mod entries;
-#[cfg(test)]
-mod fixed_tests;
 pub mod laws;
 mod notice_frame;
 mod out;
@@ -35,8 +31,6 @@ mod reply_poll;
 mod reply_statfs;
 mod reply_write;
 mod reply_xattr;
-#[cfg(test)]
-mod tests;
 
 pub use door::{Door, NoDoor};
 pub use notice_frame::NoticeFrame;

@@ -1,10 +1,10 @@
 // What replies of fixed size, of ioctls and of extended attributes carry, as bytes.
 use crate::tests::{ATTRIBUTES, ID, attributes, carries};
-use crate::{
+use bitflags::Flags;
+use fuse_reply::{
     ReplyBmap, ReplyCreate, ReplyIoctl, ReplyLock, ReplyLseek, ReplyOpen, ReplyPoll, ReplyStatfs,
     ReplyWrite, ReplyXattr,
 };
-use bitflags::Flags;
 use fuse_wire::{Duration, FileHandle, FopenFlags, Generation, PollEvents};
 
 #[test]

@@ -1,7 +1,7 @@
 // What directory replies carry, as bytes.
-use crate::laws::{listings_give_their_entries_back, plus_listings_split_in_one_way};
 use crate::tests::{ATTRIBUTES, ID, attributes, carries, sends_frame, sent};
-use crate::{OutEnd, ReplyDirectory, ReplyDirectoryPlus};
+use fuse_reply::laws::{listings_give_their_entries_back, plus_listings_split_in_one_way};
+use fuse_reply::{OutEnd, ReplyDirectory, ReplyDirectoryPlus};
 use fuse_wire::{Duration, Errno, FileType, Generation, INodeNo, NoMemory};
 use std::alloc::Global;
 

@@ -1,0 +1,12 @@
+//! The tests of `fuse_reply`: the bytes of replies of every kind, with the least and the greatest numbers, and frames on a
+//! stream.
+#![tactic(auto)]
+
+#[cfg(test)]
+mod directory_tests;
+#[cfg(test)]
+mod fixed_tests;
+#[cfg(test)]
+mod stream_tests;
+#[cfg(test)]
+mod tests;
