@@ -7,11 +7,12 @@ use Rattle.std.proofs.lemmas.List.Folds.{concat-append}
 use Rattle.fuse_wire.specs.Frames.{IsFrame, frames}
 use Rattle.fuse_wire.specs.Numbers.{number}
 use Rattle.fuse_wire.specs.Sink.{Note, Puts}
+use Rattle.fuse_wire.specs.declared.sink.Sending.TheVariants.{Sent}
 use Rattle.fuse_wire.proofs.Frames.{frames-concat}
 use Rattle.fuse_wire.proofs.NumberLaws.{number-append}
 use Rattle.fuse_reply.specs.Frame.{is_set_aside}
 use Rattle.fuse_session.specs.Progress.{replies}
-use Rattle.fuse_serve.specs.Load.{IsStored, is_error, stored_told}
+use Rattle.fuse_serve.specs.Load.{IsStored, SendsStored, Stored, is_error, stored_told}
 
 All-one_more : {A : Type 0} (P : A → Type 0) (xs : List A) (x : A) → AllByRecursion P xs → P x → AllByRecursion P (xs ++ x ∷ [])
 All-one_more P [] x each last = (last, tt)
@@ -149,3 +150,14 @@ Puts-frame bytes frame notes starved joined each whole = (
   },
   refl,
 )
+
+-- and is one more in the store
+pub SendsStored-frame : (bytes frame : List ℕ) (notes : List Note) (starved : ℕ) → concat (frames bytes) ≡ bytes → AllByRecursion IsFrame (frames bytes)
+    → IsFrame frame
+    → SendsStored Sent frame (record { frames = frames bytes; notes = notes; starved = starved })
+    (record { frames = frames (bytes ++ frame); notes = notes; starved = starved })
+SendsStored-frame bytes frame notes starved joined each whole =
+    ap stored_of (frames-one_more bytes frame joined each whole)
+  where
+    stored_of : List (List ℕ) → Stored
+    stored_of fs = record { frames = fs; notes = notes; starved = starved }

@@ -2,12 +2,17 @@
 use Rattle.std.specs.Prelude.{◌≡◌, ◌⊎◌, ◌<◌, ◌^◌, ◌++◌, ℕ, Bool, true, false, List, [], ◌∷◌, Some, None, length, filter, nat_le, decimal, codes}
 use Rattle.std.specs.List.{concat, AllByRecursion}
 use Rattle.fuse_wire.specs.ByteSink.{ByteSinkState}
+use Rattle.fuse_wire.specs.Faults.{counted}
 use Rattle.fuse_wire.specs.Frames.{IsFrame, frames}
 use Rattle.fuse_wire.specs.Numbers.{number}
 use Rattle.fuse_wire.specs.Sink.{Note, SinkState}
 use Rattle.fuse_wire.specs.Source.{SourceState}
 use Rattle.fuse_wire.specs.declared.source.Received.{Received}
 use Rattle.fuse_wire.specs.declared.source.Received.TheVariants.{Message, Gone, Retry, Failed}
+use Rattle.fuse_wire.specs.declared.sink.Noting.{Noting}
+use Rattle.fuse_wire.specs.declared.sink.Noting.TheVariants.{Sent as Noted, Failed as Unnoted}
+use Rattle.fuse_wire.specs.declared.sink.Sending.{Sending}
+use Rattle.fuse_wire.specs.declared.sink.Sending.TheVariants.{Sent, Absent, Failed as Unsent}
 use Rattle.fuse_wire.specs.StreamSink.{WritesAll}
 use Rattle.fuse_config.specs.declared.session_acl.SessionACL.TheVariants.{All}
 use Rattle.fuse_session.specs.Handshake.{Handshake}
@@ -103,6 +108,21 @@ stored_told store = record {
   faults = store.starved;
   origin = record { bytes = None; faults = 0 };
 }
+
+-- What one send does: the frame is kept, or fails where it finds no memory. A store is always there.
+abbrev pub SendsStored : Sending → List ℕ → Stored → Stored → Type 0
+SendsStored Sent frame before after =
+    after ≡ record { frames = before.frames ++ frame ∷ []; notes = before.notes; starved = before.starved }
+SendsStored Absent frame before after = ⊥
+SendsStored Unsent frame before after =
+    after ≡ record { frames = before.frames; notes = before.notes; starved = counted before.starved 1 }
+
+-- what one note does: it is kept, or fails where it finds no memory
+abbrev pub NotesStored : Noting → Note → Stored → Stored → Type 0
+NotesStored Noted note before after =
+    after ≡ record { frames = before.frames; notes = before.notes ++ note ∷ []; starved = before.starved }
+NotesStored Unnoted note before after =
+    after ≡ record { frames = before.frames; notes = before.notes; starved = counted before.starved 1 }
 
 -- The bytes are whole frames, one after the other; so many of these are replies, of which so many are errors, and the replies
 -- are so long together.

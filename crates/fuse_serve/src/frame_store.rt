@@ -3,7 +3,7 @@ ghost use Rattle.std.specs.Prelude.{◌≡◌, ◌+◌, ◌++◌, ◌∷◌, ◌
 ghost use Rattle.fuse_wire.specs.Numbers.{number};
 ghost use Rattle.fuse_wire.specs.Sink.{Notes, Sends};
 ghost use Rattle.fuse_session.specs.Progress.{replies};
-ghost use Rattle.fuse_serve.specs.Load.{stored_told, summary_of};
+ghost use Rattle.fuse_serve.specs.Load.{NotesStored, SendsStored, stored_told, summary_of};
 
 use crate::summary::Summary;
 use fuse_wire::{Noting, RequestId, Sending, Sink, u32_at};
@@ -104,6 +104,7 @@ impl Sink for FrameStore {
     fn send(&mut self, header: &[u8; 16], payload: &[u8]) -> Sending
         requires { number header.now 0 4 ≡ 16 + length payload.now }
         ensures sends { Sends result (header.now ++ payload.now) (stored_told self.old) (stored_told self.new) }
+        ensures exactly { SendsStored result (header.now ++ payload.now) self.old self.new }
     {
         let held = self.bytes.len();
         let Ok(()) = append(&mut self.bytes, header, payload) else {
@@ -123,6 +124,7 @@ impl Sink for FrameStore {
     /// Keeps the note. It fails where it finds no memory.
     fn note(&mut self, id: RequestId, mark: u64) -> Noting
         ensures notes { Notes result (id.0, mark) (stored_told self.old) (stored_told self.new) }
+        ensures exactly { NotesStored result (id.0, mark) self.old self.new }
     {
         match self.notes.push((id, mark)) {
             Ok(()) => Noting::Sent,

@@ -1,7 +1,7 @@
 use Rattle.std.proofs.Common.{◌≡◌, ◌∙◌, ◌-◌, ◌++◌, ◌≤◌, ℕ, List, Bool, true, false, leb, subst, sym, ap, length, arith, length-append, if◌then◌else◌}
 use mir.Val.{bool_byte}
 use Rattle.fuse_serve.specs.Load.{IsStored}
-use Rattle.fuse_serve.proofs.Storing.{IsFrame-parts, IsStored-aside, IsStored-reply, IsStored-small, Puts-frame, aside-status, error-status}
+use Rattle.fuse_serve.proofs.Storing.{IsFrame-parts, IsStored-aside, IsStored-reply, IsStored-small, Puts-frame, SendsStored-frame, aside-status, error-status}
 use Rattle.fuse_serve.proofs.frame_store.FrameStoreSink.send.Goals as goal
 
 pub invariant_of-self-then-is_notice : goal.invariant_of-self-then-is_notice
@@ -21,6 +21,8 @@ returns-then-is_notice c =
     let whole = IsFrame-parts header payload c.told-header c.requires in
     record {
       sends = rw (← c.self.view_is) (rw c.in-Ok.ensures.ok (Puts-frame c.self.inside.bytes.items (header ++ payload) _ c.self.inside.starved
+          c.self.invariant.joined c.self.invariant.each whole));
+      exactly = rw (← c.self.view_is) (rw c.in-Ok.ensures.ok (SendsStored-frame c.self.inside.bytes.items (header ++ payload) _ c.self.inside.starved
           c.self.invariant.joined c.self.invariant.each whole));
     }
 
@@ -71,5 +73,7 @@ returns c =
     let whole = IsFrame-parts header payload c.told-header c.requires in
     record {
       sends = rw (← c.self.view_is) (rw c.in-Ok.ensures.ok (Puts-frame c.self.inside.bytes.items (header ++ payload) _ c.self.inside.starved
+          c.self.invariant.joined c.self.invariant.each whole));
+      exactly = rw (← c.self.view_is) (rw c.in-Ok.ensures.ok (SendsStored-frame c.self.inside.bytes.items (header ++ payload) _ c.self.inside.starved
           c.self.invariant.joined c.self.invariant.each whole));
     }
