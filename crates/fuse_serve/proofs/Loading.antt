@@ -17,8 +17,7 @@ use Rattle.fuse_session.specs.declared.error.SessionError.{SessionError}
 use Rattle.fuse_session.specs.declared.error.SessionError.TheVariants as session
 use Rattle.fuse_session.specs.declared.transcript.Transcript.{Transcript}
 use Rattle.fuse_serve.specs.Generated.{destroy, init, request_at, requests, stream}
-use Rattle.fuse_serve.specs.Load.{Answers, Stored, Summarizes, messages_told, stored_told, summary_of}
-use Rattle.fuse_serve.specs.Status.{failure_status}
+use Rattle.fuse_serve.specs.Load.{Answers, IsNoLine, Stored, Summarizes, messages_told, stored_told, summary_of}
 use Rattle.fuse_serve.specs.Tree.{tree_promise}
 use Rattle.fuse_serve.specs.declared.arguments.LoadForm.{LoadForm}
 use Rattle.fuse_serve.specs.declared.hello.Hello.{Hello}
@@ -48,20 +47,17 @@ stream-length seed count =
 -- why the stream has no summary
 pub failure-causes : (e : SessionError) (o : Outcome) (threads : ℕ) → o ≡ Err e
     → (0 < threads → (o ≡ Ok tt) ⊎ (o ≡ Err session.Memory)) → (threads ≡ 0 → (o ≡ Err session.Threads) ⊎ (o ≡ Err session.Memory))
-    → (failure_status e ≡ 9) ⊎ ((failure_status e ≡ 10) × (threads ≡ 0))
+    → IsNoLine e threads
 failure-causes e o threads is complete unserved = by_threads threads refl where
-  memory : o ≡ Err session.Memory → failure_status e ≡ 9
-  memory no_memory = let same : e ≡ session.Memory = cc in ap failure_status same
-
-  served : (o ≡ Ok tt) ⊎ (o ≡ Err session.Memory) → (failure_status e ≡ 9) ⊎ ((failure_status e ≡ 10) × (threads ≡ 0))
+  served : (o ≡ Ok tt) ⊎ (o ≡ Err session.Memory) → IsNoLine e threads
   served (inl ok) = absurd (let no : ⊥ = cc in no)
-  served (inr no_memory) = inl (memory no_memory)
+  served (inr no_memory) = inl (let same : e ≡ session.Memory = cc in same)
 
-  not_served : threads ≡ 0 → (o ≡ Err session.Threads) ⊎ (o ≡ Err session.Memory) → (failure_status e ≡ 9) ⊎ ((failure_status e ≡ 10) × (threads ≡ 0))
-  not_served no_thread (inl none) = inr (let same : e ≡ session.Threads = cc in ap failure_status same, no_thread)
-  not_served no_thread (inr no_memory) = inl (memory no_memory)
+  not_served : threads ≡ 0 → (o ≡ Err session.Threads) ⊎ (o ≡ Err session.Memory) → IsNoLine e threads
+  not_served no_thread (inl none) = inr (let same : e ≡ session.Threads = cc in same, no_thread)
+  not_served no_thread (inr no_memory) = inl (let same : e ≡ session.Memory = cc in same)
 
-  by_threads : (n : ℕ) → threads ≡ n → (failure_status e ≡ 9) ⊎ ((failure_status e ≡ 10) × (threads ≡ 0))
+  by_threads : (n : ℕ) → threads ≡ n → IsNoLine e threads
   by_threads zero none = not_served none (unserved none)
   by_threads (suc n) some = served (complete (omega (arith, some)))
 

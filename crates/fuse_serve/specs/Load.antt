@@ -21,6 +21,8 @@ use Rattle.fuse_session.specs.Incoming.{IsBroken}
 use Rattle.fuse_session.specs.OneEach.{OneEach}
 use Rattle.fuse_session.specs.Owed.{Owed}
 use Rattle.fuse_session.specs.Progress.{replies}
+use Rattle.fuse_session.specs.declared.error.SessionError.{SessionError}
+use Rattle.fuse_session.specs.declared.error.SessionError.TheVariants.{Memory, Threads}
 use Rattle.fuse_serve.specs.Generated.{stream}
 use Rattle.fuse_serve.specs.Tree.{tree_promise}
 use Rattle.fuse_serve.specs.declared.arguments.LoadForm.{LoadForm}
@@ -67,6 +69,10 @@ abbrev pub Summarizes : LoadForm → Summary → Type 0
 Summarizes form summary =
     (reply_frames : List (List ℕ)) × (notes : List Note) × Answers (stream form.seed form.count) reply_frames notes
     × (summary ≡ summary_of (length (stream form.seed form.count)) reply_frames (length notes))
+
+-- why there is none: there was no memory, or no thread was to serve
+abbrev pub IsNoLine : SessionError → (threads : ℕ) → Type 0
+IsNoLine error threads = (error ≡ Memory) ⊎ ((error ≡ Threads) × (threads ≡ 0))
 
 -- the line of the stream's summary was written, or its front, by a write that failed
 abbrev pub WritesSummary : (whole : Bool) → LoadForm → (output output' : ByteSinkState) → Type 0

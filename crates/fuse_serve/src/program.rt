@@ -10,7 +10,7 @@ use crate::arguments::{GenForm, LoadForm, ServeForm, gen_form, load_form, serve_
 use crate::generator::{write_all, write_stream};
 use crate::hello::Hello;
 use crate::load::summary_line;
-use crate::status::status_of;
+use crate::status::{failure_status, status_of};
 use fuse_config::Config;
 use fuse_session::{Ended, mount};
 use fuse_wire::{ByteSink, ByteSource, StreamSink, StreamSource};
@@ -97,7 +97,7 @@ fn load<R: Wait + AllocGlobal, I, O: ByteSink>(
     let status = match summary_line(rt, form) {
         Ok(line) if write_all(&mut output, line.as_bytes()) => 0,
         Ok(_) => 8,
-        Err(status) => status,
+        Err(error) => failure_status(&error),
     };
     Served {
         status,

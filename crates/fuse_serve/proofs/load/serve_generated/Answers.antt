@@ -42,6 +42,6 @@ returns-clause-causes g c =
     let form = c.args.form in
     let well = OptionsWell-none_listed _ c.new-config.ensures.mount_options c.new-config.ensures.clone_fd in
     let stored = sym c.in-Ok.ensures in
-    rw c.failure_status.ensures (failure-causes c.in-Err.error m.outcome form.threads c.in-Err.is
+    failure-causes c.in-Err.error m.outcome form.threads c.in-Err.is
     (λ some. c.mount-sink.ensures.complete well (rw (← stored) (SessionWell-stream form.seed form.count form.threads _ m.source some)))
-    (λ no_thread. c.mount-sink.ensures.unserved (ap Some no_thread) well (rw (← stored) (HandshakeWell-stream form.seed form.count _ m.source))))
+    (λ no_thread. c.mount-sink.ensures.unserved (ap Some no_thread) well (rw (← stored) (HandshakeWell-stream form.seed form.count _ m.source)))
