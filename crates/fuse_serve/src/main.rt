@@ -26,8 +26,11 @@ mod tests;
 #[cfg(test)]
 mod tree_tests;
 
+use arguments::serve_form;
+use fuse_session::SessionError;
 use fuse_wire::{StdSink, StdSource};
 use program::serve;
+use status::failure_status;
 use std::io::{BufReader, Read, Write};
 use std::process::ExitCode;
 use std::rt::Env;
@@ -36,6 +39,14 @@ use std::{env, io};
 
 /// How many bytes of the input are read ahead, so that a small message costs no read of the system's.
 const READ_AHEAD: usize = 65536;
+
+/// How many are for these words: none where the input is not read, so that no memory is asked for.
+fn read_ahead(words: &[&[u8]]) -> usize {
+    match serve_form(words) {
+        Some(_) => READ_AHEAD,
+        None => 0,
+    }
+}
 
 /// Runs the program on these arguments, without its own name, over these streams, and says with which status it ends.
 fn run<R: AllocGlobal + Wait, I: Read + Drop, O: Write + Send + Drop>(
@@ -50,8 +61,8 @@ fn run<R: AllocGlobal + Wait, I: Read + Drop, O: Write + Send + Drop>(
     serve(rt, arguments, StdSource::new(input), StdSink::new(output)).status
 }
 
-/// The same on the arguments of the process, with the input read ahead. The error is that there was no memory for the
-/// arguments or the input's buffer, and then nothing is read, or that the arguments can't be had.
+/// The same on the arguments of the process, with the input read ahead where it is read. The error is that there was no
+/// memory for the arguments or the input's buffer, and then nothing is read, or that the arguments can't be had.
 fn run_process<R: Env + AllocGlobal + Wait, I: Read + Drop, O: Write + Send + Drop>(
     rt: &R,
     input: I,
@@ -65,14 +76,17 @@ fn run_process<R: Env + AllocGlobal + Wait, I: Read + Drop, O: Write + Send + Dr
     for word in &words {
         arguments.push(word.as_bytes())?;
     }
-    let input = BufReader::with_capacity(rt.alloc(), READ_AHEAD, input)?;
+    let ahead = read_ahead(arguments.as_slice());
+    let input = BufReader::with_capacity(rt.alloc(), ahead, input)?;
     Ok(run(rt, arguments.as_slice(), input, output))
 }
 
 fn main(rt: HostRuntime) -> ExitCode {
     match run_process(&rt, rt.stdin(), rt.stdout()) {
         Ok(status) => ExitCode::from(status),
-        Err(error) if error.kind() == io::ErrorKind::OutOfMemory => ExitCode::from(9),
+        Err(error) if error.kind() == io::ErrorKind::OutOfMemory => {
+            ExitCode::from(failure_status(&SessionError::Memory))
+        }
         Err(_) => ExitCode::from(2),
     }
 }
