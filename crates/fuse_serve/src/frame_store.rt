@@ -37,13 +37,23 @@ impl std::marker::Model for FrameStore {
     ghost invariant = { λ s. IsStored s.bytes.items s.replies s.errors s.reply_bytes };
 }
 
+/// An empty vector, with so much room where there is memory for it.
+fn vector_with_room(alloc: Global, room: usize) -> Vec<u8>
+    ensures { result.items ≡ [] }
+{
+    match Vec::with_capacity(alloc, room) {
+        Ok(bytes) => bytes,
+        Err(_) => Vec::new(alloc),
+    }
+}
+
 impl FrameStore {
-    /// An empty store.
-    pub fn new(alloc: Global) -> FrameStore
+    /// An empty store, with room for so many bytes where there is memory for them. Else it grows from nothing.
+    pub fn with_room(alloc: Global, room: usize) -> FrameStore
         ensures { result ≡ record { frames = []; notes = []; starved = 0 } }
     {
         FrameStore {
-            bytes: Vec::new(alloc),
+            bytes: vector_with_room(alloc, room),
             notes: Vec::new(alloc),
             replies: 0,
             errors: 0,

@@ -12,6 +12,12 @@ use fuse_config::{Config, SessionACL};
 use fuse_session::{Ended, SessionError, mount};
 use std::sync::Wait;
 
+/// How many bytes the replies to the handshake, to so many requests and to DESTROY are expected to take. Over the eight kinds a
+/// request's is 64 bytes long in the mean, and a note has none; what is missing the store grows by.
+fn room_for(count: u32) -> usize {
+    count as usize * 66 + 4096
+}
+
 /// Serves all messages that the seed gives, and says what that came to. The error is want of memory, or that no thread is
 /// to serve.
 fn serve_generated<R: Wait + AllocGlobal>(rt: &R, form: LoadForm) -> Result<Summary, SessionError>
@@ -34,7 +40,7 @@ fn serve_generated<R: Wait + AllocGlobal>(rt: &R, form: LoadForm) -> Result<Summ
         rt,
         Hello,
         messages,
-        FrameStore::new(rt.alloc()),
+        FrameStore::with_room(rt.alloc(), room_for(form.count)),
         0,
         4096,
         &config,

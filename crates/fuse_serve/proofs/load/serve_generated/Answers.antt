@@ -16,7 +16,7 @@ returns-in-Ok-2-clause-served g c =
     let form = c.args.form in
     let ok : m.outcome ≡ Ok tt = c.in-Ok-2.is in
     let none : m.sink.starved ≡ 0 = omega (arith, c.if-starved-gt0.false, c.starved.ensures) in
-    let started : c.new.result ≡ empty = c.new.ensures in
+    let started : c.with_room.result ≡ empty = c.with_room.ensures in
     let quiet : Lossless (stored_told empty) (stored_told m.sink) m.transcript =
     inl (record { same = none; counts = omega (arith, none) }) in
     let headline =
@@ -25,7 +25,7 @@ returns-in-Ok-2-clause-served g c =
     (c.mount-sink.ensures.headline ok) quiet in
     let mounted =
     subst (λ (o : Outcome). ¬ (Untouched o) → Mounted (setup_of tree_promise 4096 (Some form.threads) All 0) _ m.filesystem o
-    (messages_told c.in-Ok.messages) (messages_told m.source) (stored_told c.new.result) (stored_told m.sink) m.transcript) ok
+    (messages_told c.in-Ok.messages) (messages_told m.source) (stored_told c.with_room.result) (stored_told m.sink) m.transcript) ok
     c.mount-sink.ensures.session (λ no. no) in
     Summarizes-ok form _ m.filesystem m.source m.sink m.transcript c.summary.result (omega arith)
     (subst (λ (ms : List (List ℕ)). Headline tree_promise 4096 All 0 _ (messages_told ms) (messages_told m.source) (stored_told empty) (stored_told m.sink))
