@@ -148,10 +148,10 @@ fn read_bytes(offset: u64, size: u32) -> [u8; 40]
 fn write_bytes() -> [u8; 45]
     ensures { result ≡ write_body (codes "hello") }
 {
-    let [h, e, l, o] = *b"helo";
+    let [h, e, l, m, o] = *b"hello";
     [
         0, 0, 0, 0, 0, 0, 0, 0, 0, 0, 0, 0, 0, 0, 0, 0, 5, 0, 0, 0, 0, 0, 0, 0, 0, 0, 0, 0, 0, 0,
-        0, 0, 0, 0, 0, 0, 0, 0, 0, 0, h, e, l, l, o,
+        0, 0, 0, 0, 0, 0, 0, 0, 0, 0, h, e, l, m, o,
     ]
 }
 
