@@ -1,4 +1,4 @@
-mod FilteredOrder
+pub mod FilteredOrder
 mod Views
 mod Alone
 mod Keeps
