@@ -17,10 +17,10 @@ use Rattle.fuse_wire.specs.StreamSink.{WritesAll}
 use Rattle.fuse_config.specs.declared.session_acl.SessionACL.TheVariants.{All}
 use Rattle.fuse_session.specs.Handshake.{Handshake}
 use Rattle.fuse_session.specs.Handshake.HandshakeEnd.{Accepted}
-use Rattle.fuse_session.specs.Incoming.{IsBroken}
-use Rattle.fuse_session.specs.OneEach.{OneEach}
+use Rattle.fuse_workers.specs.Incoming.{IsBroken}
+use Rattle.fuse_workers.specs.OneEach.{OneEach}
 use Rattle.fuse_session.specs.Owed.{Owed}
-use Rattle.fuse_session.specs.Progress.{replies}
+use Rattle.fuse_workers.specs.Progress.{replies}
 use Rattle.fuse_session.specs.declared.error.SessionError.{SessionError}
 use Rattle.fuse_session.specs.declared.error.SessionError.TheVariants.{Memory, Threads}
 use Rattle.fuse_serve.specs.Generated.{stream}

@@ -2,7 +2,7 @@
 ghost use Rattle.std.specs.Prelude.{◌≡◌, ◌+◌, ◌++◌, ◌∷◌, ◌&&◌, ◌^◌, [], length, nat_lt, OnOk, OnErr};
 ghost use Rattle.fuse_wire.specs.Numbers.{number};
 ghost use Rattle.fuse_wire.specs.Sink.{Notes, Sends};
-ghost use Rattle.fuse_session.specs.Progress.{replies};
+ghost use Rattle.fuse_workers.specs.Progress.{replies};
 ghost use Rattle.fuse_serve.specs.Load.{NotesStored, SendsStored, stored_told, summary_of};
 
 use crate::summary::Summary;

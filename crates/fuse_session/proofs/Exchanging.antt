@@ -5,24 +5,25 @@ use Rattle.std.proofs.lemmas.List.{map-append}
 use Rattle.fuse_wire.specs.Source.{Takes, message, NothingLeft, Failed as SourceFailed}
 use Rattle.fuse_wire.proofs.Devices.{Takes-then}
 use Rattle.fuse_reply.specs.declared.out.Out.TheVariants.{Frame}
-use Rattle.fuse_session.specs.Incoming.{Incoming, EndsAfter, EndsWell, AllGoOn, incoming}
-use Rattle.fuse_session.specs.Incoming.Incoming.{Destroy}
+use Rattle.fuse_workers.specs.Incoming.{Incoming, EndsAfter, EndsWell, AllGoOn, incoming}
+use Rattle.fuse_workers.specs.Incoming.Incoming.{Destroy}
 use Rattle.fuse_session.specs.Owed.{Owed}
 use Rattle.fuse_session.specs.Handshake.{HandshakeEnd}
 use Rattle.fuse_session.specs.HandshakeStep.{HandshakeRun}
-use Rattle.fuse_session.specs.EventLoop.{Run, RunEnds}
+use Rattle.fuse_workers.specs.EventLoop.{Run, RunEnds}
 use Rattle.fuse_session.specs.Exchange.{Setup, Outcome, RunFollows, EndedBy, Exchange, Unopened}
 use Rattle.fuse_session.specs.SessionEnd.{handshake_error, run_outcome}
-use Rattle.fuse_session.specs.Progress.{Progress}
+use Rattle.fuse_workers.specs.OneEach.{InOrder}
+use Rattle.fuse_workers.specs.Progress.{Progress}
 use Rattle.fuse_session.specs.declared.error.SessionError.TheVariants.{NotConnected, Threads, Receive}
-use Rattle.fuse_session.specs.declared.event_loop.End.{End}
-use Rattle.fuse_session.specs.declared.event_loop.End.TheVariants.{Gone, Destroyed, Broken, Failed}
+use Rattle.fuse_workers.specs.declared.end.End.{End}
+use Rattle.fuse_workers.specs.declared.end.End.TheVariants.{Gone, Destroyed, Broken, Failed}
 use Rattle.fuse_session.specs.declared.greeting.HandshakeError.{HandshakeError}
 use Rattle.fuse_session.specs.declared.greeting.HandshakeError.TheVariants as refusal
 use Rattle.fuse_session.specs.declared.handshake.HandshakeOutcome.{HandshakeOutcome}
 use Rattle.fuse_session.specs.declared.handshake.HandshakeOutcome.TheVariants as outcome
-use Rattle.fuse_session.proofs.Taking.{Begins-after, Failed-after}
-use Rattle.fuse_session.proofs.Moving.{moves-then}
+use Rattle.fuse_workers.proofs.Taking.{Begins-after, Failed-after}
+use Rattle.fuse_workers.proofs.Moving.{moves-then}
 
 -- messages after which the run goes on, and then others
 pub EndsWell-after : (xs ys : List (List ℕ)) (none_left : Type 0) → AllGoOn xs → EndsWell ys none_left → EndsWell (xs ++ ys) none_left
@@ -126,7 +127,7 @@ ended-run Failed threads shook answered refused none_left failed failed' served 
 -- a session with a run after its handshake
 pub Exchange-ran : {F : Type 0} {setup : Setup F} {fs fs1 : F} {end : End} {p q r : Progress} → setup.threads ≢ Some 0
     → HandshakeRun setup.promise.may_init setup.page outcome.Accepted fs fs1 p q
-    → Run (Owed setup.promise fs1 setup.acl setup.owner) 0 end q r → Exchange setup fs fs1 (run_outcome end) p r
+    → Run (InOrder (Owed setup.promise fs1 setup.acl setup.owner) 0) end q r → Exchange setup fs fs1 (run_outcome end) p r
 Exchange-ran {F} {setup} {fs} {fs1} {end} {p} {q} {r} some shook run = record {
   turns = shook.turns ++ run.turns;
   sent = shook.sent ++ run.sent;

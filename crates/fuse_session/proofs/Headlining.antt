@@ -7,52 +7,19 @@ use Rattle.fuse_wire.specs.Source.{Takes, message, NothingLeft, Failed as Source
 use Rattle.fuse_wire.specs.Sink.{Note}
 use Rattle.fuse_reply.specs.declared.out.Out.{Out}
 use Rattle.fuse_reply.specs.declared.out.Out.TheVariants.{Frame}
-use Rattle.fuse_session.specs.Incoming.{IsBroken, EndsWell}
+use Rattle.fuse_workers.specs.Incoming.{IsBroken, EndsWell}
 use Rattle.fuse_session.specs.Owed.{Owed}
-use Rattle.fuse_session.specs.OneEach.{Owing, InOrder}
+use Rattle.fuse_workers.specs.OneEach.{Owing, InOrder}
 use Rattle.fuse_session.specs.Handshake.{HandshakeEnd, Handshake}
 use Rattle.fuse_session.specs.Handshake.HandshakeEnd.{Accepted}
 use Rattle.fuse_session.specs.Headline.{Headline, Lossless}
 use Rattle.fuse_session.specs.Exchange.{Setup, Dialogue, Exchange}
-use Rattle.fuse_session.specs.Progress.{Progress, Moves, LeavesOut, Quiet, PassesOnAll, is_notice, notices, nothing_yet}
-use Rattle.fuse_session.specs.declared.transcript.Transcript.{Transcript}
-use Rattle.fuse_session.proofs.Lists.{Splits, Splits-map, filter-shorter}
-use Rattle.fuse_session.proofs.Order.{OneEach-from_order}
+use Rattle.fuse_workers.specs.Progress.{Progress, Moves, LeavesOut, is_notice, nothing_yet}
+use Rattle.fuse_workers.specs.declared.transcript.Transcript.{Transcript}
+use Rattle.fuse_workers.proofs.ItemLists.{Splits, Splits-map, filter-shorter}
+use Rattle.fuse_workers.proofs.Quieting.{LeavesOut-none, refused-none}
+use Rattle.fuse_workers.proofs.Order.{OneEach-from_order}
 use Rattle.fuse_session.proofs.Serving.{Owed-broken}
-
--- where nothing was lost, nothing was left out
-pub LeavesOut-none : (frames written : List (List ℕ)) → LeavesOut [] frames written → written ≡ frames
-LeavesOut-none [] written p = p.0
-LeavesOut-none (f ∷ fs) written (inl p) = p.1 ∙ ap (λ (ys : List (List ℕ)). f ∷ ys) (LeavesOut-none fs p.0 p.2)
-LeavesOut-none (f ∷ fs) written (inr p) = absurd (let some = p.1 in let no : ⊥ = cc in no)
-
--- nothing was refused where the sink's count did not rise
-refused-none : {received : ℕ} {sent : List (List ℕ)} {notes : List Note} {lost : List Out} {p q : Progress}
-    (moved : Moves received sent notes lost p q) → Quiet p.sink q.sink → length moved.refused ≡ 0
-refused-none {received} {sent} {notes} {lost} {p} {q} moved quiet =
-    let low : q.sink.faults < last_count = quiet.counts in
-    let same : q.sink.faults ≡ p.sink.faults = quiet.same in
-    let cause : length moved.refused + p.sink.faults ≤ q.sink.faults = moved.cause low in omega arith
-
--- so each notice that was taken off the line was appended
-pub PassesOnAll-quiet : {received : ℕ} {sent : List (List ℕ)} {notes : List Note} {lost : List Out} {p q : Progress}
-    → Moves received sent notes lost p q → Quiet p.sink q.sink → PassesOnAll p q
-PassesOnAll-quiet {received} {sent} {notes} {lost} {p} {q} moved quiet = record {
-  appended = moved.appended;
-  notes = notes;
-  written = moved.written;
-  line = moved.passed_on.line ∙ ap (λ (x : List (List ℕ)). p.unasked ++ x) (sym
-      (LeavesOut-none moved.passed_on.taken (notices moved.appended)
-      (subst (λ (x : List (List ℕ)). LeavesOut x moved.passed_on.taken (notices moved.appended)) none_dropped moved.passed_on.each)));
-} where
-  none_dropped : moved.passed_on.dropped ≡ []
-  none_dropped = nil_from_length moved.passed_on.dropped (omega (
-    arith,
-    length-map moved.passed_on.dropped Frame,
-    ap (λ (x : List Out). length x) moved.passed_on.all_dropped,
-    filter-shorter is_notice moved.refused,
-    refused-none moved quiet,
-  ))
 
 -- Nothing was lost where the sink's count did not rise, or the transcript says so.
 lossless : {received : ℕ} {sent : List (List ℕ)} {notes : List Note} {lost : List Out} {p q : Progress} → Moves received sent notes lost p q

@@ -1,12 +1,6 @@
-mod Lists
-mod Taking
-mod Moving
-mod FrameLines
-mod Order
 mod Serving
 mod Judging
 pub mod Answering
-mod LoopSteps
 mod HandshakeSteps
 mod Exchanging
 mod Headlining

@@ -4,37 +4,48 @@ use Rattle.std.proofs.lemmas.List.{map-append}
 use Rattle.fuse_wire.specs.Source.{SourceState, message}
 use Rattle.fuse_wire.specs.Sink.{SinkState}
 use Rattle.fuse_session.specs.Complete.{GoodHeaders, RunWell, Unfailing}
-use Rattle.fuse_session.specs.EventLoop.{Run}
+use Rattle.fuse_workers.specs.EventLoop.{Run}
 use Rattle.fuse_session.specs.Exchange.{Closed, Exchange, Mounted, Outcome, Setup, Unopened, setup_of}
 use Rattle.fuse_session.specs.Headline.{Headline, Lossless}
-use Rattle.fuse_session.specs.OneEach.{Owing}
-use Rattle.fuse_session.specs.Progress.{Progress, nothing_yet, progress}
+use Rattle.fuse_session.specs.Owed.{Owed}
+use Rattle.fuse_workers.specs.OneEach.{InOrder, Owing}
+use Rattle.fuse_workers.specs.Progress.{Progress, nothing_yet, progress}
 use Rattle.fuse_session.specs.Promise.{Promise}
 use Rattle.fuse_session.specs.Session.{Ends, IsOpened, Opened, OpensNone, Ran, setup_for}
 use Rattle.fuse_session.specs.SessionEnd.{handshake_error, run_outcome}
-use Rattle.fuse_session.specs.declared.event_loop.End.{End}
-use Rattle.fuse_session.specs.declared.event_loop.End.TheVariants.{Gone, Destroyed, Broken, Failed}
+use Rattle.fuse_workers.specs.declared.end.End.{End}
+use Rattle.fuse_workers.specs.declared.end.End.TheVariants.{Gone, Destroyed, Broken, Failed}
 use Rattle.fuse_config.specs.declared.session_acl.SessionACL.{SessionACL}
 use Rattle.fuse_session.specs.declared.greeting.HandshakeError.{HandshakeError}
 use Rattle.fuse_session.specs.declared.greeting.HandshakeError.TheVariants as refusal
-use Rattle.fuse_session.specs.declared.transcript.Transcript.{Transcript}
+use Rattle.fuse_workers.specs.declared.transcript.Transcript.{Transcript}
 use Rattle.fuse_session.proofs.Completing.{never-broken, no-failure, told-after}
 use Rattle.fuse_session.proofs.Exchanging.{Exchange-ran, Exchange-unserved}
 use Rattle.fuse_session.proofs.Headlining.{Headline-from_exchange}
 
 -- a session that ended so, and all that is left of it
-pub Ran-ends : {F : Type 0} (promise : Promise F) (session seen : Opened F) (fs' : F) (outcome found : Outcome) (after : Progress)
-    (source' : SourceState) (sink' : SinkState) (counts : Transcript)
-    → session ≡ seen → Ends promise seen.filesystem seen.acl seen.owner seen.threads found seen.progress after → outcome ≡ found
-    → after ≡ progress source' sink' counts after.unasked → promise.may_destroy seen.filesystem fs'
+pub Ran-ends : {F : Type 0} (promise : Promise F) (session seen : Opened F) (fs' : F) (outcome found : Outcome) (shaken counts found_counts : Transcript)
+    (source : SourceState) (sink : SinkState) (source' source'' : SourceState) (sink' sink'' : SinkState)
+    → session ≡ seen → seen.progress ≡ progress source sink shaken []
+    → ((unasked : List (List ℕ)) × Ends promise seen.filesystem seen.acl seen.owner seen.threads found (progress source sink shaken [])
+    (progress source'' sink'' found_counts unasked))
+    → (counts ≡ found_counts) × (outcome ≡ found) → (source' ≡ source'') × (sink' ≡ sink'') → promise.may_destroy seen.filesystem fs'
     → Ran promise session fs' outcome source' sink' counts
-Ran-ends promise session seen fs' outcome found after source' sink' counts is ends found_is handed_back destroyed =
+Ran-ends promise session seen fs' outcome found shaken counts found_counts source sink source' source'' sink' sink'' is start ends told back destroyed =
     subst (λ (s : _). Ran promise s fs' outcome source' sink' counts) (sym is) (record {
-      unasked = after.unasked;
-      ends = subst (λ (p : Progress). Ends promise seen.filesystem seen.acl seen.owner seen.threads outcome seen.progress p) handed_back
-          (subst (λ (o : Outcome). Ends promise seen.filesystem seen.acl seen.owner seen.threads o seen.progress after) (sym found_is) ends);
+      unasked = ends.0;
+      ends = subst (λ (p : Progress). Ends promise seen.filesystem seen.acl seen.owner seen.threads outcome p (progress source' sink' counts ends.0)) (sym start)
+          (subst (λ (q : Progress). Ends promise seen.filesystem seen.acl seen.owner seen.threads outcome (progress source sink shaken []) q) after
+          (subst (λ (o : Outcome). Ends promise seen.filesystem seen.acl seen.owner seen.threads o (progress source sink shaken [])
+          (progress source'' sink'' found_counts ends.0)) (sym told.1) ends.1));
       destroyed = destroyed;
     })
+  where
+    after : progress source'' sink'' found_counts ends.0 ≡ progress source' sink' counts ends.0
+    after =
+        let a = sym back.0 in
+        let b = sym back.1 in
+        let t = sym told.0 in cc
 
 -- a handshake that was accepted and a run after it are a session
 pub Exchange-opened : {F : Type 0} (promise : Promise F) (page : ℕ) (fs : F) (source : SourceState) (sink : SinkState) (session : Opened F)
@@ -75,11 +86,11 @@ Headline-ran promise page fs fs' source source' sink sink' session outcome count
     (Exchange-opened promise page fs source sink session outcome q opened ran.ends)) refl lossless
 
 -- where nothing is amiss, a run ends well
-Ok-from_end : {owed : Owing} (end : End) (p q : Progress) (turns : List (List ℕ)) → Run owed 0 end p q → p.source.turns ≡ Some turns
+Ok-from_end : (owed : Owing) (end : End) (p q : Progress) (turns : List (List ℕ)) → Run (InOrder owed 0) end p q → p.source.turns ≡ Some turns
     → GoodHeaders (map message turns) → Unfailing p.source q.source → run_outcome end ≡ Ok tt
-Ok-from_end Gone p q turns run told good unfailing = refl
-Ok-from_end Destroyed p q turns run told good unfailing = refl
-Ok-from_end (Broken e) p q turns run told good unfailing =
+Ok-from_end owed Gone p q turns run told good unfailing = refl
+Ok-from_end owed Destroyed p q turns run told good unfailing = refl
+Ok-from_end owed (Broken e) p q turns run told good unfailing =
     let left = told-after run.turns turns p.source q.source told (run.taken (λ is. cc)) in
     let heard : map message turns ≡ run.answered ++ (run.refused ++ map message left.left) =
     ap (map message) left.both
@@ -89,7 +100,7 @@ Ok-from_end (Broken e) p q turns run told good unfailing =
     absurd (never-broken run.answered run.ended.0.0 (map message left.left) e run.ended.1 run.ended.0.2
     (subst (λ (r : List (List ℕ)). GoodHeaders (run.answered ++ (r ++ map message left.left))) run.ended.0.1
     (subst GoodHeaders heard good)))
-Ok-from_end Failed p q turns run told good unfailing = absurd (no-failure p.source q.source unfailing.same unfailing.counts run.ended.2)
+Ok-from_end owed Failed p q turns run told good unfailing = absurd (no-failure p.source q.source unfailing.same unfailing.counts run.ended.2)
 
 pub Ok-from_run : {F : Type 0} (promise : Promise F) (session : Opened F) (fs' : F) (outcome : Outcome) (source' : SourceState) (sink' : SinkState)
     (counts : Transcript) → Ran promise session fs' outcome source' sink' counts → RunWell session source' → outcome ≡ Ok tt
@@ -100,7 +111,7 @@ Ok-from_run promise session fs' outcome source' sink' counts ran well =
         (progress source' sink' counts ran.unasked) → outcome ≡ Ok tt
     by_end (inl none) = absurd (well.served none.0)
     by_end (inr some) =
-        some.1.1 ∙ Ok-from_end some.1.0 session.progress (progress source' sink' counts ran.unasked) well.turns some.1.2 well.told well.good
+        some.1.1 ∙ Ok-from_end (Owed promise session.filesystem session.acl session.owner) some.1.0 session.progress (progress source' sink' counts ran.unasked) well.turns some.1.2 well.told well.good
         well.unfailing
 
 -- the outcome of a handshake that a message ended
@@ -111,18 +122,19 @@ opens_none-refused (refusal.Init n) = tt
 
 -- a session that its handshake ended, and all that is left of it
 pub Closed-unopened : {F : Type 0} (promise : Promise F) (page : ℕ) (threads : Option ℕ) (acl : SessionACL) (owner : ℕ) (fs fs1 fs' : F)
-    (outcome found : Outcome) (before after : Progress) (source source' : SourceState) (sink sink' : SinkState) (counts : Transcript)
+    (outcome found : Outcome) (before after : Progress) (source source' : SourceState) (sink sink' : SinkState) (counts found_counts : Transcript)
     → Unopened (setup_of promise page threads acl owner) fs fs1 found before after → before ≡ progress source sink nothing_yet []
-    → outcome ≡ found → after ≡ progress source' sink' counts after.unasked → promise.may_destroy fs1 fs'
+    → (counts ≡ found_counts) × (outcome ≡ found) → after ≡ progress source' sink' found_counts [] → promise.may_destroy fs1 fs'
     → Closed (setup_of promise page threads acl owner) fs fs' outcome source source' sink sink' counts
-Closed-unopened {F} promise page threads acl owner fs fs1 fs' outcome found before after source source' sink sink' counts unopened start is
-    handed_back destroyed =
+Closed-unopened {F} promise page threads acl owner fs fs1 fs' outcome found before after source source' sink sink' counts found_counts unopened start
+    told handed_back destroyed =
     record {
       fs1 = fs1;
-      unasked = after.unasked;
-      unopened = subst (λ (o : Outcome). Unopened s fs fs1 o (progress source sink nothing_yet []) (progress source' sink' counts after.unasked)) (sym is)
-          (subst (λ (p : Progress). Unopened s fs fs1 found p (progress source' sink' counts after.unasked)) start
-          (subst (λ (q : Progress). Unopened s fs fs1 found before q) handed_back unopened));
+      unasked = [];
+      unopened = subst (λ (o : Outcome). Unopened s fs fs1 o (progress source sink nothing_yet []) (progress source' sink' counts [])) (sym told.1)
+          (subst (λ (p : Progress). Unopened s fs fs1 found p (progress source' sink' counts [])) start
+          (subst (λ (t : Transcript). Unopened s fs fs1 found before (progress source' sink' t [])) (sym told.0)
+          (subst (λ (q : Progress). Unopened s fs fs1 found before q) handed_back unopened)));
       destroyed = destroyed;
     }
   where

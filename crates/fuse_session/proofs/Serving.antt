@@ -11,10 +11,9 @@ use Rattle.fuse_request.specs.Header.{Decodes, header, header_fields, header_of,
 use Rattle.fuse_request.specs.Opcode.{FUSE_DESTROY}
 use Rattle.fuse_request.specs.Operation.{Op, operation}
 use Rattle.fuse_reply.specs.declared.out.Out.{Out}
-use Rattle.fuse_session.specs.Incoming.{incoming, incoming_by, IsBroken}
-use Rattle.fuse_session.specs.Incoming.Incoming.{Destroy, Request}
+use Rattle.fuse_workers.specs.Incoming.{IsBroken, id_of}
 use Rattle.fuse_session.specs.Promise.{Promise}
-use Rattle.fuse_session.specs.Verdict.{Verdict, verdict, verdict_by, serving, admitted_operation, id_of}
+use Rattle.fuse_session.specs.Verdict.{Verdict, verdict, verdict_by, serving, admitted_operation}
 use Rattle.fuse_session.specs.Verdict.Verdict.{Ends}
 use Rattle.fuse_session.specs.Owed.{Owes, Owed, OwedBy, OwedMessage}
 
@@ -30,10 +29,6 @@ pub header-fields : (m : List ℕ) (h : Header) → header m ≡ Ok h → h ≡ 
 header-fields m h is =
     ok-header (nat_lt (length m) 40) (nat_lt (length m) (number m 0 4)) (nat_lt (number m 0 4) 40)
     (ShortReadHeader (length m)) (ShortRead (length m) (number m 0 4)) InsufficientData (header_fields m) h is
-
--- the run goes on after a request that is no DESTROY
-pub incoming-request : (m : List ℕ) (h : Header) → header m ≡ Ok h → (h.opcode == FUSE_DESTROY) ≡ false → incoming m ≡ Request
-incoming-request m h good other = ap incoming_by good ∙ ap (λ (b : Bool). if b then Destroy else Request) other
 
 -- what its verdict owes a request is what its message is owed
 pub Owed-request : (owes : Owes) (acl : SessionACL) (owner seq : ℕ) (out : Out) (request : AnyRequest) (m : List ℕ) (found : Result Op ℕ)

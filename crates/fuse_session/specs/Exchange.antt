@@ -4,23 +4,22 @@ use Rattle.fuse_wire.specs.Source.{SourceState, Takes, message, NothingLeft, Fai
 use Rattle.fuse_wire.specs.Sink.{SinkState, Note}
 use Rattle.fuse_config.specs.declared.config.Config.{Config}
 use Rattle.fuse_config.specs.declared.session_acl.SessionACL.{SessionACL}
-use Rattle.fuse_request.specs.Header.{header}
 use Rattle.fuse_request.specs.declared.error.RequestError.{RequestError}
 use Rattle.fuse_reply.specs.declared.out.Out.{Out}
 use Rattle.fuse_reply.specs.declared.out.Out.TheVariants.{Frame}
 use Rattle.fuse_session.specs.Promise.{Promise}
-use Rattle.fuse_session.specs.Incoming.{AllGoOn, EndsWell}
+use Rattle.fuse_workers.specs.Incoming.{AllGoOn, EndsWell, HeaderRefused}
 use Rattle.fuse_session.specs.Owed.{Owed}
-use Rattle.fuse_session.specs.OneEach.{InOrder}
+use Rattle.fuse_workers.specs.OneEach.{InOrder}
 use Rattle.fuse_session.specs.Handshake.{HandshakeEnd, Handshake}
 use Rattle.fuse_session.specs.Handshake.HandshakeEnd.{Open, Accepted, Failed}
-use Rattle.fuse_session.specs.Progress.{Progress, Moves, Begins, LeavesOut, nothing_yet, progress}
+use Rattle.fuse_workers.specs.Progress.{Progress, Moves, Begins, LeavesOut, nothing_yet, progress}
 use Rattle.fuse_session.specs.declared.error.InvalidData.TheVariants.{Header}
 use Rattle.fuse_session.specs.declared.error.SessionError.{SessionError}
 use Rattle.fuse_session.specs.declared.error.SessionError.TheVariants.{Conflict, AutoUnmount, CloneFd, Memory}
 use Rattle.fuse_session.specs.declared.error.SessionError.TheVariants.{NotConnected, InvalidData, Unsupported, Init, Threads, Receive}
 use Rattle.fuse_session.specs.declared.greeting.HandshakeError.TheVariants as refusal
-use Rattle.fuse_session.specs.declared.transcript.Transcript.{Transcript}
+use Rattle.fuse_workers.specs.declared.transcript.Transcript.{Transcript}
 
 -- what a session is set up with
 pub record Setup (F : Type 0) : Type 1 where
@@ -46,10 +45,6 @@ HandshakeAlone end' end answered refused = (end ≡ end') × (answered ≡ []) �
 -- the handshake was accepted, and some thread is to serve the run after it
 abbrev pub RunFollows : (threads : Option ℕ) → HandshakeEnd → Type 0
 RunFollows threads end = (end ≡ Accepted) × (threads ≢ Some 0)
-
--- one message has this refusal of its header
-abbrev pub HeaderRefused : RequestError → (refused : List (List ℕ)) → Type 0
-HeaderRefused e refused = (last : List ℕ) × (refused ≡ last ∷ []) × (header last ≡ Err e)
 
 -- Why a session had this outcome. Ok: all later messages were answered, up to the last one there is, or DESTROY. NotConnected: no
 -- message was left in the handshake. InvalidData: the handshake ended so, or the last header is refused. Unsupported and Init: the

@@ -1,17 +1,12 @@
 pub mod Promise
-pub mod Incoming
 pub mod Verdict
 pub mod Kind
 pub mod Defaults
 pub mod Owed
 pub mod Asked
-pub mod OneEach
-pub mod FrameLine
-pub mod Progress
 pub mod Handshake
 pub mod HandshakeStep
 pub mod Exchange
-pub mod EventLoop
 pub mod SessionEnd
 pub mod Session
 pub mod Headline

@@ -19,9 +19,9 @@ use Rattle.fuse_reply.specs.declared.out.Out.TheVariants.{Frame, Note, Deferred}
 use Rattle.fuse_config.specs.declared.session_acl.SessionACL.{SessionACL}
 use Rattle.fuse_session.specs.Kind.{IsOfKind}
 use Rattle.fuse_session.specs.Promise.{Promise, MayAnswer}
-use Rattle.fuse_session.specs.Incoming.{incoming, incoming_by}
-use Rattle.fuse_session.specs.Incoming.Incoming.{Destroy, Request as IsRequest}
-use Rattle.fuse_session.specs.Verdict.{Verdict, verdict, verdict_by, serving, admitted_operation, id_of}
+use Rattle.fuse_workers.specs.Incoming.{incoming, incoming_by, id_of}
+use Rattle.fuse_workers.specs.Incoming.Incoming.{Destroy, Request as IsRequest}
+use Rattle.fuse_session.specs.Verdict.{Verdict, verdict, verdict_by, serving, admitted_operation}
 use Rattle.fuse_session.specs.Verdict.Verdict.{Broken, Ends, Fixed, Forgets, Calls}
 
 -- the filesystem's promise allows this answer to the call

@@ -7,7 +7,7 @@ use Rattle.fuse_config.specs.declared.mount_option.MountOption.{MountOption}
 use Rattle.fuse_config.specs.declared.mount_option.MountOption.TheVariants as option
 use Rattle.fuse_config.specs.declared.session_acl.SessionACL.TheVariants.{Owner}
 use Rattle.fuse_session.specs.Exchange.{Outcome}
-use Rattle.fuse_session.specs.Progress.{nothing_yet}
+use Rattle.fuse_workers.specs.Progress.{nothing_yet}
 use Rattle.fuse_session.specs.declared.ended.Ended.{Ended}
 use Rattle.fuse_session.specs.declared.error.SessionError.{SessionError}
 use Rattle.fuse_session.specs.declared.error.SessionError.TheVariants.{Conflict, AutoUnmount, CloneFd, Memory}

@@ -1,7 +1,6 @@
 -- What the product itself fixes about a message after the handshake, before any filesystem is asked.
 use Rattle.std.specs.Prelude.{◌==◌, ◌||◌, ℕ, Bool, true, false, List, [], ◌∷◌, Option, None, Some, Result, Ok, Err, if◌then◌else◌}
 use Rattle.fuse_wire.specs.ErrorNumbers.{EIO, EACCES, ENOSYS}
-use Rattle.fuse_wire.specs.Numbers.{number}
 use Rattle.fuse_config.specs.declared.session_acl.SessionACL.{SessionACL}
 use Rattle.fuse_config.specs.declared.session_acl.SessionACL.TheVariants.{All, RootAndOwner, Owner}
 use Rattle.fuse_request.specs.declared.error.RequestError.{RequestError}
@@ -14,10 +13,6 @@ use Rattle.fuse_request.specs.Opcode.{FUSE_READDIR, FUSE_RELEASEDIR, FUSE_FSYNCD
 use Rattle.fuse_request.specs.Operation.{Op, operation}
 use Rattle.fuse_request.specs.Operation.Op.{Forget, Init, Read, Write, Interrupt, NotifyReply, CuseInit, IoCtl, BatchForget, FAllocate}
 use Rattle.fuse_request.specs.Operation.Op.{CopyFileRange}
-
--- the id of the request
-abbrev pub id_of : List ℕ → ℕ
-id_of m = number m 8 8
 
 -- INIT and DESTROY pass whoever sends them, and so does what goes by an open file or gives up an inode
 abbrev pub passing : List ℕ

@@ -1,19 +1,22 @@
 // What a request comes to: an error that the product fixes, or what the filesystem answers.
-ghost use Rattle.std.specs.Prelude.{◌≡◌, ℕ};
+ghost use Rattle.std.specs.Prelude.{◌≡◌, ◌==◌, ℕ, List, Ok, false};
+ghost use Rattle.fuse_request.specs.Header.{Decodes, header_of};
+ghost use Rattle.fuse_request.specs.Opcode.{FUSE_DESTROY};
 ghost use Rattle.fuse_session.specs.Asked.{IsOwed};
 ghost use Rattle.fuse_session.specs.Owed.{Owed-destroy, OwedMessage};
-ghost use Rattle.fuse_session.specs.Progress.{IsPrompt};
+ghost use Rattle.fuse_workers.specs.Progress.{IsPrompt};
 
 use crate::access::AccessRule;
 use crate::asked::Asked;
 use crate::handler::Handler;
 use crate::refusal::refusal;
-use crate::work::Work;
 use fuse_notify::Notifier;
-use fuse_reply::Out;
+use fuse_reply::{Door, NoDoor, Out};
 use fuse_request::{AnyRequest, Operation};
 use fuse_wire::Errno;
+use fuse_workers::Work;
 use std::alloc::Global;
+use std::sync::Wait;
 
 /// A handler, for those whom the rule admits.
 pub(crate) struct Service<H> {
@@ -22,6 +25,33 @@ pub(crate) struct Service<H> {
 }
 
 impl<H: Handler> Service<H> {
+    /// What a request comes to, which is no DESTROY.
+    #[inline(always)]
+    fn answer_request(
+        &self,
+        alloc: Global,
+        notifier: &mut Notifier,
+        request: &AnyRequest<'_>,
+    ) -> Out
+        requires { ((header_of request.now).opcode == FUSE_DESTROY) ≡ false }
+        ensures owed { (seq : ℕ) (m : List ℕ) → Decodes (Ok request.now) m →
+            OwedMessage (H.owes self.now.handler) self.now.rule.acl self.now.rule.owner seq m result }
+        ensures prompt { IsPrompt result }
+    {
+        let id = request.unique();
+        let operation = match self.rule.operation(request) {
+            Ok(operation) => operation,
+            Err(error) => return refusal(alloc, id, error),
+        };
+        let asked = Asked {
+            alloc,
+            id,
+            node: request.nodeid(),
+            request: request.request(),
+        };
+        self.serve(&asked, notifier, &operation)
+    }
+
     /// What an operation of a user who is served comes to.
     #[inline(always)]
     fn serve(&self, asked: &Asked, notifier: &mut Notifier, operation: &Operation<'_>) -> Out
@@ -78,29 +108,27 @@ impl<H: Handler> Service<H> {
     }
 }
 
-impl<H: Handler> Work for Service<H> {
+impl<H: Handler + Sync> Work for Service<H> {
     ghost owed = { λ service. OwedMessage (H.owes service.handler) service.rule.acl service.rule.owner };
 
+    const DEFERS: bool = false;
+
+    ghost DEFERS = { false };
+
     #[inline(always)]
-    fn answer(
+    fn answer<R: Wait + AllocGlobal>(
         &self,
-        alloc: Global,
+        rt: &R,
         notifier: &mut Notifier,
+        _door: Result<Door, NoDoor>,
         _seq: u64,
-        request: &AnyRequest<'_>,
+        message: &[u8],
     ) -> Out {
-        let id = request.unique();
-        let operation = match self.rule.operation(request) {
-            Ok(operation) => operation,
-            Err(error) => return refusal(alloc, id, error),
-        };
-        let asked = Asked {
-            alloc,
-            id,
-            node: request.nodeid(),
-            request: request.request(),
-        };
-        self.serve(&asked, notifier, &operation)
+        match AnyRequest::try_from(message) {
+            Ok(request) => self.answer_request(rt.alloc(), notifier, &request),
+            // Its header was looked at before.
+            Err(_) => unreachable!(),
+        }
     }
 
     ghost owed_to_destroy = { λ service seq m is.

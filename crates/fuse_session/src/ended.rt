@@ -1,12 +1,10 @@
 // How a session ended.
 ghost use Rattle.std.specs.Prelude.{◌≡◌};
-ghost use Rattle.fuse_session.specs.Progress.{nothing_yet, progress};
+ghost use Rattle.fuse_workers.specs.Progress.{nothing_yet};
 ghost use Rattle.fuse_session.specs.SessionEnd.{run_outcome};
 
-use crate::channel::Channel;
-use crate::event_loop::End;
 use crate::{Filesystem, InvalidData, SessionError, Transcript};
-use fuse_wire::{Sink, Source};
+use fuse_workers::End;
 
 /// How a session ended. It hands back all that the session was given.
 #[derive(Debug)]
@@ -23,16 +21,14 @@ pub struct Ended<FS, S, K> {
     pub transcript: Transcript,
 }
 
-impl End {
-    /// The outcome of a session whose run ended so.
-    pub(crate) fn outcome(self) -> Result<(), SessionError>
-        ensures { result ≡ run_outcome self }
-    {
-        match self {
-            End::Gone | End::Destroyed => Ok(()),
-            End::Broken(error) => Err(SessionError::InvalidData(InvalidData::Header(error))),
-            End::Failed => Err(SessionError::Receive),
-        }
+/// The outcome of a session whose run ended so.
+pub(crate) fn run_outcome(end: End) -> Result<(), SessionError>
+    ensures { result ≡ run_outcome end }
+{
+    match end {
+        End::Gone | End::Destroyed => Ok(()),
+        End::Broken(error) => Err(SessionError::InvalidData(InvalidData::Header(error))),
+        End::Failed => Err(SessionError::Receive),
     }
 }
 
@@ -61,18 +57,18 @@ pub(crate) fn untouched<FS, S, K>(
 }
 
 /// The end of a session that took memory: `destroy` is called, and all is handed back.
-pub(crate) fn destroyed<FS: Filesystem, S: Source, K: Sink>(
+pub(crate) fn destroyed<FS: Filesystem, S, K>(
     mut filesystem: FS,
-    channel: Channel<S, K>,
+    source: S,
+    sink: K,
+    transcript: Transcript,
     outcome: Result<(), SessionError>,
 ) -> Ended<FS, S, K>
     ensures destroyed { FS.promise.may_destroy filesystem result.filesystem }
-    ensures outcome { result.outcome ≡ outcome }
-    ensures channel { channel.progress ≡
-        progress (S.told result.source) (K.told result.sink) result.transcript channel.progress.unasked }
+    ensures handed_back { (result.source ≡ source) × (result.sink ≡ sink) }
+    ensures told { (result.transcript ≡ transcript) × (result.outcome ≡ outcome) }
 {
     filesystem.destroy();
-    let (source, sink, transcript) = channel.into_parts();
     Ended {
         filesystem,
         source,

@@ -7,7 +7,7 @@ ghost use Rattle.fuse_reply.specs.declared.out.Out.TheVariants.{Frame};
 ghost use Rattle.fuse_request.specs.declared.operation.Operation.{Operation};
 ghost use Rattle.fuse_request.specs.declared.request.Request.{Request};
 ghost use Rattle.fuse_session.specs.Asked.{IsOwed};
-ghost use Rattle.fuse_session.specs.Progress.{IsPrompt};
+ghost use Rattle.fuse_workers.specs.Progress.{IsPrompt};
 ghost use Rattle.fuse_session.specs.Verdict.{Verdict};
 ghost use Rattle.fuse_session.specs.Verdict.Verdict.{Ends, Fixed};
 

@@ -4,15 +4,14 @@ ghost use Rattle.fuse_reply.specs.Frame.{frame};
 ghost use Rattle.fuse_session.specs.Handshake.{Negotiates};
 ghost use Rattle.fuse_session.specs.HandshakeStep.{HandshakeRun, OneStep, end_of};
 
-use crate::channel::Channel;
 use crate::greeting::{Greeting, HandshakeError, Offer};
 use crate::refusal::refusal;
-use crate::taken::Taken;
 use crate::{Filesystem, InvalidData};
 use fuse_config::{KernelConfig, version_reply};
 use fuse_reply::{Out, ReplyData};
 use fuse_request::Request;
 use fuse_wire::{Errno, RequestId, Sink, Source};
+use fuse_workers::{Channel, Taken};
 use std::alloc::Global;
 use std::sync::Wait;
 

@@ -7,10 +7,10 @@ ghost use Rattle.fuse_session.specs.Verdict.{fixed_error, is_forget, served, ver
 
 use crate::Verdict;
 use crate::access::AccessRule;
-use crate::incoming::Incoming;
 use fuse_config::SessionACL;
 use fuse_request::Operation;
 use fuse_wire::Errno;
+use fuse_workers::Incoming;
 
 /// The error of an operation that no filesystem is asked.
 fn fixed_error(operation: &Operation<'_>) -> Option<Errno>

@@ -1,17 +1,17 @@
 // What a session looks at before anything is taken.
-ghost use Rattle.std.specs.Prelude.{◌≡◌, ◌↔◌, ◌⊎◌, [], IfErr, IfOk, IsTrue, MatchResult, length};
+ghost use Rattle.std.specs.Prelude.{◌≡◌, ◌↔◌, ◌⊎◌, IfErr, IfOk, IsTrue, MatchResult};
 ghost use Rattle.std.specs.List.{list_any};
+ghost use Rattle.fuse_workers.specs.Lines.{IsUnused};
 ghost use Rattle.fuse_session.specs.Refused.{ClonesDevice, ManyThreads, NotBegun, OptionsWell, RefusedAs, is_auto_unmount};
 
 use crate::SessionError;
-use crate::buffers::Buffers;
 use fuse_config::{Config, Conflict, MountOption, SessionACL, check_option_conflicts};
-use fuse_wire::consts::BUFFER_SIZE;
+use fuse_workers::Buffers;
 use std::alloc::Global;
 
 /// The memory of a session. The options are looked at first.
 pub(crate) fn prepare(alloc: Global, config: &Config) -> Result<Buffers, SessionError>
-    ensures ok { IfOk result (λ b. (length b.receive.items ≡ BUFFER_SIZE) × (b.frames.passed ≡ [])) }
+    ensures ok { IfOk result IsUnused }
     ensures well { IfOk result (λ _. OptionsWell config.now) }
     ensures refused { IfErr result (λ e. NotBegun config.now e) }
 {
@@ -22,7 +22,7 @@ pub(crate) fn prepare(alloc: Global, config: &Config) -> Result<Buffers, Session
 /// The memory of a session over a device that is mounted already. That each of several threads is to have its own is
 /// looked at first.
 pub(crate) fn prepare_device(alloc: Global, config: &Config) -> Result<Buffers, SessionError>
-    ensures ok { IfOk result (λ b. (length b.receive.items ≡ BUFFER_SIZE) × (b.frames.passed ≡ [])) }
+    ensures ok { IfOk result IsUnused }
     ensures well { IfOk result (λ _. ¬ (ClonesDevice config.now)) }
     ensures refused { IfErr result (λ e. ((e ≡ SessionError.CloneFd) × ClonesDevice config.now)
         ⊎ ((e ≡ SessionError.Memory) × ¬ (ClonesDevice config.now))) }
@@ -35,7 +35,7 @@ pub(crate) fn prepare_device(alloc: Global, config: &Config) -> Result<Buffers, 
 
 /// The memory of a session.
 fn take_memory(alloc: Global) -> Result<Buffers, SessionError>
-    ensures ok { IfOk result (λ b. (length b.receive.items ≡ BUFFER_SIZE) × (b.frames.passed ≡ [])) }
+    ensures ok { IfOk result IsUnused }
     ensures refused { IfErr result (λ e. e ≡ SessionError.Memory) }
 {
     match Buffers::new(alloc) {

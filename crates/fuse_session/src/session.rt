@@ -1,6 +1,8 @@
 // Sessions: opened by the handshake, and then run.
 ghost use Rattle.std.specs.Prelude.{◌≡◌, ◌≢◌, ◌<◌, ◌⊎◌, ◌↔◌, ℕ, [], Ok, Err, Some, IfErr, IfOk, MatchResult};
-ghost use Rattle.std.specs.Prelude.{false, length};
+ghost use Rattle.std.specs.Prelude.{List, false};
+ghost use Rattle.fuse_workers.specs.Lines.{IsUnused};
+ghost use Rattle.fuse_workers.specs.Progress.{progress};
 ghost use Rattle.fuse_config.specs.declared.session_acl.SessionACL.{SessionACL as ACL};
 ghost use Rattle.fuse_notify.specs.Queueing.{fresh_door};
 ghost use Rattle.fuse_session.specs.Complete.{AcceptsAll, HandshakeWell, RunWell, SessionWell};
@@ -15,18 +17,15 @@ ghost use Rattle.fuse_wire.specs.Sink.{SinkState};
 
 use crate::access::AccessRule;
 use crate::asking::Asking;
-use crate::buffers::Buffers;
-use crate::channel::Channel;
 use crate::dispatch::Service;
-use crate::ended::{destroyed, untouched};
-use crate::event_loop::run_inline;
+use crate::ended::{destroyed, run_outcome, untouched};
 use crate::handshake::{HandshakeOutcome, handshake};
 use crate::options::{prepare, prepare_device};
-use crate::{Ended, Filesystem, SessionError};
+use crate::{Ended, Filesystem, SessionError, Transcript};
 use fuse_config::{Config, SessionACL};
 use fuse_notify::Notifier;
-use fuse_wire::consts::BUFFER_SIZE;
 use fuse_wire::{NoMemory, Sink, Source};
+use fuse_workers::{Buffers, Channel, Lines, RunEnd, run_inline};
 use std::marker::Model;
 use std::sync::Wait;
 
@@ -35,11 +34,12 @@ use std::sync::Wait;
 pub struct Session<FS, S: Source, K: Sink> {
     service: Service<Asking<FS>>,
     n_threads: Option<usize>,
-    notifier: Notifier,
     channel: Channel<S, K>,
+    lines: Lines,
 }
 
 impl<FS, S: Source, K: Sink> Model for Session<FS, S, K> {
+    ghost use Rattle.fuse_workers.specs.Lines.{IsUnused};
     ghost use Rattle.fuse_session.specs.Session.{Opened};
 
     ghost Value = { Opened FS };
@@ -50,8 +50,10 @@ impl<FS, S: Source, K: Sink> Model for Session<FS, S, K> {
       owner = s.service.rule.owner;
       threads = s.n_threads;
       progress = s.channel.progress;
-      line = s.channel.line;
+      line = s.lines.frames.line;
     } };
+
+    ghost invariant = { λ s. IsUnused s.lines };
 }
 
 /// The handshake, whose refusal is the outcome of a session.
@@ -89,54 +91,81 @@ fn open<R: Wait + AllocGlobal, FS: Filesystem, S: Source, K: Sink>(
     n_threads: Option<usize>,
 ) -> Result<Session<FS, S, K>, Ended<FS, S, K>>
     requires page { 0 < page_size }
-    requires buffer { length buffers.receive.items ≡ BUFFER_SIZE }
-    requires frames { buffers.frames.passed ≡ [] }
+    requires unused { IsUnused buffers }
     ensures opened { IfOk result (λ s. IsOpened FS.promise page_size filesystem (S.told source) (K.told sink) s
         × Serves rule.acl rule.owner n_threads s) }
     ensures closed { IfErr result (λ e. OpensNone e.outcome
         × Closed (setup_of FS.promise page_size n_threads rule.acl rule.owner) filesystem e.filesystem e.outcome
         (S.told source) (S.told e.source) (K.told sink) (K.told e.sink) e.transcript) }
 {
-    let Buffers {
-        receive,
-        frames,
-        notifier,
-    } = buffers;
-    let mut channel = Channel::new(source, sink, receive, frames);
+    let (mut channel, lines) = Channel::open(source, sink, buffers);
     match shake(rt, &mut filesystem, page_size, &mut channel) {
         Ok(()) => {
             let handler = Asking { filesystem };
             Ok(Session {
                 service: Service { handler, rule },
                 n_threads,
-                notifier,
                 channel,
+                lines,
             })
         }
-        Err(error) => Err(destroyed(filesystem, channel, Err(error))),
+        Err(error) => {
+            let (source, sink, _, transcript) = channel.close(lines);
+            Err(destroyed(filesystem, source, sink, transcript, Err(error)))
+        }
     }
 }
 
-/// Serves a session that was opened. No thread is to serve where their number is 0.
+/// How the later messages were served.
+struct Served<S, K> {
+    outcome: Result<(), SessionError>,
+    transcript: Transcript,
+    source: S,
+    sink: K,
+}
+
+/// Serves a session that was opened, after a handshake with these counts. No thread is to serve where their number is 0.
 fn serve<R: Wait + AllocGlobal, FS: Filesystem, S: Source, K: Sink>(
     rt: &R,
     service: &Service<Asking<FS>>,
     n_threads: Option<usize>,
-    notifier: &mut Notifier,
-    channel: &mut Channel<S, K>,
-) -> Result<(), SessionError>
-    ensures { Ends FS.promise service.now.handler.filesystem service.now.rule.acl service.now.rule.owner n_threads
-        result channel.old.progress channel.new.progress }
+    shaken: Transcript,
+    source: S,
+    sink: K,
+    buffers: Buffers,
+) -> Served<S, K>
+    requires unused { IsUnused buffers }
+    ensures { (unasked : List (List ℕ)) × Ends FS.promise service.now.handler.filesystem
+        service.now.rule.acl service.now.rule.owner n_threads result.outcome
+        (progress (S.told source) (K.told sink) shaken [])
+        (progress (S.told result.source) (K.told result.sink) result.transcript unasked) }
 {
     if n_threads == Some(0) {
-        return Err(SessionError::Threads);
+        return Served {
+            outcome: Err(SessionError::Threads),
+            transcript: shaken,
+            source,
+            sink,
+        };
     }
-    run_inline(rt, service, notifier, channel).outcome()
+    let RunEnd {
+        end,
+        transcript,
+        source,
+        sink,
+        buffers: _,
+    } = run_inline(rt, service, source, sink, buffers);
+    Served {
+        outcome: run_outcome(end),
+        transcript: shaken.and(transcript),
+        source,
+        sink,
+    }
 }
 
 impl<FS: Filesystem, S: Source, K: Sink + Send> Session<FS, S, K> {
     /// Opens a session: first the options of `config` are looked at, then its memory is taken, the only memory that a
-    /// session takes itself (where messages are received, and the line of notices), and then the kernel is greeted.
+    /// session takes itself (where messages are received, and the lines of its run), and then the kernel is greeted.
     /// `owner` is the user whose session it is, and `config` says whose requests are served. `page_size` is in bytes, and
     /// not 0: the kernel is told how many pages a request may span.
     ///
@@ -293,15 +322,21 @@ impl<FS: Filesystem, S: Source, K: Sink + Send> Session<FS, S, K> {
         let Session {
             service,
             n_threads,
-            mut notifier,
-            mut channel,
+            channel,
+            lines,
         } = self;
-        let outcome = serve(rt, &service, n_threads, &mut notifier, &mut channel);
+        let (source, sink, buffers, shaken) = channel.close(lines);
+        let Served {
+            outcome,
+            transcript,
+            source,
+            sink,
+        } = serve(rt, &service, n_threads, shaken, source, sink, buffers);
         let Service {
             handler: Asking { filesystem },
             rule: _,
         } = service;
-        destroyed(filesystem, channel, outcome)
+        destroyed(filesystem, source, sink, transcript, outcome)
     }
 
     /// What queues notices, which the session sends after the reply that follows.
@@ -309,7 +344,7 @@ impl<FS: Filesystem, S: Source, K: Sink + Send> Session<FS, S, K> {
         ensures same { self.new ≡ self.old }
         ensures fresh { IfOk result (λ n. n ≡ fresh_door self.old.line) }
     {
-        self.channel.notifier()
+        self.lines.notifier()
     }
 }
 

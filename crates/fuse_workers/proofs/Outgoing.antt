@@ -18,7 +18,8 @@ use Rattle.fuse_workers.specs.declared.state.SentOut.{SentOut}
 use Rattle.fuse_workers.specs.declared.state.State.{State}
 use Rattle.fuse_workers.specs.Step.{Happens, Runs, empty, job, with_hand, went}
 use Rattle.fuse_workers.specs.Balanced.{Balanced, ParcelKeepsNumber}
-use Rattle.fuse_workers.specs.Owing.{Owing, OwedAt, EachOwed, IsOwed, OwedApart, SendsOwed}
+use Rattle.fuse_workers.specs.OneEach.{Owing}
+use Rattle.fuse_workers.specs.Owing.{OwedAt, EachOwed, IsOwed, OwedApart, SendsOwed}
 use Rattle.fuse_workers.proofs.Balancing.{Balanced-apart, Happens-balanced, all_at, empty-balanced, first_keeps}
 
 -- a message stays where it was received, whatever comes after it

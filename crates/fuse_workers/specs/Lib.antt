@@ -1,4 +1,10 @@
 pub mod Step
 pub mod Balanced
+pub mod Incoming
+pub mod OneEach
 pub mod Owing
 pub mod Answering
+pub mod Arrives
+pub mod Lines
+pub mod Progress
+pub mod EventLoop

@@ -9,11 +9,8 @@ use Rattle.fuse_workers.specs.declared.state.Hand.TheVariants.{Asked}
 use Rattle.fuse_workers.specs.declared.state.Job.{Job}
 use Rattle.fuse_workers.specs.declared.state.State.{State}
 use Rattle.fuse_workers.specs.Balanced.{settled}
+use Rattle.fuse_workers.specs.OneEach.{Owing}
 use Rattle.fuse_workers.specs.Step.{Happens, Runs, empty}
-
--- what a message is owed, by its number
-abbrev pub Owing : Type 1
-Owing = ℕ → List ℕ → Out → Type 0
 
 -- what passes a test is owed
 abbrev pub passes : (ℕ → List ℕ → Out → Bool) → Owing

@@ -1,7 +1,12 @@
 // What answers messages.
 ghost use Rattle.std.specs.Prelude.{◌≡◌, ℕ, List, Bool};
 ghost use Rattle.fuse_reply.specs.declared.out.Out.{Out as Goes};
+ghost use Rattle.fuse_reply.specs.Answer.Answer.{Empty};
+ghost use Rattle.fuse_reply.specs.Frame.{reply};
+ghost use Rattle.fuse_reply.specs.declared.out.Out.TheVariants.{Frame};
 ghost use Rattle.fuse_workers.specs.Answering.{DoorFits, IsRequest, MayComeLater};
+ghost use Rattle.fuse_workers.specs.Incoming.{id_of, incoming};
+ghost use Rattle.fuse_workers.specs.Incoming.Incoming.{Destroy};
 
 use fuse_notify::Notifier;
 use fuse_reply::{Door, NoDoor, Out};
@@ -34,4 +39,8 @@ pub trait Work: Sync {
         requires door { DoorFits DEFERS door }
         ensures owed { owed self.now seq message.now result }
         ensures later { MayComeLater door seq message.now result };
+
+    /// DESTROY is owed an empty reply, which the run gives itself.
+    ghost owed_to_destroy: { (work : Self) (seq : ℕ) (m : List ℕ) → incoming m ≡ Destroy
+        → owed work seq m (Frame (reply (id_of m) Empty)) };
 }

@@ -1,12 +1,13 @@
 -- A run, and the session that it ends.
-use Rattle.std.proofs.Common.{sym}
+use Rattle.std.proofs.Common.{ap, sym}
 use Rattle.fuse_session.proofs.Running.{Headline-ran, Mounted-ran, Ok-from_run, Ran-ends}
 use Rattle.fuse_session.proofs.session.Session.run.Goals as goal
 
 pub returns-clause-ran : goal.returns-clause-ran
 returns-clause-ran g c =
-    Ran-ends g.FS.Filesystem.promise c.args.self _ _ _ _ _ _ _ _ (sym c.self.view_is) c.serve-outcome.ensures c.destroyed.ensures.outcome
-    c.destroyed.ensures.channel c.destroyed.ensures.destroyed
+    Ran-ends g.FS.Filesystem.promise c.args.self _ _ _ _ _ _ _ _ _ _ _ _ _ (sym c.self.view_is) c.close-source.ensures.channel c.serve-outcome.ensures
+    c.destroyed.ensures.told (ap g.S.Source.told c.destroyed.ensures.handed_back.0, ap g.K.Sink.told c.destroyed.ensures.handed_back.1)
+    c.destroyed.ensures.destroyed
 
 pub returns-clause-session : goal.returns-clause-session
 returns-clause-session g c page fs source sink opened =

@@ -1,0 +1,40 @@
+-- The lines of a run: messages on their way to workers, and frames on their way to the sink.
+use Rattle.std.specs.Prelude.{◌≡◌, ℕ, Bool, List, [], ◌∷◌, filter, flat_map}
+use Rattle.std.specs.List.Sorted.{IsPermutation}
+use Rattle.atomic_table.specs.Seated.{TableId}
+use Rattle.fuse_line.specs.Hand.{hand}
+use Rattle.fuse_line.specs.Seen.{Seen}
+use Rattle.fuse_line.specs.declared.hand.Kind.TheVariants.{First}
+use Rattle.fuse_reply.specs.declared.parcel.Parcel.{Parcel}
+use Rattle.fuse_reply.specs.declared.parcel.Parcel.TheVariants.{Prompt, Notice}
+use Rattle.fuse_workers.specs.declared.state.Job.{Job}
+
+-- the notices among these, in order
+abbrev pub notice_in : Parcel → List (List ℕ)
+notice_in (Notice frame) = frame ∷ []
+notice_in (Prompt seq out) = []
+
+abbrev pub notices_in : List Parcel → List (List ℕ)
+notices_in parcels = flat_map notice_in parcels
+
+-- the first pass of this line, which counts no other, and took each inner item that it pushed: whoever else pushes has a door, and no
+-- inner item waits
+pub record IsAlone {T : Type 0} (inner : T → Bool) (line : TableId) (pass : Seen T) : Type 0 where
+  pub line_is : pass.line ≡ line
+  pub first : pass.hand.kind ≡ First
+  pub alone : pass.hand.others ≡ 0
+  pub settled : IsPermutation (filter inner pass.hand.put) (filter inner pass.hand.taken)
+
+-- what a contract sees of both lines: their first passes
+pub record LinesState : Type 0 where
+  pub frames : Seen Parcel
+  pub jobs : Seen Job
+
+-- the notices that were taken off the line of frames
+abbrev pub unasked_of : LinesState → List (List ℕ)
+unasked_of lines = notices_in lines.frames.hand.taken
+
+-- nothing was pushed or taken yet by a first pass
+pub record IsUnused (lines : LinesState) : Type 0 where
+  pub frames : lines.frames.hand ≡ hand First 0 [] []
+  pub jobs : lines.jobs.hand ≡ hand First 0 [] []

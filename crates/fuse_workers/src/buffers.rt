@@ -1,0 +1,86 @@
+// What a session takes before its first message.
+ghost use Rattle.std.specs.Prelude.{◌≡◌, IfOk};
+ghost use Rattle.fuse_notify.specs.Queueing.{fresh_door};
+ghost use Rattle.fuse_workers.specs.Lines.{IsUnused};
+
+use crate::Job;
+use crate::run_line::RunLine;
+use fuse_notify::Notifier;
+use fuse_reply::Parcel;
+use fuse_wire::{NoMemory, receive_buffer};
+use std::alloc::Global;
+use std::marker::Model;
+
+/// The lines of a run, with what makes the notifier of each poll.
+#[derive(Drop)]
+pub struct Lines {
+    /// The frames that wait to be sent.
+    pub(crate) frames: RunLine<Parcel>,
+    /// The messages that wait for a worker.
+    pub(crate) jobs: RunLine<Job>,
+    pub(crate) notifier: Notifier,
+}
+
+impl Model for Lines {
+    ghost use Rattle.fuse_workers.specs.Lines.{LinesState};
+
+    ghost Value = { LinesState };
+
+    ghost view = { λ l. record { frames = l.frames; jobs = l.jobs } };
+}
+
+impl Lines {
+    /// What queues notices for whoever sends.
+    pub fn notifier(&mut self) -> Result<Notifier, NoMemory>
+        ensures same { self.new ≡ self.old }
+        ensures fresh { IfOk result (λ n. n ≡ fresh_door self.old.frames.line) }
+    {
+        self.frames.notifier()
+    }
+}
+
+/// The memory of a session, all of it taken before the first message: where messages are received, and the lines of
+/// its run. A contract sees the lines.
+#[derive(Drop)]
+pub struct Buffers {
+    pub(crate) receive: Vec<u8>,
+    pub(crate) lines: Lines,
+}
+
+impl Model for Buffers {
+    ghost use Rattle.std.specs.Prelude.{◌≡◌, length};
+    ghost use Rattle.fuse_wire.specs.declared.consts.TheConstants.{BUFFER_SIZE};
+    ghost use Rattle.fuse_workers.specs.Lines.{LinesState};
+
+    ghost Value = { LinesState };
+
+    ghost view = { λ b. b.lines };
+
+    ghost invariant = { λ b. length b.receive.items ≡ BUFFER_SIZE };
+}
+
+impl Buffers {
+    /// Takes it.
+    pub fn new(alloc: Global) -> Result<Buffers, NoMemory>
+        ensures { IfOk result IsUnused }
+    {
+        let receive = receive_buffer(alloc)?;
+        let mut frames = RunLine::new(alloc)?;
+        let jobs = RunLine::new(alloc)?;
+        let notifier = frames.notifier()?;
+        let lines = Lines {
+            frames,
+            jobs,
+            notifier,
+        };
+        Ok(Buffers { receive, lines })
+    }
+
+    /// What queues notices for whoever sends.
+    pub fn notifier(&mut self) -> Result<Notifier, NoMemory>
+        ensures same { self.new ≡ self.old }
+        ensures fresh { IfOk result (λ n. n ≡ fresh_door self.old.frames.line) }
+    {
+        self.lines.notifier()
+    }
+}

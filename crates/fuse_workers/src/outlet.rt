@@ -1,0 +1,69 @@
+// The end that frames go out by.
+ghost use Rattle.std.specs.Prelude.{◌≡◌};
+ghost use Rattle.fuse_wire.specs.Source.{SourceState};
+ghost use Rattle.fuse_workers.specs.Lines.{notices_in};
+ghost use Rattle.fuse_workers.specs.Progress.{NoticesAlone, SendsNotice, SendsOnce, progress};
+ghost use Rattle.fuse_workers.specs.declared.transcript.Transcript.{Transcript as Counts};
+
+use crate::Transcript;
+use crate::run_line::RunLine;
+use fuse_reply::{NoticeFrame, Out, OutEnd, Parcel};
+use fuse_wire::Sink;
+use std::marker::Model;
+use std::sync::Wait;
+
+/// The sink of a session, and the counts of what went to it. A contract sees what the sink tells.
+#[derive(Drop)]
+pub(crate) struct Outlet<K: Sink> {
+    pub(crate) sink: K,
+    pub(crate) transcript: Transcript,
+}
+
+impl<K: Sink> Model for Outlet<K> {
+    ghost use Rattle.fuse_workers.specs.Progress.{OutletState};
+
+    ghost Value = { OutletState };
+
+    ghost view = { λ o. record { sink = K.told o.sink; counts = o.transcript } };
+}
+
+impl<K: Sink> Outlet<K> {
+    /// Hands something to the sink, and counts what became of it.
+    #[inline(always)]
+    pub(crate) fn deliver(&mut self, out: Out)
+        ensures { SendsOnce out self.old self.new }
+    {
+        match out.send(&mut self.sink) {
+            OutEnd::Written => {
+                self.transcript.frames = self.transcript.frames.saturating_add(1);
+            }
+            OutEnd::Noted => self.transcript.notes = self.transcript.notes.saturating_add(1),
+            OutEnd::Lost => self.transcript.lost = self.transcript.lost.saturating_add(1),
+            OutEnd::Marked => {}
+        }
+    }
+
+    /// Hands a notice to the sink. One that the sink does not take is not sent again, and is counted nowhere.
+    pub(crate) fn pass_on(&mut self, notice: NoticeFrame)
+        ensures { SendsNotice notice self.old self.new }
+    {
+        let _ = notice.send(&mut self.sink);
+    }
+
+    /// Hands each notice that waits to the sink, by a way that messages seldom take.
+    #[inline(never)]
+    pub(crate) fn send_notices<R: Wait>(&mut self, rt: &R, frames: &mut RunLine<Parcel>)
+        ensures notices { (source : SourceState) (counts : Counts) →
+            NoticesAlone (progress source self.old.sink counts (notices_in frames.old.hand.taken))
+            (progress source self.new.sink counts (notices_in frames.new.hand.taken)) }
+        ensures counts { self.new.counts ≡ self.old.counts }
+    {
+        for _ in rt.forever() {
+            match frames.next(rt) {
+                Some(notice) => self.pass_on(notice),
+                None => return,
+            }
+        }
+        unreachable!()
+    }
+}
