@@ -1,5 +1,5 @@
 -- A run whose counts are added to those of what came before it.
-use Rattle.std.proofs.Common.{◌≡◌, ◌∙◌, ◌+◌, ℕ, List, [], ap, arith, length, min, refl, sym}
+use Rattle.std.proofs.Common.{◌≡◌, ◌∙◌, ◌+◌, ℕ, List, ap, arith, length, min, refl}
 use Rattle.fuse_wire.specs.Faults.{counted, last_count}
 use Rattle.fuse_wire.specs.Source.{SourceState}
 use Rattle.fuse_wire.specs.Sink.{SinkState, Note}

@@ -51,3 +51,8 @@ Splits-map {A} {B} f (x ∷ xs) (y ∷ ys) zs is =
 
     cons-head : (a b : B) (l m : List B) → a ∷ l ≡ b ∷ m → a ≡ b
     cons-head a b l m h = cc
+
+-- all of a list passes a test that all pass
+pub filter-all : {A : Type 0} (xs : List A) → filter (λ (x : A). true) xs ≡ xs
+filter-all [] = refl
+filter-all {A} (x ∷ xs) = ap (λ (l : List A). x ∷ l) (filter-all xs)

@@ -9,3 +9,10 @@ mod FrameLines
 pub mod Order
 mod LoopSteps
 pub mod Adding
+mod Places
+mod Pairing
+mod Working
+mod Relaying
+mod Hearing
+mod Conducting
+mod Assembling

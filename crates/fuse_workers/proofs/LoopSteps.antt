@@ -14,8 +14,9 @@ use Rattle.std.specs.Prelude.{if◌then◌else◌, ◌==◌}
 use Rattle.fuse_reply.specs.declared.out.Out.{Out}
 use Rattle.fuse_reply.specs.declared.out.Out.TheVariants.{Frame, Note as Noting, Deferred}
 use Rattle.fuse_workers.specs.OneEach.{Owing, InOrder, number_of}
-use Rattle.fuse_workers.specs.Answering.{MayComeLater}
-use Rattle.fuse_workers.specs.Incoming.{AllGoOn, incoming, incoming_by}
+use Rattle.fuse_workers.specs.Answering.{IsRequest, MayComeLater}
+use Rattle.fuse_workers.specs.Incoming.{AllGoOn, IsBroken, incoming, incoming_by}
+use Rattle.fuse_workers.specs.Incoming.{Incoming}
 use Rattle.fuse_workers.specs.Incoming.Incoming.{Destroy, Request}
 use Rattle.fuse_workers.specs.Progress.{Progress, ChannelState, TakesNext, Moves, NoticesAlone, DeliversOnce, IsPrompt, beside}
 use Rattle.fuse_workers.specs.EventLoop.{Run, RunOn, RunEnds, OneTurn}
@@ -351,3 +352,13 @@ pub prompt-shut : (seq : ℕ) (m : List ℕ) (out : Out) → MayComeLater (Err S
 prompt-shut seq m (Frame f) later = tt
 prompt-shut seq m (Noting id mark) later = tt
 prompt-shut seq m (Deferred number id) later = absurd (let shut = later.0 in let no : ⊥ = cc in no)
+
+-- a request has a good header
+pub not-broken : (m : List ℕ) → IsRequest m → IsBroken m → ⊥
+not-broken m request broken = let no : Ok request.0 ≡ Err broken.0 = sym request.1 ∙ broken.1 in absurd (let bad : ⊥ = cc in bad)
+
+-- DESTROY has a good header
+pub destroy-not-broken : (m : List ℕ) → incoming m ≡ Destroy → IsBroken m → ⊥
+destroy-not-broken m is broken =
+    let no : Incoming.Broken broken.0 ≡ Destroy = sym (ap incoming_by broken.1) ∙ is in
+    absurd (let bad : ⊥ = cc in bad)

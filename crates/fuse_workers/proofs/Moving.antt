@@ -4,7 +4,7 @@ use Rattle.std.proofs.Common.{arith, length, length-append, append-nil, append_a
 use Rattle.std.proofs.lemmas.List.{map-append, nil_from_length}
 use Rattle.std.specs.Prelude.{filter}
 use Rattle.fuse_wire.specs.Faults.{counted, last_count}
-use Rattle.fuse_wire.specs.Sink.{SinkState, Note, Refuses, Appends, Sends, Tears}
+use Rattle.fuse_wire.specs.Sink.{SinkState, Note, Puts, Refuses, Appends, Sends, Tears}
 use Rattle.fuse_wire.specs.declared.sink.Sending.{Sending}
 use Rattle.fuse_wire.specs.declared.sink.Sending.TheVariants.{Sent, Absent, Failed}
 use Rattle.fuse_wire.specs.declared.newtypes.RequestId.{RequestId}
@@ -161,9 +161,9 @@ refused-one : (p : Out → Bool) (out : Out) (b : Bool) → p out ≡ b → filt
 refused-one p out b is = ap (λ (c : Bool). cond c (out ∷ []) []) is
 
 -- what was refused was lost
-lost-refused : {out : Out} {fs : List (List ℕ)} {ns : List Note} (p q : Progress) → is_notice out ≡ false → Refuses p.sink q.sink
-    → LeavesTail (out ∷ []) p.sink.tail q.sink.tail → q.counts ≡ counting Lost p.counts → q.unasked ≡ p.unasked → Handed out fs ns p q
-lost-refused {out} p q reply d ends e line = lost (record {
+pub Moves-refused : {out : Out} (p q : Progress) → is_notice out ≡ false → Refuses p.sink q.sink
+    → LeavesTail (out ∷ []) p.sink.tail q.sink.tail → q.counts ≡ counting Lost p.counts → q.unasked ≡ p.unasked → Moves 0 [] [] (out ∷ []) p q
+Moves-refused {out} p q reply d ends e line = record {
   appended = [];
   refused = out ∷ [];
   written = d.0;
@@ -174,31 +174,52 @@ lost-refused {out} p q reply d ends e line = lost (record {
   tail = ends;
   cause = λ below. omega (arith, d.1 below);
   counts = λ r g n l is. e ∙ (ap (λ (w : Transcript). record w { lost = counted w.lost 1 }) is ∙ one_lost r g n l);
-})
+}
 
 -- a reply alone is what is not set aside
 replies-one : (f : List ℕ) → is_set_aside f ≡ false → replies (f ∷ []) ≡ f ∷ []
 replies-one f reply = ap (λ (b : Bool). cond (not b) (f ∷ []) []) reply
+
+-- a frame was written
+pub Moves-frame : {f : List ℕ} (p q : Progress) → is_set_aside f ≡ false → Puts (f ∷ []) [] p.sink q.sink → q.counts ≡ counting Written p.counts
+    → q.unasked ≡ p.unasked → Moves 0 (f ∷ []) [] [] p q
+Moves-frame {f} p q reply puts e line = record {
+  appended = f ∷ [];
+  refused = [];
+  written = puts.0;
+  replied = replies-one f reply;
+  missed = refl;
+  passed_on = PassesOn-none (f ∷ []) [] line (ap (λ (b : Bool). cond b (f ∷ []) []) reply) refl;
+  set_aside = ((λ aside. absurd (let no : ⊥ = cc in no)), tt);
+  tail = puts.1;
+  cause = λ below. omega (arith, puts.0.faults);
+  counts = λ r g n l is. e ∙ (ap (λ (w : Transcript). record w { frames = counted w.frames 1 }) is ∙ one_frame r g n l);
+}
+
+-- a note was written
+pub Moves-note : {note : Note} (p q : Progress) → Puts [] (note ∷ []) p.sink q.sink → q.counts ≡ counting Noted p.counts → q.unasked ≡ p.unasked
+    → Moves 0 [] (note ∷ []) [] p q
+Moves-note p q puts e line = record {
+  appended = [];
+  refused = [];
+  written = puts.0;
+  replied = refl;
+  missed = refl;
+  set_aside = tt;
+  passed_on = PassesOn-none [] [] line refl refl;
+  tail = puts.1;
+  cause = λ below. omega (arith, puts.0.faults);
+  counts = λ r g n l is. e ∙ (ap (λ (w : Transcript). record w { notes = counted w.notes 1 }) is ∙ one_note r g n l);
+}
 
 -- a frame was handed to the sink
 pub Handed-frame : {f : List ℕ} {a b : ChannelState} → DeliversOnce (Frame f) a b → Handed (Frame f) (f ∷ []) [] a.progress b.progress
 Handed-frame {f} {a} {b} hands = by_end hands.end hands.delivered hands.counts where
   by_end : (end : OutEnd) → Delivers end (Frame f) a.progress.sink b.progress.sink → b.progress.counts ≡ counting end a.progress.counts
       → Handed (Frame f) (f ∷ []) [] a.progress b.progress
-  by_end Written puts e = took (record {
-    appended = f ∷ [];
-    refused = [];
-    written = puts.0;
-    replied = replies-one f hands.reply;
-    missed = refl;
-    passed_on = PassesOn-none (f ∷ []) [] hands.unasked (ap (λ (b : Bool). cond b (f ∷ []) []) hands.reply) refl;
-    set_aside = ((λ aside. absurd (let reply = hands.reply in let no : ⊥ = cc in no)), tt);
-    tail = puts.1;
-    cause = λ below. omega (arith, puts.0.faults);
-    counts = λ r g n l is. e ∙ (ap (λ (w : Transcript). record w { frames = counted w.frames 1 }) is ∙ one_frame r g n l);
-  })
+  by_end Written puts e = took (Moves-frame a.progress b.progress hands.reply puts e hands.unasked)
   by_end Noted d e = absurd d
-  by_end Lost d e = lost-refused a.progress b.progress hands.reply d.0 d.1 e hands.unasked
+  by_end Lost d e = lost (Moves-refused a.progress b.progress hands.reply d.0 d.1 e hands.unasked)
   by_end Marked d e = absurd d
 
 -- a note was handed to the sink
@@ -208,19 +229,8 @@ Handed-note {id} {mark} {a} {b} hands = by_end hands.end hands.delivered hands.c
   by_end : (end : OutEnd) → Delivers end (Noting id mark) a.progress.sink b.progress.sink → b.progress.counts ≡ counting end a.progress.counts
       → Handed (Noting id mark) [] ((id.0, mark) ∷ []) a.progress b.progress
   by_end Written d e = absurd d
-  by_end Noted puts e = took (record {
-    appended = [];
-    refused = [];
-    written = puts.0;
-    replied = refl;
-    missed = refl;
-    set_aside = tt;
-    passed_on = PassesOn-none [] [] hands.unasked refl refl;
-    tail = puts.1;
-    cause = λ below. omega (arith, puts.0.faults);
-    counts = λ r g n l is. e ∙ (ap (λ (w : Transcript). record w { notes = counted w.notes 1 }) is ∙ one_note r g n l);
-  })
-  by_end Lost d e = lost-refused a.progress b.progress refl d.0 d.1 e hands.unasked
+  by_end Noted puts e = took (Moves-note a.progress b.progress puts e hands.unasked)
+  by_end Lost d e = lost (Moves-refused a.progress b.progress refl d.0 d.1 e hands.unasked)
   by_end Marked d e = absurd d
 
 -- one stretch, and then another, by the turns that they took

@@ -8,3 +8,9 @@ pub mod Arrives
 pub mod Lines
 pub mod Progress
 pub mod EventLoop
+pub mod Pairing
+pub mod Threads
+pub mod Relays
+pub mod Hearing
+pub mod Promises
+pub mod Conducting

@@ -5,6 +5,7 @@ use Rattle.atomic_table.specs.Seated.{TableId}
 use Rattle.fuse_line.specs.Hand.{hand}
 use Rattle.fuse_line.specs.Seen.{Seen}
 use Rattle.fuse_line.specs.declared.hand.Kind.TheVariants.{First}
+use Rattle.fuse_reply.specs.Parcel.{is_prompt}
 use Rattle.fuse_reply.specs.declared.parcel.Parcel.{Parcel}
 use Rattle.fuse_reply.specs.declared.parcel.Parcel.TheVariants.{Prompt, Notice}
 use Rattle.fuse_workers.specs.declared.state.Job.{Job}
@@ -38,3 +39,12 @@ unasked_of lines = notices_in lines.frames.hand.taken
 pub record IsUnused (lines : LinesState) : Type 0 where
   pub frames : lines.frames.hand ≡ hand First 0 [] []
   pub jobs : lines.jobs.hand ≡ hand First 0 [] []
+
+-- each first pass counts no other, and took each job and each prompt that was pushed
+pub record IsDrained (lines : LinesState) : Type 0 where
+  pub frames_first : lines.frames.hand.kind ≡ First
+  pub frames_alone : lines.frames.hand.others ≡ 0
+  pub frames_settled : IsPermutation (filter is_prompt lines.frames.hand.put) (filter is_prompt lines.frames.hand.taken)
+  pub jobs_first : lines.jobs.hand.kind ≡ First
+  pub jobs_alone : lines.jobs.hand.others ≡ 0
+  pub jobs_settled : IsPermutation lines.jobs.hand.put lines.jobs.hand.taken

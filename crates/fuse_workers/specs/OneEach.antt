@@ -1,6 +1,6 @@
 -- One frame or note for each message: by places, so that two messages with one id need two frames. `owed` says what a message
 -- is owed, by its number, and `broken` which messages have no good header.
-use Rattle.std.specs.Prelude.{◌≡◌, ◌⊎◌, ℕ, suc, List, [], ◌∷◌, Some, slice_get, remove, min}
+use Rattle.std.specs.Prelude.{◌≡◌, ◌⊎◌, ℕ, suc, List, [], ◌∷◌, Some, length, slice_get, remove, min}
 use Rattle.fuse_wire.specs.Sink.{Note as Noted}
 use Rattle.fuse_wire.specs.Faults.{last_count}
 use Rattle.fuse_reply.specs.declared.out.Out.{Out}
@@ -41,3 +41,7 @@ OneEach owed broken place (m ∷ ms) frames notes marks lost =
     ⊎ ((i : ℕ) × (n : Noted) × (slice_get marks i ≡ Some n) × owed (number_of place) m (Deferred n.0 (record { 0 = n.1 }))
     × OneEach owed broken (suc place) ms frames notes (remove marks i) lost)
     ⊎ ((fewer : ℕ) × (lost ≡ suc fewer) × ¬ (broken m) × OneEach owed broken (suc place) ms frames notes marks fewer)
+
+-- one for each message that is answered, up to order, with no reply that comes later
+abbrev pub UpToOrder : Owing → (List ℕ → Type 0) → Accounting
+UpToOrder owed broken messages frames notes lost = OneEach owed broken 0 messages frames notes [] (length lost)

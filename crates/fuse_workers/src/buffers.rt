@@ -3,7 +3,7 @@ ghost use Rattle.std.specs.Prelude.{◌≡◌, IfOk};
 ghost use Rattle.fuse_notify.specs.Queueing.{fresh_door};
 ghost use Rattle.fuse_workers.specs.Lines.{IsUnused};
 
-use crate::Job;
+use crate::request_job::RequestJob;
 use crate::run_line::RunLine;
 use fuse_notify::Notifier;
 use fuse_reply::Parcel;
@@ -17,7 +17,7 @@ pub struct Lines {
     /// The frames that wait to be sent.
     pub(crate) frames: RunLine<Parcel>,
     /// The messages that wait for a worker.
-    pub(crate) jobs: RunLine<Job>,
+    pub(crate) jobs: RunLine<RequestJob>,
     pub(crate) notifier: Notifier,
 }
 

@@ -16,6 +16,7 @@ pub enum End {
 }
 
 /// The end of a run. It hands back what the run was given.
+#[derive(Drop)]
 pub struct RunEnd<S, K> {
     /// How it ended.
     pub end: End,

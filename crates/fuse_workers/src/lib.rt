@@ -1,10 +1,11 @@
-//! Answering messages, whoever answers them: the loop that takes them one after another, and the pure core of several
-//! workers, what may happen one step after another over plain lists and with no thread in it.
-//! The layers above rely on this: what was sent for the messages that were taken is, in order, what they are owed; and
-//! whatever happens on several workers, each message that was received has its number in one place.
+//! Answering messages, whoever answers them: runs on one thread and on several, and the pure core of several workers,
+//! what may happen one step after another over plain lists and with no thread in it.
+//! The layers above rely on this: what was sent for the messages that were taken is what they are owed, one frame or
+//! note each, on one thread in order.
 #![tactic(auto)]
 
 mod buffers;
+mod caller;
 mod channel;
 mod copied;
 mod end;
@@ -15,14 +16,17 @@ mod intake;
 pub mod laws;
 mod lists;
 mod outlet;
+mod request_job;
 mod run_line;
+mod sender;
 mod state;
 mod stepping;
 mod taken;
-#[cfg(test)]
-mod tests;
+mod threads;
 mod transcript;
 mod work;
+mod worker;
+mod workers;
 
 pub use buffers::{Buffers, Lines};
 pub use channel::Channel;
@@ -35,3 +39,4 @@ pub use stepping::{run, step};
 pub use taken::Taken;
 pub use transcript::Transcript;
 pub use work::Work;
+pub use workers::{MOST_WORKERS, run_workers};

@@ -3,6 +3,7 @@ ghost use Rattle.std.specs.Prelude.{◌≡◌};
 ghost use Rattle.fuse_wire.specs.Source.{SourceState};
 ghost use Rattle.fuse_workers.specs.Lines.{notices_in};
 ghost use Rattle.fuse_workers.specs.Progress.{NoticesAlone, SendsNotice, SendsOnce, progress};
+ghost use Rattle.fuse_workers.specs.Relays.{SendsParcel};
 ghost use Rattle.fuse_workers.specs.declared.transcript.Transcript.{Transcript as Counts};
 
 use crate::Transcript;
@@ -48,6 +49,16 @@ impl<K: Sink> Outlet<K> {
         ensures { SendsNotice notice self.old self.new }
     {
         let _ = notice.send(&mut self.sink);
+    }
+
+    /// Hands a parcel to the sink.
+    pub(crate) fn deliver_parcel(&mut self, parcel: Parcel)
+        ensures { SendsParcel parcel self.old self.new }
+    {
+        match parcel {
+            Parcel::Prompt(_, out) => self.deliver(out),
+            Parcel::Notice(notice) => self.pass_on(notice),
+        }
     }
 
     /// Hands each notice that waits to the sink, by a way that messages seldom take.

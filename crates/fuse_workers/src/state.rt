@@ -1,9 +1,8 @@
 // What the steps of a run have come to.
-ghost use Rattle.std.specs.Prelude.{◌≡◌, IfOk, replicate, true};
+ghost use Rattle.std.specs.Prelude.{◌≡◌, IfOk, replicate};
 ghost use Rattle.fuse_workers.specs.Balanced.{Balanced};
 ghost use Rattle.fuse_workers.specs.Step.{empty};
 
-use fuse_line::Class;
 use fuse_reply::{Out, Parcel};
 use fuse_wire::{Items, NoMemory, RequestId};
 use std::alloc::Global;
@@ -18,15 +17,6 @@ pub struct Job {
     pub seq: u64,
     /// The message.
     pub message: Items<u8>,
-}
-
-/// Each job is an inner item: only whoever serves has a pass that may push one.
-impl Class for Job {
-    ghost is_inner = { λ _. true };
-
-    fn inner(&self) -> bool {
-        true
-    }
 }
 
 /// What a worker has in hand.

@@ -1,8 +1,5 @@
-use Rattle.std.proofs.Common.{◌≡◌, ap, arith, length, None, Some, Option, refl}
+use Rattle.std.proofs.Common.{arith, length, None, Some}
 use Rattle.fuse_workers.specs.Lines.{notices_in}
-use Rattle.fuse_workers.specs.EventLoop.{OneTurn}
-use Rattle.fuse_workers.specs.Progress.{beside}
-use Rattle.fuse_workers.specs.declared.end.End.{End}
 use Rattle.fuse_workers.proofs.LoopSteps.{RunOn-none, RunOn-then, Run-then, OneTurn-noticed, OneTurn-beside}
 use Rattle.fuse_workers.proofs.event_loop.answer_in_turn.Goals as goal
 

@@ -1,0 +1,38 @@
+use Rattle.std.proofs.Common.{◌++◌, ◌∷◌, [], ◌∙◌, arith, length, length-append, refl, subst, sym}
+use Rattle.fuse_line.specs.declared.hand.Hand.{Hand}
+use Rattle.fuse_reply.specs.declared.parcel.Parcel.{Parcel}
+use Rattle.fuse_workers.specs.OneEach.{Owing}
+use Rattle.fuse_workers.specs.Threads.{IsCaller, at_once}
+use Rattle.fuse_workers.specs.declared.state.Job.{Job}
+use Rattle.fuse_workers.proofs.Hearing.{Hears-stopped, HearsOn-none, HearsOn-then}
+use Rattle.fuse_workers.proofs.caller.take_messages.Goals as goal
+
+pub loop-init : goal.loop-init
+loop-init g c = (c.requires.lines.0, c.requires.lines.1, refl, refl, [], refl, HearsOn-none _, c.requires.caller)
+
+pub returns-in-Some-take_one-clause-heard : goal.returns-in-Some-take_one-clause-heard
+returns-in-Some-take_one-clause-heard g c =
+    let owed : Owing = at_once (g.W.Work.owed c.args.work.now) in
+    let so_far = c.loop.invariant in
+    let ms = so_far.4 in
+    let turn = c.in-Some-take_one.ensures.turn in (
+      ms,
+      Hears-stopped c.in-Some-take_one.stopped ms _ _ _ so_far.6 (turn.2 (length ms) so_far.5),
+      subst (λ (v : Hand Parcel). IsCaller owed ms c.take_one.new.caller.jobs.hand v) (sym turn.1)
+          (subst (λ (v : Hand Job). IsCaller owed ms v c.loop.caller.frames.hand) (sym turn.0) so_far.7),
+    )
+
+pub loop-preserved : goal.loop-preserved
+loop-preserved g c =
+    let so_far = c.loop.invariant in
+    let ms = so_far.4 in
+    let next = c.in-None-take_one.ensures.turn ms so_far.5 so_far.7 in (
+      c.take_one.ensures.lines.0,
+      c.take_one.ensures.lines.1,
+      c.take_one.ensures.others.0 ∙ so_far.2,
+      c.take_one.ensures.others.1 ∙ so_far.3,
+      ms ++ next.0 ∷ [],
+      omega (arith, length-append ms (next.0 ∷ []), so_far.5, c.saturating_add-seq.ensures),
+      HearsOn-then ms (next.0 ∷ []) _ _ _ so_far.6 next.1,
+      next.2,
+    )

@@ -1,0 +1,17 @@
+use Rattle.std.proofs.Common.{◌≡◌, ◌+◌, ◌<◌, ℕ, List, get_or}
+use Rattle.std.specs.Vec.Iter.{into_iter_items, into_iter_len}
+use Rattle.fuse_line.specs.declared.hand.Kind.TheVariants.{First}
+use Rattle.fuse_workers.specs.Promises.{PromisesFor}
+use Rattle.fuse_workers.specs.Threads.{IsCaller, at_once}
+use Rattle.fuse_workers.proofs.threads.join_workers.Given as goal
+
+-- as many are counted as are left to join
+abbrev pub invariant-loop-worker : goal.invariant-loop-worker
+invariant-loop-worker g l =
+    (l.caller.jobs.line ≡ l.jobs) × (l.caller.frames.line ≡ l.frames)
+    × (l.caller.jobs.hand.kind ≡ First) × (l.caller.frames.hand.kind ≡ First)
+    × (l.caller.jobs.hand.others ≡ into_iter_len l.worker-iterator) × (l.caller.frames.hand.others ≡ 1 + into_iter_len l.worker-iterator)
+    × ((k : ℕ) (d : _) → k < into_iter_len l.worker-iterator
+    → PromisesFor l.work l.jobs l.frames (get_or (into_iter_items l.worker-iterator) k d).promise)
+    × ((ms : List (List ℕ)) → IsCaller (at_once (g.W.Work.owed l.work)) ms l.fn.caller.jobs.hand l.fn.caller.frames.hand
+    → IsCaller (at_once (g.W.Work.owed l.work)) ms l.caller.jobs.hand l.caller.frames.hand)

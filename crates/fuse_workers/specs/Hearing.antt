@@ -1,0 +1,69 @@
+-- What whoever takes messages for workers has taken, and why no more are.
+use Rattle.std.specs.Prelude.{◌≡◌, ◌≢◌, ◌+◌, ◌++◌, ℕ, List, [], ◌∷◌, Option, None, Some, length, map}
+use Rattle.fuse_wire.specs.Source.{Takes, message, NothingLeft, Failed as SourceFailed}
+use Rattle.fuse_workers.specs.Incoming.{AllGoOn, HeaderRefused, id_of, incoming}
+use Rattle.fuse_workers.specs.Incoming.Incoming.{Destroy as IsDestroy}
+use Rattle.fuse_workers.specs.OneEach.{Owing, number_of}
+use Rattle.fuse_workers.specs.Threads.{IsCaller, at_once}
+use Rattle.fuse_workers.specs.declared.state.Job.{Job}
+use Rattle.fuse_workers.specs.declared.end.End.{End}
+use Rattle.fuse_workers.specs.declared.end.End.TheVariants as end
+use Rattle.fuse_line.specs.declared.hand.Hand.{Hand}
+use Rattle.fuse_reply.specs.declared.parcel.Parcel.{Parcel}
+use Rattle.fuse_workers.specs.Progress.{Begins, IntakeState}
+use Rattle.fuse_workers.specs.declared.caller.Stopped.{Stopped}
+use Rattle.fuse_workers.specs.declared.caller.Stopped.TheVariants.{Gone, Destroy, Broken, Failed}
+
+-- these requests were taken, and the run goes on
+pub record HearsOn (messages : List (List ℕ)) (before after : IntakeState) : Type 0 where
+  pub turns : List (List ℕ)
+  pub heard : map message turns ≡ messages
+  pub go_on : AllGoOn messages
+  pub taken : Takes turns before.source after.source
+  pub received : (n : ℕ) → before.received ≡ number_of n → after.received ≡ number_of (n + length turns)
+
+-- Why no more are taken after so many requests, with the last message, or none: no message is left; it is DESTROY, of this number and id;
+-- it has no good header; or the source failed.
+abbrev pub StopsWith : Stopped → (count : ℕ) → (last : List (List ℕ)) → (none_left failed : Type 0) → Type 0
+StopsWith Gone count last none_left failed = (last ≡ []) × none_left
+StopsWith (Destroy seq id) count last none_left failed =
+    (m : List ℕ) × (last ≡ m ∷ []) × (incoming m ≡ IsDestroy) × (id.0 ≡ id_of m) × (seq ≡ number_of count)
+StopsWith (Broken e) count last none_left failed = HeaderRefused e last
+StopsWith Failed count last none_left failed = (last ≡ []) × failed
+
+-- after so many requests the last message was taken, or none, and no more are
+pub record StopsAfter (stopped : Stopped) (count : ℕ) (before after : IntakeState) : Type 0 where
+  pub turns : List (List ℕ)
+  pub last : List (List ℕ)
+  pub heard : map message turns ≡ last
+  pub begins : Begins turns before.source
+  pub taken : stopped ≢ Failed → Takes turns before.source after.source
+  pub received : (n : ℕ) → before.received ≡ number_of n → after.received ≡ number_of (n + length turns)
+  pub stops : StopsWith stopped count last (NothingLeft after.source) (SourceFailed before.source after.source)
+
+-- these requests were taken, and then the last message, or none
+pub record Hears (stopped : Stopped) (messages : List (List ℕ)) (before after : IntakeState) : Type 0 where
+  pub turns : List (List ℕ)
+  pub last : List (List ℕ)
+  pub heard : map message turns ≡ messages ++ last
+  pub go_on : AllGoOn messages
+  pub begins : Begins turns before.source
+  pub taken : stopped ≢ Failed → Takes turns before.source after.source
+  pub received : (n : ℕ) → before.received ≡ number_of n → after.received ≡ number_of (n + length turns)
+  pub stops : StopsWith stopped (length messages) last (NothingLeft after.source) (SourceFailed before.source after.source)
+
+-- One turn, at any place of this number, of a caller that has handed in the messages before it: one request more was taken and handed
+-- in; or no more are taken, and its passes are as they were.
+abbrev pub TurnHeard : Owing → (seq : ℕ) → Option Stopped → (before after : IntakeState) → (j : Hand Job) (f : Hand Parcel) (j' : Hand Job) (f' : Hand Parcel)
+    → Type 0
+TurnHeard owed seq None before after j f j' f' = (ms : List (List ℕ)) → number_of (length ms) ≡ seq → IsCaller (at_once owed) ms j f
+    → (m : List ℕ) × HearsOn (m ∷ []) before after × IsCaller (at_once owed) (ms ++ m ∷ []) j' f'
+TurnHeard owed seq (Some stopped) before after j f j' f' =
+    (j' ≡ j) × (f' ≡ f) × ((count : ℕ) → number_of count ≡ seq → StopsAfter stopped count before after)
+
+-- how a run ended whose messages are no more taken
+abbrev pub end_of : Stopped → End
+end_of Gone = end.Gone
+end_of (Destroy seq id) = end.Destroyed
+end_of (Broken e) = end.Broken e
+end_of Failed = end.Failed

@@ -1,0 +1,8 @@
+-- What a worker's promise is about.
+use Rattle.std.specs.Prelude.{◌≡◌}
+use Rattle.atomic_table.specs.Seated.{TableId}
+use Rattle.fuse_workers.specs.declared.threads.Serves.{Serves}
+
+-- this work, this line of jobs and this line of frames
+abbrev pub PromisesFor : {W : Type 0} → W → (jobs frames : TableId) → Serves W → Type 0
+PromisesFor work jobs frames promise = (promise.work.value ≡ work) × (promise.jobs.value ≡ jobs) × (promise.frames.value ≡ frames)

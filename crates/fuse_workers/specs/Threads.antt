@@ -1,0 +1,48 @@
+-- What the threads know of the line of jobs and of the line of frames, by what their passes pushed and took: that a worker answered
+-- each job that it took, and that each message was pushed as a job or answered by the caller itself.
+use Rattle.std.specs.Prelude.{◌≡◌, ◌++◌, ℕ, List, [], map}
+use Rattle.std.specs.List.Sorted.{IsPermutation}
+use Rattle.fuse_line.specs.declared.hand.Hand.{Hand}
+use Rattle.fuse_line.specs.declared.hand.Kind.TheVariants.{First, Inner}
+use Rattle.fuse_reply.specs.declared.parcel.Parcel.{Parcel}
+use Rattle.fuse_reply.specs.declared.parcel.Parcel.TheVariants.{Prompt, Notice}
+use Rattle.fuse_workers.specs.declared.state.Job.{Job}
+use Rattle.fuse_workers.specs.Incoming.{IsBroken}
+use Rattle.fuse_workers.specs.OneEach.{Owing}
+use Rattle.fuse_workers.specs.Progress.{IsPrompt}
+use Rattle.fuse_workers.specs.Pairing.{InTurn, Pairs, numbered}
+
+-- a message with its number, as a job
+abbrev pub job_of : (seq : ℕ) → (m : List ℕ) → Job
+job_of seq m = record { seq = seq; message = m }
+
+-- what is owed and goes out at once, to a message whose header is good
+abbrev pub at_once : Owing → Owing
+at_once owed seq m out = owed seq m out × IsPrompt out × ¬ (IsBroken m)
+
+-- a job's number and message
+abbrev pub pair_of : Job → ℕ × List ℕ
+pair_of job = (job.seq, job.message)
+
+-- a prompt of that number with what is owed to that message; a notice answers nothing
+abbrev pub Answers : Owing → ℕ × List ℕ → Parcel → Type 0
+Answers owed asked (Prompt seq out) = (seq ≡ asked.0) × owed asked.0 asked.1 out
+Answers owed asked (Notice frame) = ⊥
+
+-- a worker's passes: the prompts that it pushed answer, in turn, the jobs that it took, and it pushed nothing else
+pub record IsServed (owed : Owing) (jobs : Hand Job) (frames : Hand Parcel) : Type 0 where
+  pub job_kind : jobs.kind ≡ Inner
+  pub frame_kind : frames.kind ≡ Inner
+  pub no_put : jobs.put ≡ []
+  pub no_taken : frames.taken ≡ []
+  pub each : InTurn (Answers owed) (map pair_of jobs.taken) frames.put
+
+-- the caller's passes, with those that were joined into them: each message was pushed as a job or answered directly, and one prompt
+-- was pushed for each job that was taken and for each message answered so, and nothing else
+pub record IsCaller (owed : Owing) (messages : List (List ℕ)) (jobs : Hand Job) (frames : Hand Parcel) : Type 0 where
+  pub job_kind : jobs.kind ≡ First
+  pub frame_kind : frames.kind ≡ First
+  pub no_taken : frames.taken ≡ []
+  pub direct : List (ℕ × List ℕ)
+  pub all : IsPermutation (numbered 0 messages) (map pair_of jobs.put ++ direct)
+  pub each : Pairs (Answers owed) (map pair_of jobs.taken ++ direct) frames.put

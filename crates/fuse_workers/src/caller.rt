@@ -1,0 +1,220 @@
+// The caller, which takes messages and hands them to workers.
+ghost use Rattle.std.specs.Prelude.{◌≡◌, ◌++◌, ◌∷◌, ℕ, List, [], false, true, length, MatchBool};
+ghost use Rattle.fuse_line.specs.Hand.{with_put};
+ghost use Rattle.fuse_line.specs.declared.hand.Kind.TheVariants.{First};
+ghost use Rattle.fuse_line.specs.Tells.{IsSettled};
+ghost use Rattle.fuse_workers.specs.Answering.{IsRequest};
+ghost use Rattle.fuse_workers.specs.Hearing.{Hears, TurnHeard, end_of};
+ghost use Rattle.fuse_workers.specs.OneEach.{number_of};
+ghost use Rattle.fuse_workers.specs.Threads.{IsCaller, at_once, job_of};
+
+use crate::intake::Intake;
+use crate::request_job::RequestJob;
+use crate::{End, Incoming, Taken, Work};
+use fuse_line::{Line, Pass};
+use fuse_notify::Notifier;
+use fuse_reply::{NoDoor, Parcel};
+use fuse_request::RequestError;
+use fuse_wire::{RequestId, Source};
+use std::alloc::Global;
+use std::sync::Wait;
+
+/// Why no more messages are taken.
+#[derive(Clone, Copy)]
+pub(crate) enum Stopped {
+    /// No message is left.
+    Gone,
+    /// The last message was DESTROY, of this number and id.
+    Destroy(u64, RequestId),
+    /// The last message has no good header.
+    Broken(RequestError),
+    /// The source failed.
+    Failed,
+}
+
+impl Stopped {
+    /// How the run ended.
+    pub(crate) fn end(self) -> End
+        ensures { result ≡ end_of self }
+    {
+        match self {
+            Stopped::Gone => End::Gone,
+            Stopped::Destroy(_, _) => End::Destroyed,
+            Stopped::Broken(error) => End::Broken(error),
+            Stopped::Failed => End::Failed,
+        }
+    }
+}
+
+/// The first passes of both lines, and what makes the notifier of each poll that the caller answers itself.
+#[derive(Drop)]
+pub(crate) struct Caller {
+    pub(crate) jobs: Pass<RequestJob>,
+    pub(crate) frames: Pass<Parcel>,
+    pub(crate) notifier: Notifier,
+}
+
+/// Pushes a request as a job, and says whether it did: whether there is a worker, and memory and a place for it.
+fn push_job<R: Wait>(
+    rt: &R,
+    alloc: Global,
+    seq: u64,
+    message: &[u8],
+    has_workers: bool,
+    jobs: &Line<RequestJob>,
+    pass: &mut Pass<RequestJob>,
+) -> bool
+    requires request { IsRequest message.now }
+    requires line { pass.old.line ≡ jobs.now }
+    requires first { pass.old.hand.kind ≡ First }
+    ensures line { pass.new.line ≡ jobs.now }
+    ensures hand { MatchBool result
+        (pass.new.hand ≡ with_put pass.old.hand (job_of seq message.now))
+        (pass.new.hand ≡ pass.old.hand) }
+{
+    if !has_workers {
+        return false;
+    }
+    let Ok(copy) = message.to_vec(alloc) else {
+        return false;
+    };
+    jobs.push(rt, pass, RequestJob::new(seq, copy)).is_ok()
+}
+
+/// Pushes a request as a job. Where no worker is there, or there is no memory or no place for it, answers it here.
+fn hand_in<R: Wait + AllocGlobal, W: Work>(
+    rt: &R,
+    work: &W,
+    seq: u64,
+    message: &[u8],
+    has_workers: bool,
+    jobs: &Line<RequestJob>,
+    frames: &Line<Parcel>,
+    caller: &mut Caller,
+)
+    requires prompt { W.DEFERS ≡ false }
+    requires request { IsRequest message.now }
+    requires lines { (caller.old.jobs.line ≡ jobs.now) × (caller.old.frames.line ≡ frames.now) }
+    requires first { (caller.old.jobs.hand.kind ≡ First) × (caller.old.frames.hand.kind ≡ First) }
+    ensures lines { (caller.new.jobs.line ≡ jobs.now) × (caller.new.frames.line ≡ frames.now) }
+    ensures others { (caller.new.jobs.hand.others ≡ caller.old.jobs.hand.others)
+        × (caller.new.frames.hand.others ≡ caller.old.frames.hand.others) }
+    ensures caller { (ms : List (List ℕ)) → number_of (length ms) ≡ seq →
+        IsCaller (at_once (W.owed work.now)) ms caller.old.jobs.hand caller.old.frames.hand →
+        IsCaller (at_once (W.owed work.now)) (ms ++ message.now ∷ []) caller.new.jobs.hand caller.new.frames.hand }
+{
+    if push_job(
+        rt,
+        rt.alloc(),
+        seq,
+        message,
+        has_workers,
+        jobs,
+        &mut caller.jobs,
+    ) {
+        return;
+    }
+    let out = work.answer(rt, &mut caller.notifier, Err(NoDoor::Shut), seq, message);
+    frames.push_waiting(rt, &mut caller.frames, Parcel::Prompt(seq, out));
+}
+
+/// Takes a message and hands it in. None is that the run goes on.
+fn take_one<R: Wait + AllocGlobal, W: Work, S: Source>(
+    rt: &R,
+    work: &W,
+    seq: u64,
+    intake: &mut Intake<S>,
+    has_workers: bool,
+    jobs: &Line<RequestJob>,
+    frames: &Line<Parcel>,
+    caller: &mut Caller,
+) -> Option<Stopped>
+    requires prompt { W.DEFERS ≡ false }
+    requires lines { (caller.old.jobs.line ≡ jobs.now) × (caller.old.frames.line ≡ frames.now) }
+    requires first { (caller.old.jobs.hand.kind ≡ First) × (caller.old.frames.hand.kind ≡ First) }
+    ensures lines { (caller.new.jobs.line ≡ jobs.now) × (caller.new.frames.line ≡ frames.now) }
+    ensures others { (caller.new.jobs.hand.others ≡ caller.old.jobs.hand.others)
+        × (caller.new.frames.hand.others ≡ caller.old.frames.hand.others) }
+    ensures turn { TurnHeard (W.owed work.now) seq result intake.old intake.new
+        caller.old.jobs.hand caller.old.frames.hand caller.new.jobs.hand caller.new.frames.hand }
+{
+    let count = match intake.take_message(rt) {
+        Taken::Message(count) => count,
+        Taken::Gone => return Some(Stopped::Gone),
+        Taken::Failed => return Some(Stopped::Failed),
+    };
+    let message = intake.message(count);
+    match Incoming::of(message) {
+        Incoming::Broken(error) => Some(Stopped::Broken(error)),
+        Incoming::Destroy(id) => Some(Stopped::Destroy(seq, id)),
+        Incoming::Request(_) => {
+            hand_in(rt, work, seq, message, has_workers, jobs, frames, caller);
+            None
+        }
+    }
+}
+
+/// Takes messages and hands them in, until no message is left or one ends the run.
+pub(crate) fn take_messages<R: Wait + AllocGlobal, W: Work, S: Source>(
+    rt: &R,
+    work: &W,
+    intake: &mut Intake<S>,
+    has_workers: bool,
+    jobs: &Line<RequestJob>,
+    frames: &Line<Parcel>,
+    caller: &mut Caller,
+) -> Stopped
+    requires prompt { W.DEFERS ≡ false }
+    requires lines { (caller.old.jobs.line ≡ jobs.now) × (caller.old.frames.line ≡ frames.now) }
+    requires caller { IsCaller (at_once (W.owed work.now)) [] caller.old.jobs.hand caller.old.frames.hand }
+    ensures lines { (caller.new.jobs.line ≡ jobs.now) × (caller.new.frames.line ≡ frames.now) }
+    ensures others { (caller.new.jobs.hand.others ≡ caller.old.jobs.hand.others)
+        × (caller.new.frames.hand.others ≡ caller.old.frames.hand.others) }
+    ensures heard { (ms : List (List ℕ)) × Hears result ms intake.old intake.new
+        × IsCaller (at_once (W.owed work.now)) ms caller.new.jobs.hand caller.new.frames.hand }
+{
+    let mut seq: u64 = 0;
+    for _ in rt.forever() {
+        match take_one(rt, work, seq, intake, has_workers, jobs, frames, caller) {
+            Some(stopped) => return stopped,
+            None => seq = seq.saturating_add(1),
+        }
+    }
+    unreachable!()
+}
+
+/// Answers the jobs that no worker took. No worker is left.
+pub(crate) fn answer_rest<R: Wait + AllocGlobal, W: Work>(
+    rt: &R,
+    work: &W,
+    jobs: &Line<RequestJob>,
+    frames: &Line<Parcel>,
+    caller: &mut Caller,
+)
+    requires prompt { W.DEFERS ≡ false }
+    requires lines { (caller.old.jobs.line ≡ jobs.now) × (caller.old.frames.line ≡ frames.now) }
+    requires first { (caller.old.jobs.hand.kind ≡ First) × (caller.old.frames.hand.kind ≡ First) }
+    ensures lines { (caller.new.jobs.line ≡ jobs.now) × (caller.new.frames.line ≡ frames.now) }
+    ensures others { (caller.new.jobs.hand.others ≡ caller.old.jobs.hand.others)
+        × (caller.new.frames.hand.others ≡ caller.old.frames.hand.others) }
+    ensures caller { (ms : List (List ℕ)) →
+        IsCaller (at_once (W.owed work.now)) ms caller.old.jobs.hand caller.old.frames.hand →
+        IsCaller (at_once (W.owed work.now)) ms caller.new.jobs.hand caller.new.frames.hand }
+    ensures settled { IsSettled (λ _. true) caller.new.jobs.hand }
+{
+    for _ in rt.forever() {
+        let Some(job) = jobs.pop(rt, &mut caller.jobs) else {
+            return;
+        };
+        let seq = job.seq();
+        let out = work.answer(
+            rt,
+            &mut caller.notifier,
+            Err(NoDoor::Shut),
+            seq,
+            job.message(),
+        );
+        frames.push_waiting(rt, &mut caller.frames, Parcel::Prompt(seq, out));
+    }
+    unreachable!()
+}

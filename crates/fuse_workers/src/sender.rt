@@ -1,0 +1,60 @@
+// The sender, which alone has the sink.
+ghost use Rattle.std.specs.Prelude.{◌≡◌, ◌++◌, ℕ, List, []};
+ghost use Rattle.fuse_line.specs.Hand.{hand};
+ghost use Rattle.fuse_line.specs.declared.hand.Kind.TheVariants.{First, Inner};
+ghost use Rattle.fuse_line.specs.Tells.{IsSettled};
+ghost use Rattle.fuse_reply.specs.Parcel.{is_prompt};
+ghost use Rattle.fuse_reply.specs.declared.parcel.Parcel.{Parcel as Goes};
+ghost use Rattle.fuse_workers.specs.Relays.{IsRelayed, Relays};
+
+use crate::outlet::Outlet;
+use fuse_line::{Line, Pass};
+use fuse_reply::Parcel;
+use fuse_wire::Sink;
+use std::sync::Wait;
+use std::sync::atomic::AtomicBool;
+
+/// Hands parcels to the sink, until there is none left once it was told that no more come.
+pub(crate) fn send_parcels<R: Wait, K: Sink>(
+    rt: &R,
+    frames: &Line<Parcel>,
+    mut pass: Pass<Parcel>,
+    mut outlet: Outlet<K>,
+    no_more: &AtomicBool,
+) -> (Outlet<K>, Pass<Parcel>)
+    requires line { pass.line ≡ frames.now }
+    requires hand { pass.hand ≡ hand Inner 0 [] [] }
+    ensures line { result.1.line ≡ frames.now }
+    ensures relayed { IsRelayed result.1.hand outlet result.0 }
+{
+    for _ in rt.forever() {
+        let Some(parcel) = frames.pop_waiting(rt, &mut pass, no_more) else {
+            break;
+        };
+        outlet.deliver_parcel(parcel);
+    }
+    (outlet, pass)
+}
+
+/// Hands the parcels to the sink that the sender left. Nobody else has an inner pass.
+pub(crate) fn send_rest<R: Wait, K: Sink>(
+    rt: &R,
+    frames: &Line<Parcel>,
+    pass: &mut Pass<Parcel>,
+    outlet: &mut Outlet<K>,
+)
+    requires line { pass.old.line ≡ frames.now }
+    requires first { pass.old.hand.kind ≡ First }
+    ensures line { pass.new.line ≡ frames.now }
+    ensures more { (more : List Goes) × (pass.new.hand ≡ hand First pass.old.hand.others pass.old.hand.put
+        (pass.old.hand.taken ++ more)) × Relays more outlet.old outlet.new }
+    ensures settled { IsSettled is_prompt pass.new.hand }
+{
+    for _ in rt.forever() {
+        let Some(parcel) = frames.pop(rt, pass) else {
+            return;
+        };
+        outlet.deliver_parcel(parcel);
+    }
+    unreachable!()
+}
