@@ -1,6 +1,6 @@
 // A message taken apart.
-ghost use Rattle.std.specs.Prelude.{◌≡◌, ◌≤◌, length};
-ghost use Rattle.fuse_request.specs.Header.{Decodes, header_fields, body_of, header_of, request_of};
+ghost use Rattle.std.specs.Prelude.{◌≡◌, ◌≤◌, Ok, IsOk, length};
+ghost use Rattle.fuse_request.specs.Header.{Decodes, header, header_fields, body_of, header_of, request_of};
 ghost use Rattle.fuse_request.specs.Operation.{Is, Keeps, operation};
 
 use crate::decoding::{destroy_to_cuse_init, init_to_bmap, lookup_to_link, open_to_flush};
@@ -68,10 +68,20 @@ impl<'a> AnyRequest<'a> {
         if len < REQUEST_HEADER_SIZE {
             return Err(RequestError::InsufficientData);
         }
-        Ok(AnyRequest {
+        Ok(AnyRequest::from_checked(message))
+    }
+
+    /// Takes a message apart whose header is known to be good, as `try_from` does, and checks it no more.
+    #[inline(always)]
+    pub fn from_checked(message: &'a [u8]) -> AnyRequest<'a>
+        requires { IsOk (header message.now) }
+        ensures { Decodes (Ok result) message.now }
+    {
+        let len = u32_at(message, 0) as usize;
+        AnyRequest {
             header: header_at(message),
             body: &message[REQUEST_HEADER_SIZE..len],
-        })
+        }
     }
 
     /// The number of the request.
