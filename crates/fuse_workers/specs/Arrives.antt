@@ -1,7 +1,7 @@
 -- What the code finds a message after the handshake to be.
-use Rattle.std.specs.Prelude.{◌≡◌, ◌==◌, ℕ, List, Ok, Err, false}
-use Rattle.fuse_request.specs.Header.{Decodes, header, header_of}
-use Rattle.fuse_request.specs.Opcode.{FUSE_DESTROY}
+use Rattle.std.specs.Prelude.{◌≡◌, ℕ, List, Err}
+use Rattle.fuse_request.specs.Header.{header}
+use Rattle.fuse_workers.specs.Answering.{IsRequest}
 use Rattle.fuse_workers.specs.Incoming.{incoming, id_of}
 use Rattle.fuse_workers.specs.Incoming.Incoming.{Destroy as IsDestroy}
 use Rattle.fuse_workers.specs.declared.incoming.Incoming.{Incoming}
@@ -10,4 +10,4 @@ use Rattle.fuse_workers.specs.declared.incoming.Incoming.TheVariants.{Broken, De
 abbrev pub Arrives : Incoming → List ℕ → Type 0
 Arrives (Broken e) m = header m ≡ Err e
 Arrives (Destroy id) m = (incoming m ≡ IsDestroy) × (id.0 ≡ id_of m)
-Arrives (Request request) m = Decodes (Ok request) m × (((header_of request).opcode == FUSE_DESTROY) ≡ false)
+Arrives Request m = IsRequest m

@@ -147,7 +147,7 @@ fn take_one<R: Wait + AllocGlobal, W: Work, S: Source>(
     match Incoming::of(message) {
         Incoming::Broken(error) => Some(Stopped::Broken(error)),
         Incoming::Destroy(id) => Some(Stopped::Destroy(seq, id)),
-        Incoming::Request(_) => {
+        Incoming::Request => {
             hand_in(rt, work, seq, message, has_workers, jobs, frames, caller);
             None
         }

@@ -47,7 +47,7 @@ fn take_turn<R: Wait + AllocGlobal, W: Work, S: Source, K: Sink>(
             channel.deliver(destroyed(rt.alloc(), id));
             Some(End::Destroyed)
         }
-        Incoming::Request(_) => {
+        Incoming::Request => {
             let out = work.answer(rt, notifier, Err(NoDoor::Shut), seq, message);
             channel.deliver(out);
             None

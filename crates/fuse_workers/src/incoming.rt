@@ -6,25 +6,26 @@ use fuse_request::{AnyRequest, RequestError};
 use fuse_wire::RequestId;
 
 /// What a message after the handshake is, whoever sends it.
-pub enum Incoming<'a> {
+#[derive(Clone, Copy)]
+pub enum Incoming {
     /// It has no good header, and ends the run.
     Broken(RequestError),
     /// It is DESTROY, which ends the run, under this id.
     Destroy(RequestId),
     /// It is any other request.
-    Request(AnyRequest<'a>),
+    Request,
 }
 
-impl<'a> Incoming<'a> {
+impl Incoming {
     /// What this message is.
     #[inline(always)]
-    pub fn of(message: &'a [u8]) -> Incoming<'a>
+    pub fn of(message: &[u8]) -> Incoming
         ensures { Arrives result message.now }
     {
         match AnyRequest::try_from(message) {
             Err(error) => Incoming::Broken(error),
             Ok(request) if request.opcode() == FUSE_DESTROY => Incoming::Destroy(request.unique()),
-            Ok(request) => Incoming::Request(request),
+            Ok(_) => Incoming::Request,
         }
     }
 }

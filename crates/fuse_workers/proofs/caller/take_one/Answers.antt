@@ -1,5 +1,6 @@
 use Rattle.std.proofs.Common.{◌≡◌, Err, List, ℕ, refl, subst, take}
-use Rattle.fuse_request.specs.Header.{header, header_of}
+use Rattle.fuse_request.specs.Header.{header}
+use Rattle.fuse_workers.specs.Answering.{IsRequest}
 use Rattle.fuse_workers.specs.Arrives.{Arrives}
 use Rattle.fuse_workers.specs.declared.incoming.Incoming.TheVariants as found
 use Rattle.fuse_workers.proofs.Hearing.{HearsOn-one, StopsAfter-broken, StopsAfter-destroy, StopsAfter-failed, StopsAfter-gone}
@@ -33,10 +34,9 @@ returns-in-Destroy-clause-turn g c =
 pub returns-in-Request-clause-turn : goal.returns-in-Request-clause-turn
 returns-in-Request-clause-turn g c ms number caller =
     let m = take c.in-Message.count c.take_message.new.self.buffer in
-    let arrives : Arrives (found.Request c.in-Request.field-0) m =
-    subst (λ (x : List ℕ). Arrives (found.Request c.in-Request.field-0) x) c.message-message.ensures c.in-Request.ensures in (
+    let request : IsRequest m = subst IsRequest c.message-message.ensures c.in-Request.ensures in (
       c.message-message.result.now,
-      HearsOn-one c.in-Message.count _ _ c.in-Message.ensures (incoming-request m (header_of c.in-Request.field-0) arrives.0.0 arrives.1) _
+      HearsOn-one c.in-Message.count _ _ c.in-Message.ensures (incoming-request m request.0 request.1 request.2) _
           c.message-message.ensures,
       c.hand_in.ensures.caller ms number caller,
     )

@@ -1,10 +1,11 @@
 -- One turn of the loop: no message, one that ends the run, or one after which it goes on.
 use Rattle.std.proofs.Common.{◌≡◌, Err, List, ℕ, subst, take}
-use Rattle.fuse_request.specs.Header.{header, header_of}
+use Rattle.fuse_request.specs.Header.{header}
 use Rattle.fuse_reply.specs.Answer.Answer.{Empty}
 use Rattle.fuse_reply.specs.Frame.{reply}
 use Rattle.fuse_reply.specs.declared.out.Out.{Out}
 use Rattle.fuse_reply.specs.declared.out.Out.TheVariants.{Frame}
+use Rattle.fuse_workers.specs.Answering.{IsRequest}
 use Rattle.fuse_workers.specs.Progress.{DeliversOnce}
 use Rattle.fuse_workers.specs.Incoming.{id_of}
 use Rattle.fuse_workers.specs.Arrives.{Arrives}
@@ -37,10 +38,8 @@ returns-in-Destroy-clause-turn g c = λ place number.
 pub returns-in-Request-clause-turn : goal.returns-in-Request-clause-turn
 returns-in-Request-clause-turn g c = λ place number.
     let m = take c.in-Message.count c.take_message.new.self.buffer in
-    let arrives : Arrives (found.Request c.in-Request.field-0) m =
-    subst (λ (x : List ℕ). Arrives (found.Request c.in-Request.field-0) x) c.message-message.ensures c.in-Request.ensures in
-    let h = header_of c.in-Request.field-0 in
+    let request : IsRequest m = subst IsRequest c.message-message.ensures c.in-Request.ensures in
     RunOn-next (g.W.Work.owed c.args.work.now) place c.args.seq c.in-Message.count c.args.channel.now c.take_message.new.self c.deliver-in-Request.new.self
-    c.answer-out.result c.in-Message.ensures number (incoming-request m h arrives.0.0 arrives.1)
+    c.answer-out.result c.in-Message.ensures number (incoming-request m request.0 request.1 request.2)
     (subst (λ (x : List ℕ). g.W.Work.owed c.args.work.now c.args.seq x c.answer-out.result) c.message-message.ensures c.answer-out.ensures.owed)
     (prompt-shut c.args.seq c.message-message.result.now c.answer-out.result c.answer-out.ensures.later) c.deliver-in-Request.ensures
