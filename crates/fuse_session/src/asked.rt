@@ -36,8 +36,7 @@ impl Asked {
         ReplyListing::new(self.alloc, self.id, size as usize)
     }
 
-    /// The reply of an error.
-    #[inline(always)]
+    /// The reply of an error. It is called, since with it in each arm the table would be too large to be inlined.
     pub(crate) fn refusal(&self, error: Errno) -> Out
         ensures { result ≡ Out.Frame (reply self.now.id.0 (Error error)) }
     {

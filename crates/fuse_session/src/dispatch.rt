@@ -1,7 +1,5 @@
 // What a request comes to: an error that the product fixes, or what the filesystem answers.
-ghost use Rattle.std.specs.Prelude.{◌≡◌, ◌==◌, ℕ, List, Ok, false};
-ghost use Rattle.fuse_request.specs.Header.{Decodes, header_of};
-ghost use Rattle.fuse_request.specs.Opcode.{FUSE_DESTROY};
+ghost use Rattle.std.specs.Prelude.{false};
 ghost use Rattle.fuse_session.specs.Asked.{IsOwed};
 ghost use Rattle.fuse_session.specs.Owed.{Owed-destroy, OwedMessage};
 ghost use Rattle.fuse_workers.specs.Progress.{IsPrompt};
@@ -15,7 +13,6 @@ use fuse_reply::{Door, NoDoor, Out};
 use fuse_request::{AnyRequest, Operation};
 use fuse_wire::Errno;
 use fuse_workers::Work;
-use std::alloc::Global;
 use std::sync::Wait;
 
 /// A handler, for those whom the rule admits.
@@ -25,33 +22,6 @@ pub(crate) struct Service<H> {
 }
 
 impl<H: Handler> Service<H> {
-    /// What a request comes to, which is no DESTROY.
-    #[inline(always)]
-    fn answer_request(
-        &self,
-        alloc: Global,
-        notifier: &mut Notifier,
-        request: &AnyRequest<'_>,
-    ) -> Out
-        requires { ((header_of request.now).opcode == FUSE_DESTROY) ≡ false }
-        ensures owed { (seq : ℕ) (m : List ℕ) → Decodes (Ok request.now) m →
-            OwedMessage (H.owes self.now.handler) self.now.rule.acl self.now.rule.owner seq m result }
-        ensures prompt { IsPrompt result }
-    {
-        let id = request.unique();
-        let operation = match self.rule.operation(request) {
-            Ok(operation) => operation,
-            Err(error) => return refusal(alloc, id, error),
-        };
-        let asked = Asked {
-            alloc,
-            id,
-            node: request.nodeid(),
-            request: request.request(),
-        };
-        self.serve(&asked, notifier, &operation)
-    }
-
     /// What an operation of a user who is served comes to.
     #[inline(always)]
     fn serve(&self, asked: &Asked, notifier: &mut Notifier, operation: &Operation<'_>) -> Out
@@ -115,7 +85,6 @@ impl<H: Handler + Sync> Work for Service<H> {
 
     ghost DEFERS = { false };
 
-    #[inline(always)]
     fn answer<R: Wait + AllocGlobal>(
         &self,
         rt: &R,
@@ -124,11 +93,19 @@ impl<H: Handler + Sync> Work for Service<H> {
         _seq: u64,
         message: &[u8],
     ) -> Out {
-        match AnyRequest::try_from(message) {
-            Ok(request) => self.answer_request(rt.alloc(), notifier, &request),
-            // Its header was looked at before.
-            Err(_) => unreachable!(),
-        }
+        let request = AnyRequest::from_checked(message);
+        let (alloc, id) = (rt.alloc(), request.unique());
+        let operation = match self.rule.operation(&request) {
+            Ok(operation) => operation,
+            Err(error) => return refusal(alloc, id, error),
+        };
+        let asked = Asked {
+            alloc,
+            id,
+            node: request.nodeid(),
+            request: request.request(),
+        };
+        self.serve(&asked, notifier, &operation)
     }
 
     ghost owed_to_destroy = { λ service seq m is.

@@ -8,7 +8,7 @@ ghost use Rattle.fuse_session.specs.Verdict.{fixed_error, is_forget, served, ver
 use crate::Verdict;
 use crate::access::AccessRule;
 use fuse_config::SessionACL;
-use fuse_request::Operation;
+use fuse_request::{AnyRequest, Operation};
 use fuse_wire::Errno;
 use fuse_workers::Incoming;
 
@@ -69,11 +69,12 @@ fn judge(operation: Operation<'_>) -> Verdict<'_>
 pub fn verdict(acl: SessionACL, owner: u32, message: &[u8]) -> Verdict<'_>
     ensures { Decides (header_fields message.now).nodeid.0 result (verdict acl owner message.now) }
 {
-    let request = match Incoming::of(message) {
+    match Incoming::of(message) {
         Incoming::Broken(error) => return Verdict::Broken(error),
         Incoming::Destroy(_) => return Verdict::Ends,
-        Incoming::Request(request) => request,
-    };
+        Incoming::Request => {}
+    }
+    let request = AnyRequest::from_checked(message);
     match (AccessRule { acl, owner }).operation(&request) {
         Ok(operation) => judge(operation),
         Err(error) => Verdict::Fixed(error),
