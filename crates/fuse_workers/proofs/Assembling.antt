@@ -18,7 +18,7 @@ use Rattle.fuse_workers.specs.Incoming.Incoming.{Request}
 use Rattle.fuse_workers.specs.Lines.{notices_in}
 use Rattle.fuse_workers.specs.OneEach.{Accounting, InOrder, OneEach, Owing, UpToOrder, number_of}
 use Rattle.fuse_workers.specs.Pairing.{Parts, numbered, outs_of}
-use Rattle.fuse_workers.specs.Progress.{Begins, IntakeState, Moves, OutletState, Progress, nothing_yet, progress, tally}
+use Rattle.fuse_workers.specs.Progress.{Begins, IntakeState, IsPrompt, Moves, OutletState, Progress, nothing_yet, progress, tally}
 use Rattle.fuse_workers.specs.Threads.{at_once}
 use Rattle.fuse_workers.specs.declared.caller.Stopped.{Stopped}
 use Rattle.fuse_workers.specs.declared.caller.Stopped.TheVariants.{Gone, Destroy, Broken, Failed}
@@ -29,7 +29,7 @@ use Rattle.fuse_workers.specs.declared.transcript.Transcript.{Transcript}
 use Rattle.fuse_workers.proofs.LoopSteps.{destroy-not-broken}
 use Rattle.fuse_workers.proofs.Moving.{Moves-then}
 use Rattle.fuse_workers.proofs.Order.{OneEach-from_order}
-use Rattle.fuse_workers.proofs.Pairing.{OneEach-parts, Pairs-now, Parts-prompt}
+use Rattle.fuse_workers.proofs.Pairing.{OneEach-parts, Pairs-all, Parts-prompt}
 
 -- what is owed in a stricter sense is owed
 pub OneEach-weaken : (strict owed : Owing) (broken : List ℕ → Type 0) → ((seq : ℕ) (m : List ℕ) (out : Out) → strict seq m out → owed seq m out)
@@ -204,7 +204,8 @@ Run-conducted owed stopped a a' b b' jobs frames conducts none_taken none_sent =
 
   none_marked : conducts.relays.marks ≡ []
   none_marked = Parts-prompt (outs_of frames.taken) conducts.relays.sent conducts.relays.notes conducts.relays.marks conducts.relays.lost
-      (Pairs-now (at_once owed) (λ seq m number id pays. pays.1) (numbered 0 answered) (outs_of frames.taken) conducts.conducted.2) conducts.relays.parts
+      (Pairs-all (λ (p : ℕ × List ℕ) (o : Out). at_once owed p.0 p.1 o) IsPrompt (λ asked out pays. pays.1) (numbered 0 answered) (outs_of frames.taken)
+      conducts.conducted.2) conducts.relays.parts
 
 -- a run after notices that were sent before its first message
 Run-after : {acc : Accounting} {found : End} (p q r : Progress) → Moves 0 [] [] [] p q → q.source ≡ p.source → Run acc found q r → Run acc found p r

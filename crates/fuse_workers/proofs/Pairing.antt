@@ -16,6 +16,7 @@ use Rattle.fuse_reply.specs.declared.parcel.Parcel.{Parcel}
 use Rattle.fuse_reply.specs.declared.parcel.Parcel.TheVariants.{Prompt, Notice}
 use Rattle.fuse_workers.specs.OneEach.{OneEach, Owing, number_of}
 use Rattle.fuse_workers.specs.Pairing.{InTurn, Pairs, Parts, numbered, outs_of}
+use Rattle.fuse_workers.specs.Progress.{IsPrompt}
 use Rattle.fuse_workers.specs.Threads.{Answers}
 use Rattle.fuse_workers.proofs.Places.{Without, Without-at, Without-first, Without-length, Without-under, found}
 
@@ -265,87 +266,69 @@ Parts-removed (z ∷ b) y a fs ns marks lost (inr (inr (inr p))) =
     (lost_before (Parts (b ++ a)) (Parts (z ∷ (b ++ a))) y z (λ fs' ns' marks' lost' h. inr (inr (inr (lost', refl, h)))) fs ns marks p.0
     (Parts-removed b y a fs ns marks p.0 p.2))
 
--- it goes out at once
-abbrev pub GoesNow : Out → Type 0
-GoesNow (Frame f) = Unit {0}
-GoesNow (Note id mark) = Unit {0}
-GoesNow (Deferred seq id) = ⊥
-
 -- where each goes out at once there is no mark
 pub Parts-prompt : (outs : List Out) (fs : List (List ℕ)) (ns marks : List Noted) (lost : List Out)
-    → All GoesNow outs → Parts outs fs ns marks lost → marks ≡ []
+    → All IsPrompt outs → Parts outs fs ns marks lost → marks ≡ []
 Parts-prompt [] fs ns marks lost now h = h.2
 Parts-prompt (out ∷ outs) fs ns marks lost now (inl p) =
-    Parts-prompt outs p.1 ns marks lost (All-tail GoesNow out outs now) p.4
+    Parts-prompt outs p.1 ns marks lost (All-tail IsPrompt out outs now) p.4
 Parts-prompt (out ∷ outs) fs ns marks lost now (inr (inl p)) =
-    Parts-prompt outs fs p.1 marks lost (All-tail GoesNow out outs now) p.4
+    Parts-prompt outs fs p.1 marks lost (All-tail IsPrompt out outs now) p.4
 Parts-prompt (out ∷ outs) fs ns marks lost now (inr (inr (inl p))) =
-    absurd (subst GoesNow p.3 (All-head GoesNow out outs now))
+    absurd (subst IsPrompt p.3 (All-head IsPrompt out outs now))
 Parts-prompt (out ∷ outs) fs ns marks lost now (inr (inr (inr p))) =
-    Parts-prompt outs fs ns marks p.0 (All-tail GoesNow out outs now) p.2
+    Parts-prompt outs fs ns marks p.0 (All-tail IsPrompt out outs now) p.2
 
-module _ (owed : Owing) where
-  goes_now : ((seq : ℕ) (m : List ℕ) (number : ℕ) (id : RequestId) → owed seq m (Deferred number id) → ⊥)
-      → (asked : ℕ × List ℕ) (out : Out) → owed asked.0 asked.1 out → GoesNow out
-  goes_now never asked (Frame f) h = tt
-  goes_now never asked (Note id mark) h = tt
-  goes_now never asked (Deferred number id) h = never asked.0 asked.1 number id h
+module _ (owed : Owing) (broken : List ℕ → Type 0) (whole : (seq : ℕ) (m : List ℕ) (out : Out) → owed seq m out → broken m → ⊥) where
+  -- the first message, where the others are one each in what is left
+  one_first : (place : ℕ) (m : List ℕ) (ms : List (List ℕ)) (y : Out) (P : List (List ℕ) → List Noted → List Noted → List Out → Type 0)
+      → ((fs : List (List ℕ)) (ns marks : List Noted) (lost : List Out) → P fs ns marks lost → OneEach owed broken (suc place) ms fs ns marks (length lost))
+      → owed (number_of place) m y → (fs : List (List ℕ)) (ns marks : List Noted) (lost : List Out) → OneLess P y fs ns marks lost
+      → OneEach owed broken place (m ∷ ms) fs ns marks (length lost)
+  one_first place m ms y P others pays fs ns marks lost (inl p) =
+      let at = Without-at fs p.0 p.1 p.3 in
+      inl (
+        at.0,
+        p.0,
+        at.1,
+        subst (owed (number_of place) m) p.2 pays,
+        subst (λ (l : List (List ℕ)). OneEach owed broken (suc place) ms l ns marks (length lost)) at.2 (others p.1 ns marks lost p.4),
+      )
+  one_first place m ms y P others pays fs ns marks lost (inr (inl p)) =
+      let at = Without-at ns p.0 p.1 p.3 in
+      inr (inl (
+        at.0,
+        p.0,
+        at.1,
+        subst (owed (number_of place) m) p.2 pays,
+        subst (λ (l : List Noted). OneEach owed broken (suc place) ms fs l marks (length lost)) at.2 (others fs p.1 marks lost p.4),
+      ))
+  one_first place m ms y P others pays fs ns marks lost (inr (inr (inl p))) =
+      let at = Without-at marks p.0 p.1 p.3 in
+      inr (inr (inl (
+        at.0,
+        p.0,
+        at.1,
+        subst (owed (number_of place) m) p.2 pays,
+        subst (λ (l : List Noted). OneEach owed broken (suc place) ms fs ns l (length lost)) at.2 (others fs ns p.1 lost p.4),
+      )))
+  one_first place m ms y P others pays fs ns marks lost (inr (inr (inr p))) =
+      inr (inr (inr (
+        length p.0,
+        Without-length lost y p.0 p.1,
+        whole (number_of place) m y pays,
+        others fs ns marks p.0 p.2,
+      )))
 
-  -- where no reply that comes later is owed, each goes out at once
-  pub Pairs-now : ((seq : ℕ) (m : List ℕ) (number : ℕ) (id : RequestId) → owed seq m (Deferred number id) → ⊥)
-      → (asked : List (ℕ × List ℕ)) (outs : List Out) → Pairs (λ (p : ℕ × List ℕ) (o : Out). owed p.0 p.1 o) asked outs → All GoesNow outs
-  Pairs-now never = Pairs-all (λ (p : ℕ × List ℕ) (o : Out). owed p.0 p.1 o) GoesNow (goes_now never)
-
-  module _ (broken : List ℕ → Type 0) (whole : (seq : ℕ) (m : List ℕ) (out : Out) → owed seq m out → broken m → ⊥) where
-    -- the first message, where the others are one each in what is left
-    one_first : (place : ℕ) (m : List ℕ) (ms : List (List ℕ)) (y : Out) (P : List (List ℕ) → List Noted → List Noted → List Out → Type 0)
-        → ((fs : List (List ℕ)) (ns marks : List Noted) (lost : List Out) → P fs ns marks lost → OneEach owed broken (suc place) ms fs ns marks (length lost))
-        → owed (number_of place) m y → (fs : List (List ℕ)) (ns marks : List Noted) (lost : List Out) → OneLess P y fs ns marks lost
-        → OneEach owed broken place (m ∷ ms) fs ns marks (length lost)
-    one_first place m ms y P others pays fs ns marks lost (inl p) =
-        let at = Without-at fs p.0 p.1 p.3 in
-        inl (
-          at.0,
-          p.0,
-          at.1,
-          subst (owed (number_of place) m) p.2 pays,
-          subst (λ (l : List (List ℕ)). OneEach owed broken (suc place) ms l ns marks (length lost)) at.2 (others p.1 ns marks lost p.4),
-        )
-    one_first place m ms y P others pays fs ns marks lost (inr (inl p)) =
-        let at = Without-at ns p.0 p.1 p.3 in
-        inr (inl (
-          at.0,
-          p.0,
-          at.1,
-          subst (owed (number_of place) m) p.2 pays,
-          subst (λ (l : List Noted). OneEach owed broken (suc place) ms fs l marks (length lost)) at.2 (others fs p.1 marks lost p.4),
-        ))
-    one_first place m ms y P others pays fs ns marks lost (inr (inr (inl p))) =
-        let at = Without-at marks p.0 p.1 p.3 in
-        inr (inr (inl (
-          at.0,
-          p.0,
-          at.1,
-          subst (owed (number_of place) m) p.2 pays,
-          subst (λ (l : List Noted). OneEach owed broken (suc place) ms fs ns l (length lost)) at.2 (others fs ns p.1 lost p.4),
-        )))
-    one_first place m ms y P others pays fs ns marks lost (inr (inr (inr p))) =
-        inr (inr (inr (
-          length p.0,
-          Without-length lost y p.0 p.1,
-          whole (number_of place) m y pays,
-          others fs ns marks p.0 p.2,
-        )))
-
-    -- pairs of messages and outs are one frame, note, mark or lost one for each message, where nothing is owed to a broken one
-    pub OneEach-parts : (place : ℕ) (ms fs : List (List ℕ)) (ns marks : List Noted) (outs lost : List Out)
-        → Pairs (λ (p : ℕ × List ℕ) (o : Out). owed p.0 p.1 o) (numbered place ms) outs → Parts outs fs ns marks lost
-        → OneEach owed broken place ms fs ns marks (length lost)
-    OneEach-parts place [] fs ns marks outs lost h parts =
-        let none = subst (λ (o : List Out). Parts o fs ns marks lost) h parts in
-        (none.0, none.1, none.2, ap (λ (l : List Out). length l) none.3)
-    OneEach-parts place (m ∷ ms) fs ns marks outs lost h parts =
-        one_first place m ms h.1 (Parts (h.0 ++ h.2))
-        (λ fs' ns' marks' lost' p. OneEach-parts (suc place) ms fs' ns' marks' (h.0 ++ h.2) lost' h.5 p)
-        h.4 fs ns marks lost
-        (Parts-removed h.0 h.1 h.2 fs ns marks lost (subst (λ (o : List Out). Parts o fs ns marks lost) h.3 parts))
+  -- pairs of messages and outs are one frame, note, mark or lost one for each message, where nothing is owed to a broken one
+  pub OneEach-parts : (place : ℕ) (ms fs : List (List ℕ)) (ns marks : List Noted) (outs lost : List Out)
+      → Pairs (λ (p : ℕ × List ℕ) (o : Out). owed p.0 p.1 o) (numbered place ms) outs → Parts outs fs ns marks lost
+      → OneEach owed broken place ms fs ns marks (length lost)
+  OneEach-parts place [] fs ns marks outs lost h parts =
+      let none = subst (λ (o : List Out). Parts o fs ns marks lost) h parts in
+      (none.0, none.1, none.2, ap (λ (l : List Out). length l) none.3)
+  OneEach-parts place (m ∷ ms) fs ns marks outs lost h parts =
+      one_first place m ms h.1 (Parts (h.0 ++ h.2))
+      (λ fs' ns' marks' lost' p. OneEach-parts (suc place) ms fs' ns' marks' (h.0 ++ h.2) lost' h.5 p)
+      h.4 fs ns marks lost
+      (Parts-removed h.0 h.1 h.2 fs ns marks lost (subst (λ (o : List Out). Parts o fs ns marks lost) h.3 parts))
