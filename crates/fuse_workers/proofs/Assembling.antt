@@ -152,21 +152,21 @@ refused_last Gone last = []
 refused_last (Destroy seq id) last = []
 refused_last Failed last = []
 
-heard-parts : (stopped : Stopped) (count : ℕ) (ms last : List (List ℕ)) (none_left failed : Type 0) → StopsWith stopped count last none_left failed
+heard-parts : (stopped : Stopped) (number : ℕ) (ms last : List (List ℕ)) (none_left failed : Type 0) → StopsWith stopped number last none_left failed
     → ms ++ last ≡ (ms ++ answered_last stopped last) ++ refused_last stopped last
-heard-parts Gone count ms last none_left failed stops = ap (λ (l : List (List ℕ)). ms ++ l) stops.0 ∙ sym (append-nil (ms ++ []))
-heard-parts (Destroy seq id) count ms last none_left failed stops = sym (append-nil (ms ++ last))
-heard-parts (Broken e) count ms last none_left failed stops = ap (λ (l : List (List ℕ)). l ++ last) (sym (append-nil ms))
-heard-parts Failed count ms last none_left failed stops = ap (λ (l : List (List ℕ)). ms ++ l) stops.0 ∙ sym (append-nil (ms ++ []))
+heard-parts Gone number ms last none_left failed stops = ap (λ (l : List (List ℕ)). ms ++ l) stops.0 ∙ sym (append-nil (ms ++ []))
+heard-parts (Destroy seq id) number ms last none_left failed stops = sym (append-nil (ms ++ last))
+heard-parts (Broken e) number ms last none_left failed stops = ap (λ (l : List (List ℕ)). l ++ last) (sym (append-nil ms))
+heard-parts Failed number ms last none_left failed stops = ap (λ (l : List (List ℕ)). ms ++ l) stops.0 ∙ sym (append-nil (ms ++ []))
 
-ends-parts : (stopped : Stopped) (count : ℕ) (ms last : List (List ℕ)) (none_left failed : Type 0) → AllGoOn ms
-    → StopsWith stopped count last none_left failed
+ends-parts : (stopped : Stopped) (number : ℕ) (ms last : List (List ℕ)) (none_left failed : Type 0) → AllGoOn ms
+    → StopsWith stopped number last none_left failed
     → RunEnds (end_of stopped) (ms ++ answered_last stopped last) (refused_last stopped last) none_left failed
-ends-parts Gone count ms last none_left failed go stops = (refl, subst AllGoOn (sym (append-nil ms)) go, stops.1)
-ends-parts (Destroy seq id) count ms last none_left failed go stops =
+ends-parts Gone number ms last none_left failed go stops = (refl, subst AllGoOn (sym (append-nil ms)) go, stops.1)
+ends-parts (Destroy seq id) number ms last none_left failed go stops =
     (refl, (ms, stops.0, ap (λ (l : List (List ℕ)). ms ++ l) stops.1, go, stops.2))
-ends-parts (Broken e) count ms last none_left failed go stops = (stops, subst AllGoOn (sym (append-nil ms)) go)
-ends-parts Failed count ms last none_left failed go stops = (refl, subst AllGoOn (sym (append-nil ms)) go, stops.1)
+ends-parts (Broken e) number ms last none_left failed go stops = (stops, subst AllGoOn (sym (append-nil ms)) go)
+ends-parts Failed number ms last none_left failed go stops = (refl, subst AllGoOn (sym (append-nil ms)) go, stops.1)
 
 -- a run whose messages were taken and answered
 pub Run-conducted : (owed : Owing) (stopped : Stopped) (a a' : IntakeState) (b b' : OutletState) (jobs : Hand Job) (frames : Hand Parcel)
@@ -180,7 +180,7 @@ Run-conducted owed stopped a a' b b' jobs frames conducts none_taken none_sent =
   sent = conducts.relays.sent;
   notes = conducts.relays.notes;
   lost = conducts.relays.lost;
-  heard = hears.heard ∙ heard-parts stopped (length ms) ms hears.last (NothingLeft a'.source) (SourceFailed a.source a'.source) hears.stops;
+  heard = hears.heard ∙ heard-parts stopped (number_of (length ms)) ms hears.last (NothingLeft a'.source) (SourceFailed a.source a'.source) hears.stops;
   order = OneEach-weaken (at_once owed) owed IsBroken (λ seq m out pays. pays.0) 0 answered conducts.relays.sent conducts.relays.notes []
       (length conducts.relays.lost)
       (subst (λ (marks : List Note). OneEach (at_once owed) IsBroken 0 answered conducts.relays.sent conducts.relays.notes marks (length conducts.relays.lost))
@@ -191,7 +191,7 @@ Run-conducted owed stopped a a' b b' jobs frames conducts none_taken none_sent =
       (conducts.relays.moved a.source []) none_sent (hears.received 0 none_taken ∙ ap number_of (omega (arith)));
   begins = hears.begins;
   taken = λ other. hears.taken (λ is. other (ap end_of is));
-  ended = ends-parts stopped (length ms) ms hears.last (NothingLeft a'.source) (SourceFailed a.source a'.source) hears.go_on hears.stops;
+  ended = ends-parts stopped (number_of (length ms)) ms hears.last (NothingLeft a'.source) (SourceFailed a.source a'.source) hears.go_on hears.stops;
 } where
   ms : List (List ℕ)
   ms = conducts.conducted.0

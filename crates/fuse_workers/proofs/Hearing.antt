@@ -7,7 +7,7 @@ use Rattle.fuse_wire.proofs.Devices.{Takes-none, Takes-then}
 use Rattle.fuse_wire.specs.declared.newtypes.RequestId.{RequestId}
 use Rattle.fuse_request.specs.Header.{header}
 use Rattle.fuse_request.specs.declared.error.RequestError.{RequestError}
-use Rattle.fuse_workers.specs.Hearing.{Hears, HearsOn, StopsAfter, StopsWith}
+use Rattle.fuse_workers.specs.Hearing.{HearsLast, HearsOn, StopsWith}
 use Rattle.fuse_workers.specs.Incoming.{id_of, incoming}
 use Rattle.fuse_workers.specs.Incoming.Incoming.{Destroy as IsDestroy, Request}
 use Rattle.fuse_workers.specs.OneEach.{number_of}
@@ -55,11 +55,12 @@ HearsOn-then ms more a b c first second = record {
 }
 
 -- no message was left
-pub StopsAfter-gone : (count : ℕ) (a b : IntakeState) → Receives NoneLeft a b → StopsAfter Gone count a b
-StopsAfter-gone count a b gone = record {
+pub HearsLast-gone : (number : ℕ) (a b : IntakeState) → Receives NoneLeft a b → HearsLast Gone number [] a b
+HearsLast-gone number a b gone = record {
   turns = [];
   last = [];
   heard = refl;
+  go_on = tt;
   begins = Begins-none a.source;
   taken = λ _. gone.0;
   received = λ n is. gone.2 ∙ (is ∙ ap number_of (omega arith));
@@ -67,11 +68,12 @@ StopsAfter-gone count a b gone = record {
 }
 
 -- the source failed
-pub StopsAfter-failed : (count : ℕ) (a b : IntakeState) → Receives NoneCame a b → StopsAfter Failed count a b
-StopsAfter-failed count a b failed = record {
+pub HearsLast-failed : (number : ℕ) (a b : IntakeState) → Receives NoneCame a b → HearsLast Failed number [] a b
+HearsLast-failed number a b failed = record {
   turns = [];
   last = [];
   heard = refl;
+  go_on = tt;
   begins = Begins-none a.source;
   taken = λ other. absurd (other refl);
   received = λ n is. failed.1 ∙ (is ∙ ap number_of (omega arith));
@@ -79,12 +81,14 @@ StopsAfter-failed count a b failed = record {
 }
 
 -- a last message was taken
-last-taken : (stopped : Stopped) (count n : ℕ) (a b : IntakeState) (received : Receives (Message n) a b)
-    → StopsWith stopped count (message received.0.turn ∷ []) (NothingLeft b.source) (SourceFailed a.source b.source) → StopsAfter stopped count a b
-last-taken stopped count n a b received stops = record {
+last-taken : (stopped : Stopped) (number n : ℕ) (a b : IntakeState) (received : Receives (Message n) a b)
+    → StopsWith stopped number (message received.0.turn ∷ []) (NothingLeft b.source) (SourceFailed a.source b.source)
+    → HearsLast stopped number [] a b
+last-taken stopped number n a b received stops = record {
   turns = received.0.turn ∷ [];
   last = message received.0.turn ∷ [];
   heard = refl;
+  go_on = tt;
   begins = Begins-from_takes (received.0.turn ∷ []) a.source b.source received.0.taken;
   taken = λ _. received.0.taken;
   received = λ k is. received-one k a b received.1 is;
@@ -92,35 +96,36 @@ last-taken stopped count n a b received stops = record {
 }
 
 -- a message without a good header
-pub StopsAfter-broken : (count n : ℕ) (e : RequestError) (a b : IntakeState) → Receives (Message n) a b → header (take n b.buffer) ≡ Err e
-    → StopsAfter (Broken e) count a b
-StopsAfter-broken count n e a b received broken =
-    last-taken (Broken e) count n a b received
+pub HearsLast-broken : (number n : ℕ) (e : RequestError) (a b : IntakeState) → Receives (Message n) a b → header (take n b.buffer) ≡ Err e
+    → HearsLast (Broken e) number [] a b
+HearsLast-broken number n e a b received broken =
+    last-taken (Broken e) number n a b received
     (message received.0.turn, refl, subst (λ (m : List ℕ). header m ≡ Err e) received.0.bytes broken)
 
 -- DESTROY
-pub StopsAfter-destroy : (count n seq : ℕ) (id : RequestId) (a b : IntakeState) → Receives (Message n) a b → incoming (take n b.buffer) ≡ IsDestroy
-    → id.0 ≡ id_of (take n b.buffer) → number_of count ≡ seq → StopsAfter (Destroy seq id) count a b
-StopsAfter-destroy count n seq id a b received is id_is number =
-    last-taken (Destroy seq id) count n a b received (
+pub HearsLast-destroy : (seq n : ℕ) (id : RequestId) (a b : IntakeState) → Receives (Message n) a b → incoming (take n b.buffer) ≡ IsDestroy
+    → id.0 ≡ id_of (take n b.buffer) → HearsLast (Destroy seq id) seq [] a b
+HearsLast-destroy seq n id a b received is id_is =
+    last-taken (Destroy seq id) seq n a b received (
       message received.0.turn,
       refl,
       subst (λ (m : List ℕ). incoming m ≡ IsDestroy) received.0.bytes is,
       subst (λ (m : List ℕ). id.0 ≡ id_of m) received.0.bytes id_is,
-      sym number,
+      refl,
     )
 
 -- why no more are taken, after other requests
-StopsWith-after : (stopped : Stopped) (count : ℕ) (last : List (List ℕ)) (none_left failed failed' : Type 0) → (failed → failed')
-    → StopsWith stopped count last none_left failed → StopsWith stopped count last none_left failed'
-StopsWith-after Gone count last none_left failed failed' longer stops = stops
-StopsWith-after (Destroy seq id) count last none_left failed failed' longer stops = stops
-StopsWith-after (Broken e) count last none_left failed failed' longer stops = stops
-StopsWith-after Failed count last none_left failed failed' longer stops = (stops.0, longer stops.1)
+StopsWith-after : (stopped : Stopped) (number : ℕ) (last : List (List ℕ)) (none_left failed failed' : Type 0) → (failed → failed')
+    → StopsWith stopped number last none_left failed → StopsWith stopped number last none_left failed'
+StopsWith-after Gone number last none_left failed failed' longer stops = stops
+StopsWith-after (Destroy seq id) number last none_left failed failed' longer stops = stops
+StopsWith-after (Broken e) number last none_left failed failed' longer stops = stops
+StopsWith-after Failed number last none_left failed failed' longer stops = (stops.0, longer stops.1)
 
-pub Hears-stopped : (stopped : Stopped) (ms : List (List ℕ)) (a b c : IntakeState) → HearsOn ms a b → StopsAfter stopped (length ms) b c
-    → Hears stopped ms a c
-Hears-stopped stopped ms a b c first stop = record {
+-- some requests, and then the last message, or none
+pub HearsLast-then : (stopped : Stopped) (number : ℕ) (ms : List (List ℕ)) (a b c : IntakeState) → HearsOn ms a b → HearsLast stopped number [] b c
+    → HearsLast stopped number ms a c
+HearsLast-then stopped number ms a b c first stop = record {
   turns = first.turns ++ stop.turns;
   last = stop.last;
   heard = map-append message first.turns stop.turns
@@ -129,6 +134,6 @@ Hears-stopped stopped ms a b c first stop = record {
   begins = Begins-after first.turns stop.turns a.source b.source first.taken stop.begins;
   taken = λ other. Takes-then first.turns stop.turns a.source b.source c.source first.taken (stop.taken other);
   received = λ n is. stop.received (n + length first.turns) (first.received n is) ∙ ap number_of (omega (arith, length-append first.turns stop.turns));
-  stops = StopsWith-after stopped (length ms) stop.last (NothingLeft c.source) (SourceFailed b.source c.source) (SourceFailed a.source c.source)
+  stops = StopsWith-after stopped number stop.last (NothingLeft c.source) (SourceFailed b.source c.source) (SourceFailed a.source c.source)
       (Failed-after a.source b.source c.source first.taken.faults) stop.stops;
 }

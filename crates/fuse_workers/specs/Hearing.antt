@@ -22,27 +22,17 @@ pub record HearsOn (messages : List (List ℕ)) (before after : IntakeState) : T
   pub taken : Takes turns before.source after.source
   pub received : (n : ℕ) → before.received ≡ number_of n → after.received ≡ number_of (n + length turns)
 
--- Why no more are taken after so many requests, with the last message, or none: no message is left; it is DESTROY, of this number and id;
--- it has no good header; or the source failed.
-abbrev pub StopsWith : Stopped → (count : ℕ) → (last : List (List ℕ)) → (none_left failed : Type 0) → Type 0
-StopsWith Gone count last none_left failed = (last ≡ []) × none_left
-StopsWith (Destroy seq id) count last none_left failed =
-    (m : List ℕ) × (last ≡ m ∷ []) × (incoming m ≡ IsDestroy) × (id.0 ≡ id_of m) × (seq ≡ number_of count)
-StopsWith (Broken e) count last none_left failed = HeaderRefused e last
-StopsWith Failed count last none_left failed = (last ≡ []) × failed
+-- Why no more are taken, with the last message, or none: no message is left; it is DESTROY, of this number and id; it has no good header;
+-- or the source failed.
+abbrev pub StopsWith : Stopped → (number : ℕ) → (last : List (List ℕ)) → (none_left failed : Type 0) → Type 0
+StopsWith Gone number last none_left failed = (last ≡ []) × none_left
+StopsWith (Destroy seq id) number last none_left failed =
+    (m : List ℕ) × (last ≡ m ∷ []) × (incoming m ≡ IsDestroy) × (id.0 ≡ id_of m) × (seq ≡ number)
+StopsWith (Broken e) number last none_left failed = HeaderRefused e last
+StopsWith Failed number last none_left failed = (last ≡ []) × failed
 
--- after so many requests the last message was taken, or none, and no more are
-pub record StopsAfter (stopped : Stopped) (count : ℕ) (before after : IntakeState) : Type 0 where
-  pub turns : List (List ℕ)
-  pub last : List (List ℕ)
-  pub heard : map message turns ≡ last
-  pub begins : Begins turns before.source
-  pub taken : stopped ≢ Failed → Takes turns before.source after.source
-  pub received : (n : ℕ) → before.received ≡ number_of n → after.received ≡ number_of (n + length turns)
-  pub stops : StopsWith stopped count last (NothingLeft after.source) (SourceFailed before.source after.source)
-
--- these requests were taken, and then the last message, or none
-pub record Hears (stopped : Stopped) (messages : List (List ℕ)) (before after : IntakeState) : Type 0 where
+-- these requests were taken, and then the last message, of this number, or none
+pub record HearsLast (stopped : Stopped) (number : ℕ) (messages : List (List ℕ)) (before after : IntakeState) : Type 0 where
   pub turns : List (List ℕ)
   pub last : List (List ℕ)
   pub heard : map message turns ≡ messages ++ last
@@ -50,7 +40,11 @@ pub record Hears (stopped : Stopped) (messages : List (List ℕ)) (before after 
   pub begins : Begins turns before.source
   pub taken : stopped ≢ Failed → Takes turns before.source after.source
   pub received : (n : ℕ) → before.received ≡ number_of n → after.received ≡ number_of (n + length turns)
-  pub stops : StopsWith stopped (length messages) last (NothingLeft after.source) (SourceFailed before.source after.source)
+  pub stops : StopsWith stopped number last (NothingLeft after.source) (SourceFailed before.source after.source)
+
+-- the same from the first message on
+abbrev pub Hears : Stopped → (messages : List (List ℕ)) → (before after : IntakeState) → Type 0
+Hears stopped messages before after = HearsLast stopped (number_of (length messages)) messages before after
 
 -- One turn, at any place of this number, of a caller that has handed in the messages before it: one request more was taken and handed
 -- in; or no more are taken, and its passes are as they were.
@@ -59,7 +53,7 @@ abbrev pub TurnHeard : Owing → (seq : ℕ) → Option Stopped → (before afte
 TurnHeard owed seq None before after j f j' f' = (ms : List (List ℕ)) → number_of (length ms) ≡ seq → IsCaller (at_once owed) ms j f
     → (m : List ℕ) × HearsOn (m ∷ []) before after × IsCaller (at_once owed) (ms ++ m ∷ []) j' f'
 TurnHeard owed seq (Some stopped) before after j f j' f' =
-    (j' ≡ j) × (f' ≡ f) × ((count : ℕ) → number_of count ≡ seq → StopsAfter stopped count before after)
+    (j' ≡ j) × (f' ≡ f) × HearsLast stopped seq [] before after
 
 -- how a run ended whose messages are no more taken
 abbrev pub end_of : Stopped → End

@@ -1,10 +1,11 @@
-use Rattle.std.proofs.Common.{◌++◌, ◌∷◌, [], ◌∙◌, arith, length, length-append, refl, subst, sym}
+use Rattle.std.proofs.Common.{◌++◌, ◌∷◌, [], ◌∙◌, ℕ, arith, length, length-append, refl, subst, sym}
 use Rattle.fuse_line.specs.declared.hand.Hand.{Hand}
 use Rattle.fuse_reply.specs.declared.parcel.Parcel.{Parcel}
-use Rattle.fuse_workers.specs.OneEach.{Owing}
+use Rattle.fuse_workers.specs.Hearing.{HearsLast}
+use Rattle.fuse_workers.specs.OneEach.{Owing, number_of}
 use Rattle.fuse_workers.specs.Threads.{IsCaller, at_once}
 use Rattle.fuse_workers.specs.declared.state.Job.{Job}
-use Rattle.fuse_workers.proofs.Hearing.{Hears-stopped, HearsOn-none, HearsOn-then}
+use Rattle.fuse_workers.proofs.Hearing.{HearsLast-then, HearsOn-none, HearsOn-then}
 use Rattle.fuse_workers.proofs.caller.take_messages.Goals as goal
 
 pub loop-init : goal.loop-init
@@ -17,7 +18,8 @@ returns-in-Some-take_one-clause-heard g c =
     let ms = so_far.4 in
     let turn = c.in-Some-take_one.ensures.turn in (
       ms,
-      Hears-stopped c.in-Some-take_one.stopped ms _ _ _ so_far.6 (turn.2 (length ms) so_far.5),
+      HearsLast-then c.in-Some-take_one.stopped (number_of (length ms)) ms _ _ _ so_far.6
+          (subst (λ (n : ℕ). HearsLast c.in-Some-take_one.stopped n [] c.loop.intake c.take_one.new.intake) (sym so_far.5) turn.2),
       subst (λ (v : Hand Parcel). IsCaller owed ms c.take_one.new.caller.jobs.hand v) (sym turn.1)
           (subst (λ (v : Hand Job). IsCaller owed ms v c.loop.caller.frames.hand) (sym turn.0) so_far.7),
     )

@@ -3,21 +3,21 @@ use Rattle.fuse_request.specs.Header.{header}
 use Rattle.fuse_workers.specs.Answering.{IsRequest}
 use Rattle.fuse_workers.specs.Arrives.{Arrives}
 use Rattle.fuse_workers.specs.declared.incoming.Incoming.TheVariants as found
-use Rattle.fuse_workers.proofs.Hearing.{HearsOn-one, StopsAfter-broken, StopsAfter-destroy, StopsAfter-failed, StopsAfter-gone}
+use Rattle.fuse_workers.proofs.Hearing.{HearsLast-broken, HearsLast-destroy, HearsLast-failed, HearsLast-gone, HearsOn-one}
 use Rattle.fuse_workers.proofs.LoopSteps.{incoming-request}
 use Rattle.fuse_workers.proofs.caller.take_one.Goals as goal
 
 pub returns-in-Gone-clause-turn : goal.returns-in-Gone-clause-turn
-returns-in-Gone-clause-turn g c = (refl, refl, λ count number. StopsAfter-gone count _ _ c.in-Gone.ensures)
+returns-in-Gone-clause-turn g c = (refl, refl, HearsLast-gone c.args.seq _ _ c.in-Gone.ensures)
 
 pub returns-in-Failed-clause-turn : goal.returns-in-Failed-clause-turn
-returns-in-Failed-clause-turn g c = (refl, refl, λ count number. StopsAfter-failed count _ _ c.in-Failed.ensures)
+returns-in-Failed-clause-turn g c = (refl, refl, HearsLast-failed c.args.seq _ _ c.in-Failed.ensures)
 
 pub returns-in-Broken-clause-turn : goal.returns-in-Broken-clause-turn
 returns-in-Broken-clause-turn g c = (
   refl,
   refl,
-  λ count number. StopsAfter-broken count c.in-Message.count c.in-Broken.error _ _ c.in-Message.ensures
+  HearsLast-broken c.args.seq c.in-Message.count c.in-Broken.error _ _ c.in-Message.ensures
       (subst (λ (m : List ℕ). header m ≡ Err c.in-Broken.error) c.message-message.ensures c.in-Broken.ensures),
 )
 
@@ -28,7 +28,7 @@ returns-in-Destroy-clause-turn g c =
     subst (λ (x : List ℕ). Arrives (found.Destroy c.in-Destroy.id) x) c.message-message.ensures c.in-Destroy.ensures in (
       refl,
       refl,
-      λ count number. StopsAfter-destroy count c.in-Message.count c.args.seq c.in-Destroy.id _ _ c.in-Message.ensures arrives.0 arrives.1 number,
+      HearsLast-destroy c.args.seq c.in-Message.count c.in-Destroy.id _ _ c.in-Message.ensures arrives.0 arrives.1,
     )
 
 pub returns-in-Request-clause-turn : goal.returns-in-Request-clause-turn
