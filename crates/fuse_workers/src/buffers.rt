@@ -2,6 +2,7 @@
 ghost use Rattle.std.specs.Prelude.{◌≡◌, IfOk};
 ghost use Rattle.fuse_notify.specs.Queueing.{fresh_door};
 ghost use Rattle.fuse_workers.specs.Lines.{IsUnused};
+ghost use Rattle.fuse_workers.specs.declared.state.TheConstants.{LINE_PLACES};
 
 use crate::request_job::RequestJob;
 use crate::run_line::RunLine;
@@ -62,7 +63,9 @@ impl Model for Buffers {
 impl Buffers {
     /// Takes it.
     pub fn new(alloc: Global) -> Result<Buffers, NoMemory>
-        ensures { IfOk result IsUnused }
+        ensures unused { IfOk result IsUnused }
+        ensures places { IfOk result (λ made. (made.frames.line.slots ≡ LINE_PLACES)
+            × (made.jobs.line.slots ≡ LINE_PLACES)) }
     {
         let receive = receive_buffer(alloc)?;
         let mut frames = RunLine::new(alloc)?;
