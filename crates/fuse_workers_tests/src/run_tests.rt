@@ -1,168 +1,204 @@
-// Runs over memory, on one thread and on several.
-use crate::works::{Counting, Meeting};
+// Runs over memory that lose nothing, on one thread and on several.
+use crate::paced::paced;
+use crate::runs::{
+    Became, Said, WORKERS, all_well, counts, letter, message, read_frames, run_counting, run_of,
+    taking, turns,
+};
+use crate::works::{Counting, Holding, Meeting};
 use fuse_request::opcode::{FUSE_DESTROY, FUSE_STATFS};
-use fuse_wire::{Items, MemorySink, MemorySource, NoMemory, Turn};
-use fuse_workers::{Buffers, End, RunEnd, Transcript, run_inline, run_workers};
+use fuse_wire::{Items, MemorySource, NoMemory, Turn};
+use fuse_workers::Transcript;
 use std::alloc::{AllocGlobal, Global};
 use std::sync::Wait;
-use std::sync::atomic::AtomicU64;
 use std::test::Fail;
 use std::thread::Threads;
 
-/// A message with no arguments.
-fn message(alloc: Global, opcode: u32, id: u64) -> Result<Turn, NoMemory> {
-    let mut bytes = vec![in alloc; 0; 40]?;
-    bytes[0] = 40;
-    bytes[4..8].copy_from_slice(&opcode.to_le_bytes());
-    bytes[8..16].copy_from_slice(&id.to_le_bytes());
-    Ok(Turn::Message(Items::from_vec(bytes)))
+/// What becomes of so many messages and a last turn, and what the frames say of so many ids.
+fn run_to<R: Threads + Wait + AllocGlobal + Sync>(
+    rt: &R,
+    workers: Option<usize>,
+    count: u64,
+    last: Option<Turn>,
+    ids: u64,
+) -> Result<Became, NoMemory> {
+    let alloc = rt.alloc();
+    let turns = turns(alloc, count, last)?;
+    let (became, _source) = run_counting(rt, workers, turns, taking(alloc), ids)?;
+    Ok(became)
 }
 
-/// So many STATFS, whose ids are their places, and then a last turn, if there is one.
-fn turns(alloc: Global, count: u64, last: Option<Turn>) -> Result<Vec<Turn>, NoMemory> {
-    let mut turns = Vec::new(alloc);
-    for id in 0..count {
-        if turns.push(message(alloc, FUSE_STATFS, id)?).is_err() {
-            return Err(NoMemory);
+#[test]
+fn each_message_is_answered_by_one_call_and_one_frame(rt: HostRuntime) -> Result<(), Fail> {
+    for (workers, count) in [
+        (None, 100),
+        (Some(0), 100),
+        (Some(1), 100),
+        (Some(3), 100),
+        (Some(64), 100),
+        (Some(8), 100_000),
+        (Some(3), 0),
+    ] {
+        let became = run_to(&rt, workers, count, None, count)?;
+        assert_eq!(rt; became, all_well(rt.alloc(), count)?, "{workers:?}");
+    }
+    Ok(())
+}
+
+/// The end of ten messages: how it ended, how many messages were received, and how many frames were sent.
+fn ended(alloc: Global, end: u8, received: u64, frames: u64) -> Result<Became, NoMemory> {
+    Ok(Became {
+        end,
+        transcript: counts(received, frames, 0),
+        calls: 10,
+        said: Said::all(alloc, frames, Vec::new(alloc))?,
+    })
+}
+
+#[test]
+fn a_run_ends_by_its_last_turn(rt: HostRuntime) -> Result<(), Fail> {
+    let alloc = rt.alloc();
+    for workers in WORKERS {
+        let destroy = message(alloc, FUSE_DESTROY, 10)?;
+        let short = Turn::Message(Items::from_vec(vec![in alloc; 0; 20]?));
+        let expected = [
+            (destroy, b'd', 11, 11),
+            (short, b'b', 11, 10),
+            (Turn::Fail, b'f', 10, 10),
+        ];
+        for (last, end, received, frames) in expected {
+            let became = run_to(&rt, workers, 10, Some(last), frames)?;
+            assert_eq!(rt; became, ended(alloc, end, received, frames)?, "{workers:?}");
         }
     }
-    if let Some(last) = last {
-        if turns.push(last).is_err() {
+    Ok(())
+}
+
+/// So many messages, whose ids are their places, with so many turns that give nothing before each.
+fn apart(alloc: Global, count: u64, nothing: u64) -> Result<Vec<Turn>, NoMemory> {
+    let mut turns = Vec::new(alloc);
+    for id in 0..count {
+        for _turn in 0..nothing {
+            if turns.push(Turn::Retry).is_err() {
+                return Err(NoMemory);
+            }
+        }
+        if turns.push(message(alloc, FUSE_STATFS, id)?).is_err() {
             return Err(NoMemory);
         }
     }
     Ok(turns)
 }
 
-fn counting() -> Counting {
-    Counting {
-        answered: AtomicU64::new(0),
-    }
-}
-
-/// What was counted of so many messages, of which so many frames were taken.
-fn counts(received: u64, frames: u64) -> Transcript {
-    Transcript {
-        received,
-        frames,
-        notes: 0,
-        lost: 0,
-        unrecorded: 0,
-    }
-}
-
-/// Whether the frames are the empty replies of all ids below a number, each once.
-fn are_all_empty_replies(alloc: Global, sink: &MemorySink, count: usize) -> Result<bool, NoMemory> {
-    let mut seen = vec![in alloc; false; count]?;
-    for frame in sink.frames() {
-        let bytes = frame.as_slice();
-        if bytes.len() != 16 || bytes[..8] != [16, 0, 0, 0, 0, 0, 0, 0] {
-            return Ok(false);
+#[test]
+fn turns_that_give_nothing_change_nothing(rt: HostRuntime) -> Result<(), Fail> {
+    let alloc = rt.alloc();
+    for workers in WORKERS {
+        for (count, nothing) in [(1, 1), (10, 1), (3, 100_000)] {
+            let turns = apart(alloc, count, nothing)?;
+            let (became, _source) = run_counting(&rt, workers, turns, taking(alloc), count)?;
+            assert_eq!(rt; became, all_well(alloc, count)?, "{workers:?}");
         }
-        let mut id = [0; 8];
-        id.copy_from_slice(&bytes[8..16]);
-        let id = u64::from_le_bytes(id) as usize;
-        if id >= count || seen[id] {
-            return Ok(false);
-        }
-        seen[id] = true;
     }
-    Ok(seen.iter().all(|one| *one))
+    Ok(())
 }
 
-/// What became of a run: how it ended, as a letter, its counts, and whether its frames are the empty replies of all ids
-/// below their number, each once.
-type Became = (u8, Transcript, bool);
-
-fn became(alloc: Global, ran: RunEnd<MemorySource, MemorySink>) -> Result<Became, NoMemory> {
-    let letter = match ran.end {
-        End::Gone => b'g',
-        End::Destroyed => b'd',
-        End::Broken(_) => b'b',
-        End::Failed => b'f',
-    };
-    let whole = are_all_empty_replies(alloc, &ran.sink, ran.sink.frames().len())?;
-    Ok((letter, ran.transcript, whole))
-}
-
-/// What becomes of so many messages and a last turn, on so many workers, or on the one thread of its caller.
-fn run_of<R: Threads + Wait + AllocGlobal + Sync>(
+/// What becomes of so many messages, each of which comes once the frame of the one before it was sent, and whether the
+/// frames are in their order.
+fn run_paced<R: Threads + Wait + AllocGlobal + Sync>(
     rt: &R,
     workers: Option<usize>,
     count: u64,
-    last: Option<Turn>,
-) -> Result<Became, NoMemory> {
+) -> Result<(u8, Transcript, u64, bool), NoMemory> {
     let alloc = rt.alloc();
-    let work = counting();
-    let source = MemorySource::new(turns(alloc, count, last)?);
-    let sink = MemorySink::new(alloc, Vec::new(alloc));
-    let buffers = Buffers::new(alloc)?;
-    let ran = match workers {
-        None => run_inline(rt, &work, source, sink, buffers),
-        Some(workers) => run_workers(rt, &work, source, sink, buffers, workers),
-    };
-    became(alloc, ran)
-}
-
-/// What becomes of as many messages as workers, each of which is held until all have begun.
-fn meeting_of<R: Threads + Wait + AllocGlobal + Sync>(
-    rt: &R,
-    workers: usize,
-) -> Result<Became, NoMemory> {
-    let alloc = rt.alloc();
-    let work = Meeting {
-        begun: AtomicU64::new(0),
-        awaited: workers as u64,
-    };
-    let source = MemorySource::new(turns(alloc, workers as u64, None)?);
-    let sink = MemorySink::new(alloc, Vec::new(alloc));
-    let ran = run_workers(rt, &work, source, sink, Buffers::new(alloc)?, workers);
-    became(alloc, ran)
+    let work = Counting::new();
+    let (source, sink) = paced(alloc, turns(alloc, count, None)?)?;
+    let ran = run_of(rt, &work, workers, source, sink)?;
+    let mut in_order = true;
+    let mut id: u64 = 0;
+    for frame in ran.sink.inner.frames() {
+        in_order = in_order && frame.as_slice() == empty_reply(id).as_slice();
+        id = id.saturating_add(1);
+    }
+    Ok((letter(&ran.end), ran.transcript, work.calls(), in_order))
 }
 
 #[test]
-fn each_message_has_its_frame(rt: HostRuntime) -> Result<(), Fail> {
-    for (workers, count) in [
-        (0, 100),
-        (1, 100),
-        (3, 100),
-        (64, 100),
-        (8, 100_000),
-        (3, 0),
-    ] {
+fn a_message_is_answered_before_the_next_one_comes(rt: HostRuntime) -> Result<(), Fail> {
+    for workers in WORKERS {
+        let became = run_paced(&rt, workers, 1000)?;
         assert_eq!(rt;
-            run_of(&rt, Some(workers), count, None)?,
-            (b'g', counts(count, count), true)
+            became,
+            (b'g', counts(1000, 1000, 0), 1000, true),
+            "{workers:?}"
         );
     }
     Ok(())
 }
 
+/// What becomes of as many messages as workers, each of which is held until all have begun.
+fn run_meeting<R: Threads + Wait + AllocGlobal + Sync>(
+    rt: &R,
+    workers: usize,
+) -> Result<(u8, Transcript, Said), NoMemory> {
+    let alloc = rt.alloc();
+    let count = workers as u64;
+    let work = Meeting::new(count);
+    let source = MemorySource::new(turns(alloc, count, None)?);
+    let ran = run_of(rt, &work, Some(workers), source, taking(alloc))?;
+    let said = read_frames(alloc, ran.sink.frames(), count)?;
+    Ok((letter(&ran.end), ran.transcript, said))
+}
+
 #[test]
 fn as_many_answer_at_once_as_workers_are_asked_for(rt: HostRuntime) -> Result<(), Fail> {
+    let alloc = rt.alloc();
     for workers in [2, 3, 8] {
-        let all = counts(workers as u64, workers as u64);
-        assert_eq!(rt; meeting_of(&rt, workers)?, (b'g', all, true));
+        let count = workers as u64;
+        let said = Said::all(alloc, count, Vec::new(alloc))?;
+        assert_eq!(rt;
+            run_meeting(&rt, workers)?,
+            (b'g', counts(count, count, 0), said)
+        );
     }
     Ok(())
 }
 
-#[test]
-fn a_run_ends_by_its_last_turn(rt: HostRuntime) -> Result<(), Fail> {
+/// The frame of an empty reply.
+fn empty_reply(id: u64) -> [u8; 16] {
+    let mut frame = [0; 16];
+    frame[0] = 16;
+    frame[8..].copy_from_slice(&id.to_le_bytes());
+    frame
+}
+
+/// What the frames before the last one say of so many messages, each held for a while, and whether the last frame is
+/// the reply to the DESTROY after them.
+fn run_held<R: Threads + Wait + AllocGlobal + Sync>(
+    rt: &R,
+    workers: usize,
+    count: u64,
+) -> Result<(Said, bool), NoMemory> {
     let alloc = rt.alloc();
-    for workers in [None, Some(0), Some(1), Some(4)] {
-        let destroy = message(alloc, FUSE_DESTROY, 10)?;
-        let short = Turn::Message(Items::from_vec(vec![in alloc; 0; 20]?));
-        let expected = [
-            (destroy, (b'd', counts(11, 11), true)),
-            (short, (b'b', counts(11, 10), true)),
-            (Turn::Fail, (b'f', counts(10, 10), true)),
-        ];
-        for (last, wanted) in expected {
+    let destroy = message(alloc, FUSE_DESTROY, count)?;
+    let source = MemorySource::new(turns(alloc, count, Some(destroy))?);
+    let ran = run_of(rt, &Holding, Some(workers), source, taking(alloc))?;
+    let Some((last, before)) = ran.sink.frames().split_last() else {
+        return Ok((Said::all(alloc, 0, Vec::new(alloc))?, false));
+    };
+    let is_last = last.as_slice() == empty_reply(count).as_slice();
+    Ok((read_frames(alloc, before, count)?, is_last))
+}
+
+#[test]
+fn the_reply_to_destroy_is_the_last(rt: HostRuntime) -> Result<(), Fail> {
+    let alloc = rt.alloc();
+    for (workers, count) in [(1, 8), (4, 8), (8, 8), (4, 100), (8, 100)] {
+        for _round in 0..20 {
+            let said = Said::all(alloc, count, Vec::new(alloc))?;
             assert_eq!(rt;
-                run_of(&rt, workers, 10, Some(last))?,
-                wanted,
-                "{workers:?}"
+                run_held(&rt, workers, count)?,
+                (said, true),
+                "{workers}, {count}"
             );
         }
     }

@@ -1,0 +1,61 @@
+// Notices that a work queues while it answers.
+ghost use Rattle.std.specs.Prelude.{◌≡◌};
+
+use crate::runs::{Said, counts, read_frames, run_on, taking, turns};
+use crate::telling::Telling;
+use fuse_notify::Notifier;
+use fuse_wire::{MemorySource, NoMemory};
+use fuse_workers::{Buffers, Transcript};
+use std::alloc::{AllocGlobal, Global};
+use std::sync::Wait;
+use std::test::Fail;
+use std::thread::Threads;
+
+/// A notifier of the work's own, where it is to have one.
+fn own_notifier(buffers: &mut Buffers, is_own: bool) -> Result<Option<Notifier>, NoMemory>
+    ensures { buffers.new ≡ buffers.old }
+{
+    if is_own {
+        Ok(Some(buffers.notifier()?))
+    } else {
+        Ok(None)
+    }
+}
+
+/// The handles of the polls that a work told, and those of the notices in the sink.
+fn told_by<R: Threads + Wait + AllocGlobal + Sync>(
+    rt: &R,
+    workers: Option<usize>,
+    count: u64,
+    each: u64,
+    is_own: bool,
+) -> Result<(Transcript, Said, Vec<u64>), NoMemory> {
+    let alloc = rt.alloc();
+    let mut buffers = Buffers::new(alloc)?;
+    let work = Telling::new(alloc, each, own_notifier(&mut buffers, is_own)?);
+    let source = MemorySource::new(turns(alloc, count, None)?);
+    let ran = run_on(rt, &work, workers, source, taking(alloc), buffers);
+    let sent = read_frames(alloc, ran.sink.frames(), count)?;
+    Ok((ran.transcript, sent, work.into_queued()))
+}
+
+#[test]
+fn each_notice_that_was_queued_is_sent(rt: HostRuntime) -> Result<(), Fail> {
+    let alloc = rt.alloc();
+    for workers in [None, Some(0), Some(1), Some(4), Some(8)] {
+        for is_own in [false, true] {
+            // A line has a place for twenty notices and twenty replies at once, and for 64 of 70 notices. On one thread
+            // it is emptied after each message.
+            for (count, each, least, inline) in [(20, 1, 20, 20), (100, 70, 64, 6400)] {
+                let (transcript, sent, queued) = told_by(&rt, workers, count, each, is_own)?;
+                assert_eq!(rt; transcript, counts(count, count, 0), "{workers:?}");
+                match workers {
+                    None => assert_eq!(rt; queued.len(), inline),
+                    Some(_) => assert!(rt; queued.len() >= least, "{workers:?}"),
+                }
+                assert_eq!(rt; sent, Said::all(alloc, count, queued)?, "{workers:?}");
+            }
+        }
+    }
+    Ok(())
+}
