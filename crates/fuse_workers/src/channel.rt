@@ -14,6 +14,7 @@ use std::marker::Model;
 use std::sync::Wait;
 
 /// The source and the sink of a session, the receive buffer, and the counts. A contract sees what the devices tell.
+#[derive(Drop)]
 pub struct Channel<S: Source, K: Sink> {
     pub(crate) intake: Intake<S>,
     pub(crate) outlet: Outlet<K>,

@@ -14,6 +14,7 @@ mod event_loop;
 mod incoming;
 mod intake;
 pub mod laws;
+mod lent;
 mod lists;
 mod outlet;
 mod request_job;

@@ -7,6 +7,7 @@ ghost use Rattle.fuse_reply.specs.Parcel.{is_prompt};
 ghost use Rattle.fuse_reply.specs.declared.parcel.Parcel.{Parcel as Goes};
 ghost use Rattle.fuse_workers.specs.Relays.{IsRelayed, Relays};
 
+use crate::lent::LentOutlet;
 use crate::outlet::Outlet;
 use fuse_line::{Line, Pass};
 use fuse_reply::Parcel;
@@ -15,25 +16,43 @@ use std::sync::Wait;
 use std::sync::atomic::AtomicBool;
 
 /// Hands parcels to the sink, until there is none left once it was told that no more come.
-pub(crate) fn send_parcels<R: Wait, K: Sink>(
+fn send_parcels<R: Wait, K: Sink>(
     rt: &R,
     frames: &Line<Parcel>,
-    mut pass: Pass<Parcel>,
-    mut outlet: Outlet<K>,
+    pass: &mut Pass<Parcel>,
+    outlet: &mut Outlet<K>,
     no_more: &AtomicBool,
-) -> (Outlet<K>, Pass<Parcel>)
-    requires line { pass.line ≡ frames.now }
-    requires hand { pass.hand ≡ hand Inner 0 [] [] }
-    ensures line { result.1.line ≡ frames.now }
-    ensures relayed { IsRelayed result.1.hand outlet result.0 }
+)
+    requires line { pass.old.line ≡ frames.now }
+    requires hand { pass.old.hand ≡ hand Inner 0 [] [] }
+    ensures line { pass.new.line ≡ frames.now }
+    ensures relayed { IsRelayed pass.new.hand outlet.old outlet.new }
 {
     for _ in rt.forever() {
-        let Some(parcel) = frames.pop_waiting(rt, &mut pass, no_more) else {
-            break;
+        let Some(parcel) = frames.pop_waiting(rt, pass, no_more) else {
+            return;
         };
         outlet.deliver_parcel(parcel);
     }
-    (outlet, pass)
+    unreachable!()
+}
+
+/// What the sender does with the end that it is lent.
+pub(crate) fn serve_sink<'a, R: Wait, K: Sink>(
+    rt: &R,
+    frames: &Line<Parcel>,
+    lent: LentOutlet<'a, K>,
+    no_more: &AtomicBool,
+) -> LentOutlet<'a, K>
+    requires line { lent.pass.line ≡ frames.now }
+    requires hand { lent.pass.hand ≡ hand Inner 0 [] [] }
+    ensures same { result.outlet.ghost_name ≡ lent.entry.outlet.ghost_name }
+    ensures line { result.pass.line ≡ frames.now }
+    ensures relayed { IsRelayed result.pass.hand lent.entry.outlet.now result.outlet.now }
+{
+    let LentOutlet { outlet, mut pass } = lent;
+    send_parcels(rt, frames, &mut pass, outlet, no_more);
+    LentOutlet { outlet, pass }
 }
 
 /// Hands the parcels to the sink that the sender left. Nobody else has an inner pass.

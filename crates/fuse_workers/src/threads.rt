@@ -10,9 +10,9 @@ ghost use Rattle.fuse_workers.specs.Threads.{IsCaller, IsServed, at_once};
 
 use crate::Work;
 use crate::caller::Caller;
-use crate::outlet::Outlet;
+use crate::lent::LentOutlet;
 use crate::request_job::RequestJob;
-use crate::sender::send_parcels;
+use crate::sender::serve_sink;
 use crate::worker::answer_jobs;
 use fuse_line::{Line, Pass};
 use fuse_reply::Parcel;
@@ -44,30 +44,28 @@ impl<W: Work> Promise<(Pass<RequestJob>, Pass<Parcel>)> for Serves<W> {
         × IsServed (at_once (W.owed p.work.value)) r.0.hand r.1.hand };
 }
 
-/// What the sender hands back: the sink, to which each parcel went that it took, and its pass.
-pub(crate) struct Sends<K: Sink> {
-    outlet: Snapshot<Outlet<K>>,
+/// What the sender hands back: the end that it was lent, to which each parcel went that it took.
+pub(crate) struct Sends<'a, K: Sink> {
+    lent: Snapshot<LentOutlet<'a, K>>,
     frames: Snapshot<Line<Parcel>>,
 }
 
-impl<K: Sink> Drop for Sends<K> {
+impl<'a, K: Sink> Drop for Sends<'a, K> {
     fn drop(self) {
-        let Sends {
-            outlet: _,
-            frames: _,
-        } = self;
+        let Sends { lent: _, frames: _ } = self;
     }
 }
 
-impl<K: Sink> Promise<(Outlet<K>, Pass<Parcel>)> for Sends<K> {
-    ghost kept_by = { λ p r. (r.1.line ≡ p.frames.value) × IsRelayed r.1.hand p.outlet.value r.0 };
+impl<'a, K: Sink> Promise<LentOutlet<'a, K>> for Sends<'a, K> {
+    ghost kept_by = { λ p r. (r.outlet.ghost_name ≡ p.lent.value.outlet.ghost_name) × (r.pass.line ≡ p.frames.value)
+        × IsRelayed r.pass.hand p.lent.value.outlet.now r.outlet.now };
 }
 
 /// A worker that was started.
 pub(crate) type Worker<W> = PromisedHandle<(Pass<RequestJob>, Pass<Parcel>), Serves<W>>;
 
 /// The sender, where it was started.
-pub(crate) type Sender<K> = PromisedHandle<(Outlet<K>, Pass<Parcel>), Sends<K>>;
+pub(crate) type Sender<'a, K> = PromisedHandle<LentOutlet<'a, K>, Sends<'a, K>>;
 
 /// Starts a worker, where there is memory for its notifier. The closure of one that can't be started is run here at
 /// once, with its flag raised.
@@ -207,29 +205,30 @@ pub(crate) fn join_workers<W: Work, R: Threads>(
     }
 }
 
-/// Starts the sender. Where it can't be started, the sink comes back, with the sender's pass.
-pub(crate) fn start_sender<'s, E, K: Sink + Send + Drop + 's, R: Threads + Wait + Sync>(
+/// Starts the sender. Where it can't be started, what it was lent comes back.
+pub(crate) fn start_sender<'s, 'a: 's, E, K: Sink + Send, R: Threads + Wait + Sync>(
     scope: &Scope<'s, E>,
     rt: &'s R,
     frames: &'s Line<Parcel>,
-    pass: Pass<Parcel>,
-    outlet: Outlet<K>,
+    lent: LentOutlet<'a, K>,
     no_more: &'s AtomicBool,
-) -> Result<Sender<K>, (Outlet<K>, Pass<Parcel>)>
-    requires line { pass.line ≡ frames.now }
-    requires hand { pass.hand ≡ hand Inner 0 [] [] }
+) -> Result<Sender<'a, K>, LentOutlet<'a, K>>
+    requires line { lent.pass.line ≡ frames.now }
+    requires hand { lent.pass.hand ≡ hand Inner 0 [] [] }
     ensures { MatchResult result
-        (λ h. (h.promise.frames.value ≡ frames.now) × (h.promise.outlet.value ≡ outlet))
-        (λ r. (r.1.line ≡ frames.now) × IsRelayed r.1.hand outlet r.0) }
+        (λ h. (h.promise.lent.value ≡ lent.entry) × (h.promise.frames.value ≡ frames.now))
+        (λ r. (r.outlet.ghost_name ≡ lent.entry.outlet.ghost_name) × (r.pass.line ≡ frames.now)
+        × IsRelayed r.pass.hand lent.entry.outlet.now r.outlet.now) }
 {
     let promise = Sends {
-        outlet: Snapshot::of(&outlet),
+        lent: Snapshot::of(&lent),
         frames: Snapshot::of(frames),
     };
-    let sender = move || -> (Outlet<K>, Pass<Parcel>)
-        requires { (pass.line ≡ frames.now) × (pass.hand ≡ hand Inner 0 [] []) }
-        ensures { (result.1.line ≡ frames.entry.now) × IsRelayed result.1.hand outlet result.0 }
-    { send_parcels(rt, frames, pass, outlet, no_more) };
+    let sender = move || -> LentOutlet<K>
+        requires { (lent.pass.line ≡ frames.now) × (lent.pass.hand ≡ hand Inner 0 [] []) }
+        ensures { (result.outlet.ghost_name ≡ lent.entry.outlet.ghost_name) × (result.pass.line ≡ frames.entry.now)
+            × IsRelayed result.pass.hand lent.entry.outlet.now result.outlet.now }
+    { serve_sink(rt, frames, lent, no_more) };
     match scope.spawn_with(promise, sender) {
         Ok(handle) => Ok(handle),
         Err(refused) => {

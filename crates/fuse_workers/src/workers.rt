@@ -19,6 +19,7 @@ use crate::caller::{Caller, Stopped, answer_rest, take_messages};
 use crate::channel::Channel;
 use crate::event_loop::{answer_in_turn, destroyed};
 use crate::intake::Intake;
+use crate::lent::{LentEnds, LentOutlet, take_back};
 use crate::outlet::Outlet;
 use crate::request_job::RequestJob;
 use crate::run_line::RunLine;
@@ -38,7 +39,6 @@ use std::thread::{Scope, Threads};
 pub const MOST_WORKERS: usize = 64;
 
 /// The ends of a run, and the first passes of its lines.
-#[derive(Drop)]
 struct Ends<S: Source, K: Sink> {
     intake: Intake<S>,
     outlet: Outlet<K>,
@@ -115,10 +115,11 @@ fn answer_all<'s, E, W: Work, S: Source, R: Threads + Wait + AllocGlobal + Sync>
 /// Conducts a run. Nothing is taken where the sender can't be started.
 fn conduct<
     's,
+    'a: 's,
     E,
     W: Work,
     S: Source,
-    K: Sink + Send + Drop + 's,
+    K: Sink + Send,
     R: Threads + Wait + AllocGlobal + Sync,
 >(
     scope: &Scope<'s, E>,
@@ -128,34 +129,37 @@ fn conduct<
     frames: &'s Line<Parcel>,
     flags: &'s [AtomicBool],
     no_more: &'s AtomicBool,
-    ends: Ends<S, K>,
+    lent: LentEnds<'a, S, K>,
     workers: Vec<Worker<W>>,
-) -> (Option<Stopped>, Ends<S, K>)
+) -> (Option<Stopped>, LentEnds<'a, S, K>)
     requires prompt { W.DEFERS ≡ false }
-    requires lines { (ends.caller.jobs.line ≡ jobs.now) × (ends.caller.frames.line ≡ frames.now) }
-    requires hands { (ends.caller.jobs.hand ≡ hand First 0 [] []) × (ends.caller.frames.hand ≡ hand First 0 [] []) }
+    requires lines { (lent.caller.jobs.line ≡ jobs.now) × (lent.caller.frames.line ≡ frames.now) }
+    requires hands { (lent.caller.jobs.hand ≡ hand First 0 [] []) × (lent.caller.frames.hand ≡ hand First 0 [] []) }
     requires workers { (workers.items ≡ []) × (length flags.now ≤ vec_capacity workers) }
+    ensures same { (result.1.intake.ghost_name ≡ lent.entry.intake.ghost_name)
+        × (result.1.outlet.ghost_name ≡ lent.entry.outlet.ghost_name) }
     ensures lines { (result.1.caller.jobs.line ≡ jobs.now) × (result.1.caller.frames.line ≡ frames.now) }
-    ensures conducts { Conducts (at_once (W.owed work.now)) result.0 ends.intake result.1.intake ends.outlet
-        result.1.outlet result.1.caller.jobs.hand result.1.caller.frames.hand }
+    ensures conducts { Conducts (at_once (W.owed work.now)) result.0 lent.entry.intake.now result.1.intake.now
+        lent.entry.outlet.now result.1.outlet.now result.1.caller.jobs.hand result.1.caller.frames.hand }
 {
-    let Ends {
-        mut intake,
+    let LentEnds {
+        intake,
         outlet,
         mut caller,
-    } = ends;
+    } = lent;
     let pass = frames.split(&mut caller.frames, false);
-    let sender = match start_sender(scope, rt, frames, pass, outlet, no_more) {
+    let sender = match start_sender(scope, rt, frames, LentOutlet { outlet, pass }, no_more) {
         Ok(sender) => sender,
-        Err((mut outlet, pass)) => {
+        Err(back) => {
+            let LentOutlet { outlet, pass } = back;
             frames.join(&mut caller.frames, pass);
-            send_rest(rt, frames, &mut caller.frames, &mut outlet);
-            let ends = Ends {
+            send_rest(rt, frames, &mut caller.frames, outlet);
+            let lent = LentEnds {
                 intake,
                 outlet,
                 caller,
             };
-            return (None, ends);
+            return (None, lent);
         }
     };
     let stopped = answer_all(
@@ -165,62 +169,62 @@ fn conduct<
         jobs,
         frames,
         flags,
-        &mut intake,
+        intake,
         &mut caller,
         workers,
     );
     no_more.store(true, Ordering::SeqCst);
     frames.wake();
-    let (mut outlet, pass) = sender.join(rt);
+    let LentOutlet { outlet, pass } = sender.join(rt);
     frames.join(&mut caller.frames, pass);
-    send_rest(rt, frames, &mut caller.frames, &mut outlet);
-    let ends = Ends {
+    send_rest(rt, frames, &mut caller.frames, outlet);
+    let lent = LentEnds {
         intake,
         outlet,
         caller,
     };
-    (Some(stopped), ends)
+    (Some(stopped), lent)
 }
 
 /// Conducts a run in a scope of its own, at whose end no thread is left.
-fn run_in_scope<
-    W: Work,
-    S: Source + Drop,
-    K: Sink + Send + Drop,
-    R: Threads + Wait + AllocGlobal + Sync,
->(
+fn run_in_scope<'a, W: Work, S: Source, K: Sink + Send, R: Threads + Wait + AllocGlobal + Sync>(
     rt: &R,
     work: &W,
     jobs: &Line<RequestJob>,
     frames: &Line<Parcel>,
     flags: &[AtomicBool],
-    ends: Ends<S, K>,
+    lent: LentEnds<'a, S, K>,
     workers: Vec<Worker<W>>,
-) -> (Option<Stopped>, Ends<S, K>)
+) -> (Option<Stopped>, LentEnds<'a, S, K>)
     requires prompt { W.DEFERS ≡ false }
-    requires lines { (ends.caller.jobs.line ≡ jobs.now) × (ends.caller.frames.line ≡ frames.now) }
-    requires hands { (ends.caller.jobs.hand ≡ hand First 0 [] []) × (ends.caller.frames.hand ≡ hand First 0 [] []) }
+    requires lines { (lent.caller.jobs.line ≡ jobs.now) × (lent.caller.frames.line ≡ frames.now) }
+    requires hands { (lent.caller.jobs.hand ≡ hand First 0 [] []) × (lent.caller.frames.hand ≡ hand First 0 [] []) }
     requires workers { (workers.items ≡ []) × (length flags.now ≤ vec_capacity workers) }
+    ensures same { (result.1.intake.ghost_name ≡ lent.entry.intake.ghost_name)
+        × (result.1.outlet.ghost_name ≡ lent.entry.outlet.ghost_name) }
     ensures lines { (result.1.caller.jobs.line ≡ jobs.now) × (result.1.caller.frames.line ≡ frames.now) }
-    ensures conducts { Conducts (at_once (W.owed work.now)) result.0 ends.intake result.1.intake ends.outlet
-        result.1.outlet result.1.caller.jobs.hand result.1.caller.frames.hand }
+    ensures conducts { Conducts (at_once (W.owed work.now)) result.0 lent.entry.intake.now result.1.intake.now
+        lent.entry.outlet.now result.1.outlet.now result.1.caller.jobs.hand result.1.caller.frames.hand }
 {
     let flag = AtomicBool::new(false);
     let no_more = &flag;
     thread::scope(
         thread::scope_env(),
         rt,
-        |scope| -> (Option<Stopped>, Ends<S, K>)
+        |scope| -> (Option<Stopped>, LentEnds<S, K>)
             requires prompt { W.DEFERS ≡ false }
-            requires lines { (ends.caller.jobs.line ≡ jobs.now) × (ends.caller.frames.line ≡ frames.now) }
-            requires hands { (ends.caller.jobs.hand ≡ hand First 0 [] [])
-                × (ends.caller.frames.hand ≡ hand First 0 [] []) }
+            requires lines { (lent.caller.jobs.line ≡ jobs.now) × (lent.caller.frames.line ≡ frames.now) }
+            requires hands { (lent.caller.jobs.hand ≡ hand First 0 [] [])
+                × (lent.caller.frames.hand ≡ hand First 0 [] []) }
             requires workers { (workers.items ≡ []) × (length flags.now ≤ vec_capacity workers) }
+            ensures same { (result.1.intake.ghost_name ≡ lent.entry.intake.ghost_name)
+                × (result.1.outlet.ghost_name ≡ lent.entry.outlet.ghost_name) }
             ensures lines { (result.1.caller.jobs.line ≡ jobs.entry.now)
                 × (result.1.caller.frames.line ≡ frames.entry.now) }
-            ensures conducts { Conducts (at_once (W.owed work.entry.now)) result.0 ends.intake result.1.intake
-                ends.outlet result.1.outlet result.1.caller.jobs.hand result.1.caller.frames.hand }
-        { conduct(scope, rt, work, jobs, frames, flags, no_more, ends, workers) },
+            ensures conducts { Conducts (at_once (W.owed work.entry.now)) result.0 lent.entry.intake.now
+                result.1.intake.now lent.entry.outlet.now result.1.outlet.now result.1.caller.jobs.hand
+                result.1.caller.frames.hand }
+        { conduct(scope, rt, work, jobs, frames, flags, no_more, lent, workers) },
     )
 }
 
@@ -237,13 +241,20 @@ fn lowered(alloc: Global, count: usize) -> Result<Vec<AtomicBool>, NoMemory>
     Ok(flags)
 }
 
+/// Room for so many workers: a flag for each, and a place for its handle.
+fn room_for<W: Work>(
+    alloc: Global,
+    count: usize,
+) -> Result<(Vec<AtomicBool>, Vec<Worker<W>>), NoMemory>
+    ensures { IfOk result (λ r. (r.1.items ≡ []) × (vec_len r.0 ≤ vec_capacity r.1)) }
+{
+    let flags = lowered(alloc, count)?;
+    let workers = Vec::with_capacity(alloc, count)?;
+    Ok((flags, workers))
+}
+
 /// Conducts a run with so many workers, or with none where there is no memory for them.
-fn run_with<
-    W: Work,
-    S: Source + Drop,
-    K: Sink + Send + Drop,
-    R: Threads + Wait + AllocGlobal + Sync,
->(
+fn run_with<S: Source, K: Sink + Send, W: Work, R: Threads + Wait + AllocGlobal + Sync>(
     rt: &R,
     work: &W,
     count: usize,
@@ -259,13 +270,33 @@ fn run_with<
         result.1.outlet result.1.caller.jobs.hand result.1.caller.frames.hand }
 {
     let alloc = rt.alloc();
-    let Ok(flags) = lowered(alloc, count) else {
-        return run_in_scope(rt, work, jobs, frames, &[], ends, Vec::new(alloc));
+    let (flags, workers) = match room_for(alloc, count) {
+        Ok(room) => room,
+        Err(NoMemory) => (Vec::new(alloc), Vec::new(alloc)),
     };
-    let Ok(workers) = Vec::with_capacity(alloc, count) else {
-        return run_in_scope(rt, work, jobs, frames, &[], ends, Vec::new(alloc));
+    let Ends {
+        mut intake,
+        mut outlet,
+        caller,
+    } = ends;
+    let lent = LentEnds {
+        intake: &mut intake,
+        outlet: &mut outlet,
+        caller,
     };
-    run_in_scope(rt, work, jobs, frames, flags.as_slice(), ends, workers)
+    let (stopped, back) = run_in_scope(rt, work, jobs, frames, flags.as_slice(), lent, workers);
+    let LentEnds {
+        intake: taken,
+        outlet: sent,
+        caller,
+    } = back;
+    take_back(taken, sent);
+    let ends = Ends {
+        intake,
+        outlet,
+        caller,
+    };
+    (stopped, ends)
 }
 
 /// The end of a run on lines that nobody else uses.
@@ -379,7 +410,7 @@ fn answer_alone<W: Work, S: Source, K: Sink, R: Wait + AllocGlobal>(
 }
 
 /// Runs on these lines, which nobody has used.
-fn run_on<W: Work, S: Source + Drop, K: Sink + Send + Drop, R: Threads + Wait + AllocGlobal + Sync>(
+fn run_on<W: Work, S: Source, K: Sink + Send, R: Threads + Wait + AllocGlobal + Sync>(
     rt: &R,
     work: &W,
     count: usize,
@@ -409,12 +440,14 @@ fn run_on<W: Work, S: Source + Drop, K: Sink + Send + Drop, R: Threads + Wait + 
 /// started, it answers and sends all.
 ///
 /// Replies are sent in any order, but the reply to DESTROY after all others.
-pub fn run_workers<
-    R: Threads + Wait + AllocGlobal + Sync,
-    W: Work,
-    S: Source + Drop,
-    K: Sink + Send + Drop,
->(rt: &R, work: &W, source: S, sink: K, buffers: Buffers, n: usize) -> RunEnd<S, K>
+pub fn run_workers<R: Threads + Wait + AllocGlobal + Sync, W: Work, S: Source, K: Sink + Send>(
+    rt: &R,
+    work: &W,
+    source: S,
+    sink: K,
+    buffers: Buffers,
+    n: usize,
+) -> RunEnd<S, K>
     // No reply comes after `answer` has returned.
     requires prompt { W.DEFERS ≡ false }
     // Buffers serve one run.

@@ -10,7 +10,7 @@ loop-init g c = (
   tt,
   tt,
   c.requires.line,
-  subst (λ (v : Hand Parcel). IsRelayed v c.args.outlet c.args.outlet) (sym c.requires.hand) (IsRelayed-none c.args.outlet),
+  subst (λ (v : Hand Parcel). IsRelayed v c.args.outlet.now c.args.outlet.now) (sym c.requires.hand) (IsRelayed-none c.args.outlet.now),
 )
 
 pub loop-preserved : goal.loop-preserved
@@ -18,6 +18,6 @@ loop-preserved g c = (
   tt,
   tt,
   c.pop_waiting.ensures.line,
-  subst (λ (v : Hand Parcel). IsRelayed v c.args.outlet c.deliver_parcel.new.self) (sym c.in-Some-pop_waiting.ensures.hand)
+  subst (λ (v : Hand Parcel). IsRelayed v c.args.outlet.now c.deliver_parcel.new.self) (sym c.in-Some-pop_waiting.ensures.hand)
       (IsRelayed-next _ _ _ _ _ c.loop.invariant.3 c.deliver_parcel.ensures),
 )

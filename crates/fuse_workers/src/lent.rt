@@ -1,0 +1,30 @@
+// What the threads of a run are lent. A thread gives back what it was lent as what it returns: that is how its caller learns
+// that it is the same, and what became of it.
+ghost use Rattle.std.specs.Prelude.{◌≡◌};
+
+use crate::caller::Caller;
+use crate::intake::Intake;
+use crate::outlet::Outlet;
+use fuse_line::Pass;
+use fuse_reply::Parcel;
+use fuse_wire::{Sink, Source};
+
+/// The ends of a run, lent to whoever conducts it, and the first passes of its lines.
+#[derive(Drop)]
+pub(crate) struct LentEnds<'a, S: Source, K: Sink> {
+    pub(crate) intake: &'a mut Intake<S>,
+    pub(crate) outlet: &'a mut Outlet<K>,
+    pub(crate) caller: Caller,
+}
+
+/// The end that frames go out by, lent to the sender, and its pass.
+#[derive(Drop)]
+pub(crate) struct LentOutlet<'a, K: Sink> {
+    pub(crate) outlet: &'a mut Outlet<K>,
+    pub(crate) pass: Pass<Parcel>,
+}
+
+/// Ends two loans: what was lent is as the references that came back left it.
+pub(crate) fn take_back<T, U>(first: &mut T, second: &mut U)
+    ensures { (first.new ≡ first.old) × (second.new ≡ second.old) }
+{}
