@@ -14,6 +14,7 @@ use std::alloc::{AllocError, Global};
 use std::process::Abort;
 use std::sync::Wait;
 use std::test::Fail;
+use std::thread::Threads;
 
 /// The directory 1 with two files: `one`, which is node 2, and node 3, whose entry is long.
 #[derive(Clone, Copy, Debug, PartialEq, Eq)]
@@ -144,7 +145,7 @@ fn took<R: Abort>(rt: &R, sink: &MemorySink, frames: &[Vec<u8>], notes: &[(Reque
 }
 
 /// Serves these requests after an INIT, in one session, which sends these frames behind its first one and these notes.
-fn serves<R: Wait + AllocGlobal + Abort>(
+fn serves<R: Threads + Wait + AllocGlobal + Abort + Sync>(
     rt: &R,
     requests: &[Vec<u8>],
     frames: &[Vec<u8>],
@@ -172,7 +173,7 @@ fn serves<R: Wait + AllocGlobal + Abort>(
 }
 
 /// Serves these requests, each with its one frame.
-fn serves_each<R: Wait + AllocGlobal + Abort>(
+fn serves_each<R: Threads + Wait + AllocGlobal + Abort + Sync>(
     rt: &R,
     cases: &[Case<'_>],
 ) -> Result<(), AllocError> {

@@ -5,6 +5,7 @@ use std::alloc::{AllocError, Global};
 use std::process::Abort;
 use std::sync::Wait;
 use std::test::Fail;
+use std::thread::Threads;
 
 /// The words of a form with one thread.
 const FORM: [&[u8]; 5] = [b"serve", b"1", b"all", b"0", b"4096"];
@@ -54,7 +55,7 @@ fn unread(input: &mut MemoryBytes) -> usize {
 
 /// Over streams that fail at these calls the program ends with this status, has written so many of the bytes, and has left
 /// so many unread.
-fn ends_so<R: Wait + AllocGlobal + Abort>(
+fn ends_so<R: Threads + Wait + AllocGlobal + Abort + Sync>(
     rt: &R,
     reads: &[u64],
     writes: &[u64],

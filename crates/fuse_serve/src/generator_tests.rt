@@ -6,6 +6,7 @@ use std::alloc::{AllocError, Global};
 use std::process::Abort;
 use std::sync::Wait;
 use std::test::Fail;
+use std::thread::Threads;
 
 /// The front of INIT, with the id 1.
 const INIT: &[u8; 24] = b"\x68\0\0\0\x1a\0\0\0\x01\0\0\0\0\0\0\0\0\0\0\0\0\0\0\0";
@@ -73,7 +74,7 @@ fn joined(alloc: Global, parts: &[&[u8]]) -> Result<Vec<u8>, AllocError> {
 
 /// Runs the program on these words over an input of five bytes. It ends with this status, has written these bytes and has
 /// read none, over an output that takes so many bytes at a time and fails at these writes.
-pub fn ends_so<R: Wait + AllocGlobal + Abort>(
+pub fn ends_so<R: Threads + Wait + AllocGlobal + Abort + Sync>(
     rt: &R,
     words: &[&[u8]],
     step: usize,

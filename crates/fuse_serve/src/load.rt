@@ -11,6 +11,7 @@ use crate::summary::Summary;
 use fuse_config::{Config, SessionACL};
 use fuse_session::{Ended, SessionError, mount};
 use std::sync::Wait;
+use std::thread::Threads;
 
 /// How many bytes the replies to the handshake, to so many requests and to DESTROY are expected to take. Over the eight kinds a
 /// request's is 64 bytes long in the mean, and a note has none; what is missing the store grows by.
@@ -20,7 +21,10 @@ fn room_for(count: u32) -> usize {
 
 /// Serves all messages that the seed gives, and says what that came to. The error is want of memory, or that no thread is
 /// to serve.
-fn serve_generated<R: Wait + AllocGlobal>(rt: &R, form: LoadForm) -> Result<Summary, SessionError>
+fn serve_generated<R: Threads + Wait + AllocGlobal + Sync>(
+    rt: &R,
+    form: LoadForm,
+) -> Result<Summary, SessionError>
     ensures served { IfOk result (λ summary. (0 < form.threads) × Summarizes form summary) }
     ensures causes { IfErr result (λ error. IsNoLine error form.threads) }
 {
@@ -53,7 +57,10 @@ fn serve_generated<R: Wait + AllocGlobal>(rt: &R, form: LoadForm) -> Result<Summ
 }
 
 /// The line of what that came to.
-pub fn summary_line<R: Wait + AllocGlobal>(rt: &R, form: LoadForm) -> Result<String, SessionError>
+pub fn summary_line<R: Threads + Wait + AllocGlobal + Sync>(
+    rt: &R,
+    form: LoadForm,
+) -> Result<String, SessionError>
     ensures served { IfOk result (λ text. (0 < form.threads)
         × ((summary : _) × Summarizes form summary × (string_bytes text ≡ line summary))) }
     ensures causes { IfErr result (λ error. IsNoLine error form.threads) }

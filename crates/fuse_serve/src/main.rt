@@ -35,6 +35,7 @@ use std::io::{BufReader, Read, Write};
 use std::process::ExitCode;
 use std::rt::Env;
 use std::sync::Wait;
+use std::thread::Threads;
 use std::{env, io};
 
 /// How many bytes of the input are read ahead, so that a small message costs no read of the system's.
@@ -49,7 +50,7 @@ fn read_ahead(words: &[&[u8]]) -> usize {
 }
 
 /// Runs the program on these arguments, without its own name, over these streams, and says with which status it ends.
-fn run<R: AllocGlobal + Wait, I: Read + Drop, O: Write + Send + Drop>(
+fn run<R: Threads + Wait + AllocGlobal + Sync, I: Read + Drop, O: Write + Send + Drop>(
     rt: &R,
     arguments: &[&[u8]],
     input: I,
@@ -63,11 +64,11 @@ fn run<R: AllocGlobal + Wait, I: Read + Drop, O: Write + Send + Drop>(
 
 /// The same on the arguments of the process, with the input read ahead where it is read. The error is that there was no
 /// memory for the arguments or the input's buffer, and then nothing is read, or that the arguments can't be had.
-fn run_process<R: Env + AllocGlobal + Wait, I: Read + Drop, O: Write + Send + Drop>(
-    rt: &R,
-    input: I,
-    output: O,
-) -> io::Result<u8> {
+fn run_process<
+    R: Env + Threads + Wait + AllocGlobal + Sync,
+    I: Read + Drop,
+    O: Write + Send + Drop,
+>(rt: &R, input: I, output: O) -> io::Result<u8> {
     let mut words = Vec::new(rt.alloc());
     for word in env::args(rt)?.skip(1) {
         words.push(word)?;

@@ -15,6 +15,7 @@ use fuse_config::Config;
 use fuse_session::{Ended, mount};
 use fuse_wire::{ByteSink, ByteSource, StreamSink, StreamSource};
 use std::sync::Wait;
+use std::thread::Threads;
 
 /// How the program ended. It hands back its input and its output.
 #[derive(Debug, Drop)]
@@ -28,7 +29,7 @@ pub struct Served<I, O> {
 }
 
 /// Serves the tree.
-fn serve_tree<R: Wait + AllocGlobal, I: ByteSource, O: ByteSink + Send>(
+fn serve_tree<R: Threads + Wait + AllocGlobal + Sync, I: ByteSource, O: ByteSink + Send>(
     rt: &R,
     form: ServeForm,
     input: I,
@@ -84,7 +85,7 @@ fn generate<I, O: ByteSink>(form: GenForm, input: I, mut output: O) -> Served<I,
 }
 
 /// Serves the messages of `load`, and writes the line of what that came to. The input is not read.
-fn load<R: Wait + AllocGlobal, I, O: ByteSink>(
+fn load<R: Threads + Wait + AllocGlobal + Sync, I, O: ByteSink>(
     rt: &R,
     form: LoadForm,
     input: I,
@@ -108,7 +109,7 @@ fn load<R: Wait + AllocGlobal, I, O: ByteSink>(
 
 /// Does what the words say, which stand after the program's own name: `serve THREADS ACL OWNER PAGE` serves the tree,
 /// `gen SEED COUNT` writes messages that the seed gives, and `load SEED COUNT THREADS` serves these from memory.
-pub fn serve<R: Wait + AllocGlobal, I: ByteSource, O: ByteSink + Send>(
+pub fn serve<R: Threads + Wait + AllocGlobal + Sync, I: ByteSource, O: ByteSink + Send>(
     rt: &R,
     words: &[&[u8]],
     input: I,

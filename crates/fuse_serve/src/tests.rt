@@ -12,6 +12,7 @@ use fuse_wire::{
 use std::alloc::{AllocError, Global};
 use std::sync::Wait;
 use std::test::Fail;
+use std::thread::Threads;
 
 /// The words of a form with one thread.
 const FORM: [&[u8]; 5] = [b"serve", b"1", b"all", b"0", b"4096"];
@@ -108,7 +109,7 @@ struct Run {
 }
 
 /// Runs the program over these bytes, in pieces.
-fn run_over<R: Wait + AllocGlobal>(
+fn run_over<R: Threads + Wait + AllocGlobal + Sync>(
     rt: &R,
     words: &[&[u8]],
     parts: &[&[u8]],
@@ -127,7 +128,7 @@ fn run_over<R: Wait + AllocGlobal>(
 }
 
 /// Whether the program ends with this status, and has written this and left that unread, in pieces of 1 and of 7 bytes.
-fn ends_so<R: Wait + AllocGlobal>(
+fn ends_so<R: Threads + Wait + AllocGlobal + Sync>(
     rt: &R,
     words: &[&[u8]],
     parts: &[&[u8]],

@@ -7,6 +7,7 @@ use std::alloc::{AllocError, Global};
 use std::process::Abort;
 use std::sync::Wait;
 use std::test::Fail;
+use std::thread::Threads;
 
 /// A request of anybody, by its opcode, its node and its body, and the lowest byte of the status and the payload that it gets.
 type Case<'a> = (u16, u8, &'a [u8], u8, &'a [u8]);
@@ -119,7 +120,7 @@ fn took<R: Abort>(rt: &R, sink: &MemorySink, frames: &[&[u8]], notes: &[(Request
 }
 
 /// Serves these requests after an INIT, in one session of the user 7, which sends these frames and notes.
-fn serves<R: Wait + AllocGlobal + Abort>(
+fn serves<R: Threads + Wait + AllocGlobal + Abort + Sync>(
     rt: &R,
     acl: SessionACL,
     requests: &[&[u8]],
@@ -158,7 +159,7 @@ fn passes(opcode: u16) -> bool {
 
 /// Serves requests of this user, in one session, each with its one frame: its own where the user is served, and EACCES
 /// where not.
-fn serve_user<R: Wait + AllocGlobal + Abort>(
+fn serve_user<R: Threads + Wait + AllocGlobal + Abort + Sync>(
     rt: &R,
     acl: SessionACL,
     uid: u8,
@@ -186,7 +187,10 @@ fn serve_user<R: Wait + AllocGlobal + Abort>(
 }
 
 /// Serves requests of anybody, in one session, each with its one frame.
-fn serve_all<R: Wait + AllocGlobal + Abort>(rt: &R, cases: &[Case<'_>]) -> Result<(), AllocError> {
+fn serve_all<R: Threads + Wait + AllocGlobal + Abort + Sync>(
+    rt: &R,
+    cases: &[Case<'_>],
+) -> Result<(), AllocError> {
     serve_user(rt, SessionACL::All, 0, true, cases)
 }
 

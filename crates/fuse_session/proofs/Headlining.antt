@@ -1,5 +1,5 @@
 -- A session that ends well, where nothing was lost.
-use Rattle.std.proofs.Common.{◌≡◌, ◌+◌, ◌≤◌, ◌<◌, ◌++◌, ℕ, List, [], ◌∷◌, sym, ◌∙◌, ap}
+use Rattle.std.proofs.Common.{◌≡◌, ◌+◌, ◌≤◌, ◌++◌, ℕ, List, [], sym, ◌∙◌, ap}
 use Rattle.std.proofs.Common.{subst, arith, map, length, length-append, Ok, inl, inr, min, append-nil, not}
 use Rattle.std.proofs.lemmas.List.{length-map, nil_from_length}
 use Rattle.fuse_wire.specs.Faults.{last_count}
@@ -9,7 +9,7 @@ use Rattle.fuse_reply.specs.declared.out.Out.{Out}
 use Rattle.fuse_reply.specs.declared.out.Out.TheVariants.{Frame}
 use Rattle.fuse_workers.specs.Incoming.{IsBroken, EndsWell}
 use Rattle.fuse_session.specs.Owed.{Owed}
-use Rattle.fuse_workers.specs.OneEach.{Owing, InOrder}
+use Rattle.fuse_workers.specs.OneEach.{OneEach, Owing, UpToOrder}
 use Rattle.fuse_session.specs.Handshake.{HandshakeEnd, Handshake}
 use Rattle.fuse_session.specs.Handshake.HandshakeEnd.{Accepted}
 use Rattle.fuse_session.specs.Headline.{Headline, Lossless}
@@ -18,8 +18,6 @@ use Rattle.fuse_workers.specs.Progress.{Progress, Moves, LeavesOut, is_notice, n
 use Rattle.fuse_workers.specs.declared.transcript.Transcript.{Transcript}
 use Rattle.fuse_workers.proofs.ItemLists.{Splits, Splits-map, filter-shorter}
 use Rattle.fuse_workers.proofs.Quieting.{LeavesOut-none, refused-none}
-use Rattle.fuse_workers.proofs.Order.{OneEach-from_order}
-use Rattle.fuse_session.proofs.Serving.{Owed-broken}
 
 -- Nothing was lost where the sink's count did not rise, or the transcript says so.
 lossless : {received : ℕ} {sent : List (List ℕ)} {notes : List Note} {lost : List Out} {p q : Progress} → Moves received sent notes lost p q
@@ -52,10 +50,8 @@ Headline-from_exchange {F} {setup} {fs} {fs1} {p} {q} exchange start quiet = rec
       (LeavesOut-none d.handshake_replies d.handshake_sent
       (subst (λ (lost : List (List ℕ)). LeavesOut lost d.handshake_replies d.handshake_sent) none_first d.left_out)));
   set_aside = exchange.moved.set_aside;
-  one_each = OneEach-from_order owed IsBroken (Owed-broken setup.promise fs1 setup.acl setup.owner) 0 (map message split.back)
-      d.later_sent exchange.notes []
-      (subst (λ (ms : List (List ℕ)). InOrder owed 0 ms d.later_sent exchange.notes []) (sym later)
-      (subst (λ (lost : List Out). InOrder owed 0 d.answered d.later_sent exchange.notes lost) none_later d.in_order));
+  one_each = subst (λ (ms : List (List ℕ)). OneEach owed IsBroken 0 ms d.later_sent exchange.notes [] 0) (sym later)
+      (subst (λ (lost : List Out). UpToOrder owed IsBroken d.answered d.later_sent exchange.notes lost) none_later d.accounted.one_each);
   ended = subst (λ (ms : List (List ℕ)). EndsWell ms (NothingLeft q.source)) (sym later) d.ended.2;
 } where
   d : Dialogue setup fs fs1 (Ok tt) (NothingLeft q.source) (SourceFailed p.source q.source) (map message exchange.turns)

@@ -3,12 +3,13 @@ use Rattle.std.proofs.Common.{◌≡◌, ◌∙◌, ◌++◌, ℕ, List, [], Opt
 use Rattle.std.proofs.lemmas.List.{map-append}
 use Rattle.fuse_wire.specs.Source.{SourceState, message}
 use Rattle.fuse_wire.specs.Sink.{SinkState}
+use Rattle.fuse_session.specs.Accounted.{Accounted}
 use Rattle.fuse_session.specs.Complete.{GoodHeaders, RunWell, Unfailing}
 use Rattle.fuse_workers.specs.EventLoop.{Run}
 use Rattle.fuse_session.specs.Exchange.{Closed, Exchange, Mounted, Outcome, Setup, Unopened, setup_of}
 use Rattle.fuse_session.specs.Headline.{Headline, Lossless}
 use Rattle.fuse_session.specs.Owed.{Owed}
-use Rattle.fuse_workers.specs.OneEach.{InOrder, Owing}
+use Rattle.fuse_workers.specs.OneEach.{Accounting, InOrder, Owing}
 use Rattle.fuse_workers.specs.Progress.{Progress, nothing_yet, progress}
 use Rattle.fuse_session.specs.Promise.{Promise}
 use Rattle.fuse_session.specs.Session.{Ends, IsOpened, Opened, OpensNone, Ran, setup_for}
@@ -19,6 +20,9 @@ use Rattle.fuse_config.specs.declared.session_acl.SessionACL.{SessionACL}
 use Rattle.fuse_session.specs.declared.greeting.HandshakeError.{HandshakeError}
 use Rattle.fuse_session.specs.declared.greeting.HandshakeError.TheVariants as refusal
 use Rattle.fuse_workers.specs.declared.transcript.Transcript.{Transcript}
+use Rattle.fuse_workers.specs.Incoming.{IsBroken}
+use Rattle.fuse_workers.proofs.Order.{OneEach-from_order}
+use Rattle.fuse_reply.specs.declared.out.Out.{Out}
 use Rattle.fuse_session.proofs.Completing.{never-broken, no-failure, told-after}
 use Rattle.fuse_session.proofs.Exchanging.{Exchange-ran, Exchange-unserved}
 use Rattle.fuse_session.proofs.Headlining.{Headline-from_exchange}
@@ -85,12 +89,38 @@ Headline-ran promise page fs fs' source source' sink sink' session outcome count
     (subst (λ (o : Outcome). Exchange s fs session.filesystem o p q) ok
     (Exchange-opened promise page fs source sink session outcome q opened ran.ends)) refl lossless
 
+-- a run that is accounted for in another way
+Run-accounted : {one other : Accounting} {end : End} {p q : Progress} (run : Run one end p q) → other run.answered run.sent run.notes run.lost
+    → Run other end p q
+Run-accounted run order = record {
+  turns = run.turns;
+  answered = run.answered;
+  refused = run.refused;
+  sent = run.sent;
+  notes = run.notes;
+  lost = run.lost;
+  heard = run.heard;
+  order = order;
+  moved = run.moved;
+  begins = run.begins;
+  taken = run.taken;
+  ended = run.ended;
+}
+
+-- a run on one thread
+pub Accounted-one : (owed : Owing) → ((seq : ℕ) (m : List ℕ) (out : Out) → owed seq m out → IsBroken m → ⊥) → (threads : Option ℕ) (end : End)
+    (p q : Progress) → Run (InOrder owed 0) end p q → Run (Accounted threads owed) end p q
+Accounted-one owed not_broken threads end p q run = Run-accounted run (record {
+  one_each = OneEach-from_order owed IsBroken not_broken 0 run.answered run.sent run.notes run.lost run.order;
+  in_order = λ _. run.order;
+})
+
 -- where nothing is amiss, a run ends well
-Ok-from_end : (owed : Owing) (end : End) (p q : Progress) (turns : List (List ℕ)) → Run (InOrder owed 0) end p q → p.source.turns ≡ Some turns
+Ok-from_end : (accounting : Accounting) (end : End) (p q : Progress) (turns : List (List ℕ)) → Run accounting end p q → p.source.turns ≡ Some turns
     → GoodHeaders (map message turns) → Unfailing p.source q.source → run_outcome end ≡ Ok tt
-Ok-from_end owed Gone p q turns run told good unfailing = refl
-Ok-from_end owed Destroyed p q turns run told good unfailing = refl
-Ok-from_end owed (Broken e) p q turns run told good unfailing =
+Ok-from_end accounting Gone p q turns run told good unfailing = refl
+Ok-from_end accounting Destroyed p q turns run told good unfailing = refl
+Ok-from_end accounting (Broken e) p q turns run told good unfailing =
     let left = told-after run.turns turns p.source q.source told (run.taken (λ is. cc)) in
     let heard : map message turns ≡ run.answered ++ (run.refused ++ map message left.left) =
     ap (map message) left.both
@@ -100,7 +130,7 @@ Ok-from_end owed (Broken e) p q turns run told good unfailing =
     absurd (never-broken run.answered run.ended.0.0 (map message left.left) e run.ended.1 run.ended.0.2
     (subst (λ (r : List (List ℕ)). GoodHeaders (run.answered ++ (r ++ map message left.left))) run.ended.0.1
     (subst GoodHeaders heard good)))
-Ok-from_end owed Failed p q turns run told good unfailing = absurd (no-failure p.source q.source unfailing.same unfailing.counts run.ended.2)
+Ok-from_end accounting Failed p q turns run told good unfailing = absurd (no-failure p.source q.source unfailing.same unfailing.counts run.ended.2)
 
 pub Ok-from_run : {F : Type 0} (promise : Promise F) (session : Opened F) (fs' : F) (outcome : Outcome) (source' : SourceState) (sink' : SinkState)
     (counts : Transcript) → Ran promise session fs' outcome source' sink' counts → RunWell session source' → outcome ≡ Ok tt
@@ -111,7 +141,7 @@ Ok-from_run promise session fs' outcome source' sink' counts ran well =
         (progress source' sink' counts ran.unasked) → outcome ≡ Ok tt
     by_end (inl none) = absurd (well.served none.0)
     by_end (inr some) =
-        some.1.1 ∙ Ok-from_end (Owed promise session.filesystem session.acl session.owner) some.1.0 session.progress (progress source' sink' counts ran.unasked) well.turns some.1.2 well.told well.good
+        some.1.1 ∙ Ok-from_end (Accounted session.threads (Owed promise session.filesystem session.acl session.owner)) some.1.0 session.progress (progress source' sink' counts ran.unasked) well.turns some.1.2 well.told well.good
         well.unfailing
 
 -- the outcome of a handshake that a message ended

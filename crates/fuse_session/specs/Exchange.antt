@@ -1,5 +1,5 @@
--- A whole session on one thread: what it heard, what it said and lost, and why it ended.
-use Rattle.std.specs.Prelude.{◌≡◌, ◌≢◌, ◌⊎◌, ◌++◌, ℕ, List, [], ◌∷◌, Option, Some, Result, Ok, Err, map, length}
+-- A whole session: what it heard, what it said and lost, and why it ended.
+use Rattle.std.specs.Prelude.{◌≡◌, ◌≢◌, ◌⊎◌, ◌++◌, ℕ, List, [], Option, Some, Result, Ok, Err, map, length}
 use Rattle.fuse_wire.specs.Source.{SourceState, Takes, message, NothingLeft, Failed as SourceFailed}
 use Rattle.fuse_wire.specs.Sink.{SinkState, Note}
 use Rattle.fuse_config.specs.declared.config.Config.{Config}
@@ -7,10 +7,10 @@ use Rattle.fuse_config.specs.declared.session_acl.SessionACL.{SessionACL}
 use Rattle.fuse_request.specs.declared.error.RequestError.{RequestError}
 use Rattle.fuse_reply.specs.declared.out.Out.{Out}
 use Rattle.fuse_reply.specs.declared.out.Out.TheVariants.{Frame}
+use Rattle.fuse_session.specs.Accounted.{Accounted}
 use Rattle.fuse_session.specs.Promise.{Promise}
 use Rattle.fuse_workers.specs.Incoming.{AllGoOn, EndsWell, HeaderRefused}
 use Rattle.fuse_session.specs.Owed.{Owed}
-use Rattle.fuse_workers.specs.OneEach.{InOrder}
 use Rattle.fuse_session.specs.Handshake.{HandshakeEnd, Handshake}
 use Rattle.fuse_session.specs.Handshake.HandshakeEnd.{Open, Accepted, Failed}
 use Rattle.fuse_workers.specs.Progress.{Progress, Moves, Begins, LeavesOut, nothing_yet, progress}
@@ -87,7 +87,7 @@ pub record Dialogue {F : Type 0} (setup : Setup F) (fs fs1 : F) (outcome : Outco
   pub heard : messages ≡ hs ++ (answered ++ refused)
   pub handshake : Handshake setup.promise.may_init setup.page fs hs handshake_replies fs1 end
   pub left_out : LeavesOut lost_first handshake_replies handshake_sent
-  pub in_order : InOrder (Owed setup.promise fs1 setup.acl setup.owner) 0 answered later_sent notes lost_later
+  pub accounted : Accounted setup.threads (Owed setup.promise fs1 setup.acl setup.owner) answered later_sent notes lost_later
   pub said : sent ≡ handshake_sent ++ later_sent
   pub missed : lost ≡ map Frame lost_first ++ lost_later
   pub ended : EndedBy outcome setup.threads end answered refused none_left failed

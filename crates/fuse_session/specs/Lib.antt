@@ -3,6 +3,7 @@ pub mod Verdict
 pub mod Kind
 pub mod Defaults
 pub mod Owed
+pub mod Accounted
 pub mod Asked
 pub mod Handshake
 pub mod HandshakeStep

@@ -1,11 +1,12 @@
 -- Why a session is refused before anything is taken: what its options have to do with it.
-use Rattle.std.specs.Prelude.{◌≡◌, ◌<◌, ◌⊎◌, ℕ, Bool, true, false, Option, None, Some, Ok, Err, IsTrue}
+use Rattle.std.specs.Prelude.{◌≡◌, ◌⊎◌, Bool, true, false, Ok, Err, IsTrue}
 use Rattle.std.specs.List.{list_any}
 use Rattle.fuse_config.specs.Conflicts.{FirstConflict, NoConflict}
 use Rattle.fuse_config.specs.declared.config.Config.{Config}
 use Rattle.fuse_config.specs.declared.mount_option.MountOption.{MountOption}
 use Rattle.fuse_config.specs.declared.mount_option.MountOption.TheVariants as option
 use Rattle.fuse_config.specs.declared.session_acl.SessionACL.TheVariants.{Owner}
+use Rattle.fuse_session.specs.Accounted.{ManyThreads}
 use Rattle.fuse_session.specs.Exchange.{Outcome}
 use Rattle.fuse_workers.specs.Progress.{nothing_yet}
 use Rattle.fuse_session.specs.declared.ended.Ended.{Ended}
@@ -20,11 +21,6 @@ is_auto_unmount _ = false
 -- it is listed, but the owner's requests alone are served
 abbrev pub UnmountsForOwner : Config → Type 0
 UnmountsForOwner config = IsTrue (list_any is_auto_unmount config.mount_options) × (config.acl ≡ Owner)
-
--- so many threads are more than one; where no number is given, one serves
-abbrev pub ManyThreads : Option ℕ → Type 0
-ManyThreads None = ⊥
-ManyThreads (Some threads) = 1 < threads
 
 -- each thread is to have a device of its own, and there is more than one
 abbrev pub ClonesDevice : Config → Type 0

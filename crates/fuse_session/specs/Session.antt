@@ -6,10 +6,10 @@ use Rattle.fuse_wire.specs.Sink.{SinkState}
 use Rattle.fuse_config.specs.declared.session_acl.SessionACL.{SessionACL}
 use Rattle.fuse_request.specs.declared.error.RequestError.{RequestError}
 use Rattle.fuse_workers.specs.EventLoop.{Run}
+use Rattle.fuse_session.specs.Accounted.{Accounted}
 use Rattle.fuse_session.specs.Exchange.{Outcome, Setup, setup_of}
 use Rattle.fuse_session.specs.HandshakeStep.{HandshakeRun}
 use Rattle.fuse_session.specs.Owed.{Owed}
-use Rattle.fuse_workers.specs.OneEach.{InOrder}
 use Rattle.fuse_workers.specs.Progress.{Progress, nothing_yet, progress}
 use Rattle.fuse_session.specs.Promise.{Promise}
 use Rattle.fuse_session.specs.SessionEnd.{run_outcome}
@@ -64,7 +64,7 @@ EndsRun o = ⊥
 abbrev pub Ends : {F : Type 0} → Promise F → F → SessionACL → (owner : ℕ) → (threads : Option ℕ) → Outcome → (before after : Progress) → Type 0
 Ends promise fs acl owner threads outcome before after =
     ((threads ≡ Some 0) × (outcome ≡ Err Threads) × (after ≡ before))
-    ⊎ ((threads ≢ Some 0) × ((end : End) × (outcome ≡ run_outcome end) × Run (InOrder (Owed promise fs acl owner) 0) end before after))
+    ⊎ ((threads ≢ Some 0) × ((end : End) × (outcome ≡ run_outcome end) × Run (Accounted threads (Owed promise fs acl owner)) end before after))
 
 -- it was run to its end, at which `destroy` was called once
 pub record Ran {F : Type 0} (promise : Promise F) (session : Opened F) (fs' : F) (outcome : Outcome)

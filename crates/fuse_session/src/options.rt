@@ -2,7 +2,8 @@
 ghost use Rattle.std.specs.Prelude.{◌≡◌, ◌↔◌, ◌⊎◌, IfErr, IfOk, IsTrue, MatchResult};
 ghost use Rattle.std.specs.List.{list_any};
 ghost use Rattle.fuse_workers.specs.Lines.{IsUnused};
-ghost use Rattle.fuse_session.specs.Refused.{ClonesDevice, ManyThreads, NotBegun, OptionsWell, RefusedAs, is_auto_unmount};
+ghost use Rattle.fuse_session.specs.Accounted.{ManyThreads};
+ghost use Rattle.fuse_session.specs.Refused.{ClonesDevice, NotBegun, OptionsWell, RefusedAs, is_auto_unmount};
 
 use crate::SessionError;
 use fuse_config::{Config, Conflict, MountOption, SessionACL, check_option_conflicts};
@@ -77,7 +78,7 @@ fn lists_auto_unmount(options: &[MountOption]) -> bool
 }
 
 /// Whether more than one thread is to serve.
-fn are_many(threads: Option<usize>) -> bool
+pub(crate) fn are_many(threads: Option<usize>) -> bool
     ensures { IsTrue result ↔ ManyThreads threads }
 {
     match threads {

@@ -1,8 +1,11 @@
 // Sessions: opened by the handshake, and then run.
 ghost use Rattle.std.specs.Prelude.{◌≡◌, ◌≢◌, ◌<◌, ◌⊎◌, ◌↔◌, ℕ, [], Ok, Err, Some, IfErr, IfOk, MatchResult};
 ghost use Rattle.std.specs.Prelude.{List, false};
-ghost use Rattle.fuse_workers.specs.Lines.{IsUnused};
-ghost use Rattle.fuse_workers.specs.Progress.{progress};
+ghost use Rattle.fuse_workers.specs.EventLoop.{Run};
+ghost use Rattle.fuse_workers.specs.Lines.{IsUnused, unasked_of};
+ghost use Rattle.fuse_workers.specs.Progress.{nothing_yet, progress};
+ghost use Rattle.fuse_session.specs.Accounted.{Accounted};
+ghost use Rattle.fuse_session.specs.Owed.{Owed};
 ghost use Rattle.fuse_config.specs.declared.session_acl.SessionACL.{SessionACL as ACL};
 ghost use Rattle.fuse_notify.specs.Queueing.{fresh_door};
 ghost use Rattle.fuse_session.specs.Complete.{AcceptsAll, HandshakeWell, RunWell, SessionWell};
@@ -25,9 +28,10 @@ use crate::{Ended, Filesystem, SessionError, Transcript};
 use fuse_config::{Config, SessionACL};
 use fuse_notify::Notifier;
 use fuse_wire::{NoMemory, Sink, Source};
-use fuse_workers::{Buffers, Channel, Lines, RunEnd, run_inline};
+use fuse_workers::{Buffers, Channel, Lines, RunEnd, run_inline, run_workers};
 use std::marker::Model;
 use std::sync::Wait;
+use std::thread::Threads;
 
 /// A session whose handshake was accepted. It must be spent: `run` serves it to its end. A contract sees what it was
 /// opened with, and how far it is.
@@ -124,8 +128,28 @@ struct Served<S, K> {
     sink: K,
 }
 
+/// Answers the later messages: on this thread, or on so many others where more than one is asked for.
+fn answer_all<R: Threads + Wait + AllocGlobal + Sync, FS: Filesystem, S: Source, K: Sink + Send>(
+    rt: &R,
+    service: &Service<Asking<FS>>,
+    n_threads: Option<usize>,
+    source: S,
+    sink: K,
+    buffers: Buffers,
+) -> RunEnd<S, K>
+    requires unused { IsUnused buffers }
+    ensures { Run (Accounted n_threads (Owed FS.promise service.now.handler.filesystem service.now.rule.acl
+        service.now.rule.owner)) result.end (progress (S.told source) (K.told sink) nothing_yet [])
+        (progress (S.told result.source) (K.told result.sink) result.transcript (unasked_of result.buffers)) }
+{
+    match n_threads {
+        Some(count) if count > 1 => run_workers(rt, service, source, sink, buffers, count),
+        _ => run_inline(rt, service, source, sink, buffers),
+    }
+}
+
 /// Serves a session that was opened, after a handshake with these counts. No thread is to serve where their number is 0.
-fn serve<R: Wait + AllocGlobal, FS: Filesystem, S: Source, K: Sink>(
+fn serve<R: Threads + Wait + AllocGlobal + Sync, FS: Filesystem, S: Source, K: Sink + Send>(
     rt: &R,
     service: &Service<Asking<FS>>,
     n_threads: Option<usize>,
@@ -154,7 +178,7 @@ fn serve<R: Wait + AllocGlobal, FS: Filesystem, S: Source, K: Sink>(
         source,
         sink,
         buffers: _,
-    } = run_inline(rt, service, source, sink, buffers);
+    } = answer_all(rt, service, n_threads, source, sink, buffers);
     Served {
         outcome: run_outcome(end),
         transcript: shaken.and(transcript),
@@ -288,9 +312,11 @@ impl<FS: Filesystem, S: Source, K: Sink + Send> Session<FS, S, K> {
         }
     }
 
-    /// Serves the session: each message is answered before the next is taken, until the source ends or the kernel sends
-    /// DESTROY. A frame or a note that the sink refuses is counted as lost, and not sent again. `destroy` is called once.
-    pub fn run<R: Wait + AllocGlobal>(self, rt: &R) -> Ended<FS, S, K>
+    /// Serves the session, until the source ends or the kernel sends DESTROY. On one thread each message is answered before
+    /// the next is taken. On more of them this one receives, as many answer as were asked for, but at most 64 and no more
+    /// than can be started, and one more sends; replies go out in any order. A frame or a note that the sink refuses is
+    /// counted as lost, and not sent again. `destroy` is called once.
+    pub fn run<R: Threads + Wait + AllocGlobal + Sync>(self, rt: &R) -> Ended<FS, S, K>
         // No reply comes after its method has returned.
         requires prompt { FS.DEFERS ≡ false }
 
@@ -349,7 +375,7 @@ impl<FS: Filesystem, S: Source, K: Sink + Send> Session<FS, S, K> {
 }
 
 /// Serves a filesystem: `Session::new`, and where it is opened `Session::run`.
-pub fn mount<R: Wait + AllocGlobal, FS: Filesystem, S: Source, K: Sink + Send>(
+pub fn mount<R: Threads + Wait + AllocGlobal + Sync, FS: Filesystem, S: Source, K: Sink + Send>(
     rt: &R,
     filesystem: FS,
     source: S,

@@ -12,6 +12,7 @@ use std::alloc::{AllocError, Global};
 use std::process::Abort;
 use std::sync::Wait;
 use std::test::Fail;
+use std::thread::Threads;
 
 /// The lowest byte of the id of the message of a row.
 fn id_at(place: usize) -> u8 {
@@ -87,7 +88,7 @@ fn replied<R: Abort>(rt: &R, sink: &MemorySink, rows: &[Row]) {
 }
 
 /// Serves these messages: they come to the calls and the replies that they say, and to no other.
-fn comes_to<R: Wait + AllocGlobal + Abort + Send + Sync + Copy>(
+fn comes_to<R: Threads + Wait + AllocGlobal + Abort + Send + Sync + Copy>(
     rt: &R,
     rows: &[Row],
 ) -> Result<(), Fail> {

@@ -12,6 +12,7 @@ use fuse_wire::consts::MAX_WRITE_SIZE;
 use fuse_wire::{Errno, FileHandle, INodeNo, LockOwner, OpenFlags, Sink, Source};
 use std::sync::Wait;
 use std::sync::atomic::{AtomicU64, Ordering};
+use std::thread::Threads;
 
 /// What a read gives where no other contents are said: more than a frame holds without memory.
 pub(crate) const CONTENTS: [u8; 200] = [0x2a; 200];
@@ -35,7 +36,7 @@ pub(crate) struct Course {
 }
 
 /// Serves a filesystem that counts, in a session of root with pages of 4096 bytes. The source and the sink come back.
-pub(crate) fn run<R: Wait + AllocGlobal, S: Source, K: Sink + Send>(
+pub(crate) fn run<R: Threads + Wait + AllocGlobal + Sync, S: Source, K: Sink + Send>(
     rt: &R,
     source: S,
     sink: K,
@@ -45,7 +46,7 @@ pub(crate) fn run<R: Wait + AllocGlobal, S: Source, K: Sink + Send>(
 }
 
 /// Serves this filesystem in a session of this owner, with pages of this size.
-pub(crate) fn run_with<R: Wait + AllocGlobal, S: Source, K: Sink + Send>(
+pub(crate) fn run_with<R: Threads + Wait + AllocGlobal + Sync, S: Source, K: Sink + Send>(
     rt: &R,
     counting: Counting,
     source: S,

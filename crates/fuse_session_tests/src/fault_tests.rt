@@ -14,10 +14,11 @@ use fuse_wire::{
 use std::process::Abort;
 use std::sync::Wait;
 use std::test::Fail;
+use std::thread::Threads;
 
 /// Serves these turns, in a session with this outcome, which takes so many messages, of which all but INIT call the
 /// filesystem, sends these frames, and loses so many. The source comes back.
-fn serves<R: Wait + AllocGlobal + Abort>(
+fn serves<R: Threads + Wait + AllocGlobal + Abort + Sync>(
     rt: &R,
     turns: &[Next<'_>],
     sink: MemorySink,
@@ -183,7 +184,9 @@ fn a_note_that_is_refused_is_lost(rt: HostRuntime) -> Result<(), Fail> {
 }
 
 /// A session without a message: its outcome, and how often its filesystem was destroyed.
-fn serves_nothing<R: Wait + AllocGlobal>(rt: &R) -> (Result<(), SessionError>, u64) {
+fn serves_nothing<R: Threads + Wait + AllocGlobal + Sync>(
+    rt: &R,
+) -> (Result<(), SessionError>, u64) {
     let alloc = rt.alloc();
     let source = MemorySource::new(Vec::new(alloc));
     let sink = MemorySink::new(alloc, Vec::new(alloc));

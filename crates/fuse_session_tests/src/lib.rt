@@ -45,3 +45,5 @@ mod test_messages;
 mod tests;
 #[cfg(test)]
 mod verdict_tests;
+#[cfg(test)]
+mod worker_tests;

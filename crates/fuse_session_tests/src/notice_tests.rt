@@ -8,6 +8,7 @@ use fuse_wire::{MemorySink, Sending};
 use std::process::Abort;
 use std::sync::Wait;
 use std::test::Fail;
+use std::thread::Threads;
 
 /// How many notices the line of a session holds.
 const PLACES: usize = 64;
@@ -32,7 +33,7 @@ fn news(handle: [u8; 2]) -> [u8; 24] {
 
 /// Serves these messages in a session that ends well, loses so many frames, and leaves so many polls waiting. The sink
 /// takes these frames, so many of which are notices.
-fn serves<R: Wait + AllocGlobal + Abort + Send + Sync + Copy>(
+fn serves<R: Threads + Wait + AllocGlobal + Abort + Send + Sync + Copy>(
     rt: &R,
     messages: &[&[u8]],
     sink: MemorySink,

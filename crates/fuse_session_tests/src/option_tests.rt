@@ -7,6 +7,7 @@ use fuse_wire::{Items, MemorySink};
 use std::process::Abort;
 use std::sync::Wait;
 use std::test::Fail;
+use std::thread::Threads;
 
 const OWNER: SessionACL = SessionACL::Owner;
 
@@ -36,7 +37,11 @@ fn course_of(outcome: Result<(), SessionError>, taken: u64) -> Course {
 }
 
 /// Serves a session of an INIT, which is taken or not. Where it was not, it is there for a session without options.
-fn ends<R: Wait + AllocGlobal + Abort>(rt: &R, row: &Row, taken: u64) -> Result<(), Fail> {
+fn ends<R: Threads + Wait + AllocGlobal + Abort + Sync>(
+    rt: &R,
+    row: &Row,
+    taken: u64,
+) -> Result<(), Fail> {
     let alloc = rt.alloc();
     let (texts, acl, n_threads, clone_fd, outcome) = row;
     let mut options = Vec::new(alloc);

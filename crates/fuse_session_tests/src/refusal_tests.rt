@@ -14,6 +14,7 @@ use std::alloc::{AllocError, Global};
 use std::process::Abort;
 use std::sync::Wait;
 use std::test::Fail;
+use std::thread::Threads;
 
 /// A message, by its opcode, its id, and a byte at a place of it, and the error that it gets.
 type Refusal = (u32, u8, usize, u8, u8);
@@ -38,7 +39,7 @@ fn took_errors<R: Abort>(rt: &R, sink: &MemorySink, rows: &[Refusal]) {
 }
 
 /// Serves these messages after an INIT, in one session of root. Each gets its error, and so many call the filesystem.
-fn serves<R: Wait + AllocGlobal + Abort>(
+fn serves<R: Threads + Wait + AllocGlobal + Abort + Sync>(
     rt: &R,
     acl: SessionACL,
     rows: &[Refusal],

@@ -13,6 +13,7 @@ use std::alloc::Global;
 use std::process::Abort;
 use std::sync::Wait;
 use std::test::Fail;
+use std::thread::Threads;
 
 type Over = Ended<Probing<Counting>, MemorySource, MemorySink>;
 
@@ -102,7 +103,7 @@ fn a_session_is_opened_and_then_run(rt: HostRuntime) -> Result<(), Fail> {
 }
 
 /// These messages open no session, for this reason: they get these frames, and the filesystem is destroyed.
-fn opens_none<R: Wait + AllocGlobal + Abort>(
+fn opens_none<R: Threads + Wait + AllocGlobal + Abort + Sync>(
     rt: &R,
     messages: &[&[u8]],
     frames: &[&[u8]],

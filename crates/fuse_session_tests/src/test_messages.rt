@@ -79,6 +79,13 @@ pub(crate) fn lookup(id: u8, uid: u8) -> [u8; 45] {
     bytes
 }
 
+/// A LOOKUP of a name of one byte in the root, of user 0.
+pub(crate) fn lookup_of(id: u8, name: u8) -> [u8; 42] {
+    let mut bytes = [0; 42];
+    fill(&mut bytes, &message(FUSE_LOOKUP, id, 1, 0), &[name, 0]);
+    bytes
+}
+
 /// A LOOKUP whose name has no end.
 pub(crate) fn endless_lookup(id: u8, uid: u8) -> [u8; 44] {
     let mut bytes = [0; 44];

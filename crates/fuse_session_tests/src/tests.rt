@@ -10,11 +10,12 @@ use fuse_config::{Config, SessionACL};
 use fuse_request::RequestError;
 use fuse_request::opcode::{FUSE_DESTROY, FUSE_LOOKUP};
 use fuse_session::{InvalidData, SessionError, Transcript};
-use fuse_wire::{MemorySink, MemorySource, RequestId, Version};
+use fuse_wire::{Items, MemorySink, MemorySource, RequestId, Version};
 use std::alloc::{AllocError, Global};
 use std::process::Abort;
 use std::sync::Wait;
 use std::test::Fail;
+use std::thread::Threads;
 
 /// How many messages a session takes, how many frames and notes it loses, how often it calls its filesystem, and what
 /// it notes.
@@ -26,9 +27,48 @@ pub(crate) struct Counts<'a> {
     pub(crate) notes: &'a [(RequestId, u64)],
 }
 
+/// Whether one thread at most is to serve a session, so that it sends all in order.
+fn is_ordered(config: &Config) -> bool {
+    match config.n_threads {
+        Some(threads) => threads < 2,
+        None => true,
+    }
+}
+
+/// How many frames a session sends in their order: on one thread all, else those of its handshake.
+fn ordered(config: &Config, frames: &[&[u8]]) -> usize {
+    if is_ordered(config) {
+        return frames.len();
+    }
+    match frames
+        .iter()
+        .position(|frame| *frame == ACCEPTED.as_slice())
+    {
+        Some(accepted) => accepted.saturating_add(1),
+        None => frames.len(),
+    }
+}
+
+/// These frames were sent, and no other: the first of them in this order, and the others in any.
+fn are_sent<R: Abort>(rt: &R, config: &Config, sent: &[Items<u8>], frames: &[&[u8]]) {
+    assert_eq!(rt; sent.len(), frames.len());
+    let ordered = ordered(config, frames);
+    for (one, frame) in sent.iter().zip(frames).take(ordered) {
+        assert_eq!(rt; one.as_slice(), *frame);
+    }
+    for frame in frames.iter().skip(ordered) {
+        let wanted = frames.iter().skip(ordered).filter(|other| *other == frame);
+        let found = sent
+            .iter()
+            .skip(ordered)
+            .filter(|other| other.as_slice() == *frame);
+        assert_eq!(rt; found.count(), wanted.count());
+    }
+}
+
 /// Serves this source in a session with this outcome and these counts, of which the sink takes these frames and the
 /// notes, and no other. The source comes back.
-pub(crate) fn serves_source<R: Wait + AllocGlobal + Abort>(
+pub(crate) fn serves_source<R: Threads + Wait + AllocGlobal + Abort + Sync>(
     rt: &R,
     config: &Config,
     source: MemorySource,
@@ -51,18 +91,21 @@ pub(crate) fn serves_source<R: Wait + AllocGlobal + Abort>(
         destroyed: 1,
     };
     assert_eq!(rt; course, expected);
-    assert_eq!(rt;
-        (sink.notes(), sink.frames().len()),
-        (counts.notes, frames.len())
-    );
-    for (sent, frame) in sink.frames().iter().zip(frames) {
-        assert_eq!(rt; sent.as_slice(), *frame);
+    are_sent(rt, config, sink.frames(), frames);
+    if is_ordered(config) {
+        assert_eq!(rt; sink.notes(), counts.notes);
+    } else {
+        assert_eq!(rt; sink.notes().len(), counts.notes.len());
+        for note in counts.notes {
+            assert!(rt; sink.notes().iter().any(|other| other == note));
+        }
     }
     source
 }
 
-/// Serves the first of these messages in a session that sends these frames, with this outcome and these counts.
-fn serves_calls<R: Wait + AllocGlobal + Abort>(
+/// Serves the first of these messages in a session that sends these frames, with this outcome and these counts; and
+/// where it is served, once more on two threads.
+fn serves_calls<R: Threads + Wait + AllocGlobal + Abort + Sync>(
     rt: &R,
     config: &Config,
     messages: &[&[u8]],
@@ -71,15 +114,22 @@ fn serves_calls<R: Wait + AllocGlobal + Abort>(
     counts: Counts<'_>,
 ) -> Result<(), Fail> {
     let alloc = rt.alloc();
-    let source = source_of(alloc, messages)?;
-    let sink = MemorySink::new(alloc, Vec::new(alloc));
-    let _source = serves_source(rt, config, source, sink, frames, outcome, counts);
+    for n_threads in [config.n_threads, Some(2)] {
+        let mut config = Config::new(alloc);
+        config.n_threads = n_threads;
+        let source = source_of(alloc, messages)?;
+        let sink = MemorySink::new(alloc, Vec::new(alloc));
+        let _source = serves_source(rt, &config, source, sink, frames, outcome, counts);
+        if n_threads == Some(0) {
+            return Ok(());
+        }
+    }
     Ok(())
 }
 
 /// Serves the first of these messages, so many, in a session with this outcome, which sends these frames and no note,
 /// and calls the filesystem for none.
-fn serves<R: Wait + AllocGlobal + Abort>(
+fn serves<R: Threads + Wait + AllocGlobal + Abort + Sync>(
     rt: &R,
     config: &Config,
     messages: &[&[u8]],
@@ -330,7 +380,7 @@ fn serves_any_owner_pages_and_threads(rt: HostRuntime) -> Result<(), Fail> {
 }
 
 /// Reads a file of so many bytes at once: the frame has this header and all of them.
-fn reads_whole<R: Wait + AllocGlobal + Abort>(
+fn reads_whole<R: Threads + Wait + AllocGlobal + Abort + Sync>(
     rt: &R,
     size: u32,
     header: &[u8; 16],

@@ -11,9 +11,10 @@ use fuse_read_only::ReadOnly;
 use fuse_session::{Ended, mount};
 use fuse_wire::{Sink, Source};
 use std::sync::Wait;
+use std::thread::Threads;
 
 /// Serves the file to everybody, in a session of root with pages of 4096 bytes.
-pub fn serve_one_file<R: Wait + AllocGlobal, S: Source, K: Sink + Send>(
+pub fn serve_one_file<R: Threads + Wait + AllocGlobal + Sync, S: Source, K: Sink + Send>(
     rt: &R,
     files: OneFile,
     source: S,

@@ -1,9 +1,10 @@
 -- What came of the later messages.
 use Rattle.std.proofs.Common.{◌≢◌, [], Some, inr, rules, subst, sym}
+use Rattle.fuse_session.specs.Accounted.{Accounted}
 use Rattle.fuse_session.specs.Owed.{Owed}
 use Rattle.fuse_workers.specs.EventLoop.{Run}
 use Rattle.fuse_workers.specs.Lines.{unasked_of}
-use Rattle.fuse_workers.specs.OneEach.{InOrder}
+use Rattle.fuse_workers.specs.OneEach.{Accounting}
 use Rattle.fuse_workers.specs.Progress.{progress}
 use Rattle.fuse_workers.specs.declared.transcript.Transcript.{Transcript}
 use Rattle.fuse_workers.proofs.Adding.{Run-added}
@@ -11,19 +12,20 @@ use Rattle.fuse_session.proofs.session.serve.Goals as goal
 
 pub returns : goal.returns
 returns g c =
-    let run = c.run_inline-end.result in
+    let run = c.answer_all-end.result in
     let last = unasked_of run.buffers in
-    let owed = Owed g.FS.Filesystem.promise c.args.service.now.handler.filesystem c.args.service.now.rule.acl c.args.service.now.rule.owner in
+    let accounted : Accounting = Accounted c.args.n_threads (Owed g.FS.Filesystem.promise c.args.service.now.handler.filesystem
+    c.args.service.now.rule.acl c.args.service.now.rule.owner) in
     let some : c.args.n_threads ≢ Some 0 = search rules in
-    let added = Run-added {accounted = InOrder owed 0} (g.S.Source.told c.args.source) (g.S.Source.told run.source) (g.K.Sink.told c.args.sink)
-    (g.K.Sink.told run.sink) c.args.shaken run.transcript [] last c.run_inline-end.ensures.run in (
+    let added = Run-added {accounted = accounted} (g.S.Source.told c.args.source) (g.S.Source.told run.source) (g.K.Sink.told c.args.sink)
+    (g.K.Sink.told run.sink) c.args.shaken run.transcript [] last c.answer_all-end.ensures in (
       last,
       inr (
         some,
         (
           run.end,
           c.run_outcome.ensures,
-          subst (λ (t : Transcript). Run (InOrder owed 0) run.end (progress (g.S.Source.told c.args.source) (g.K.Sink.told c.args.sink) c.args.shaken [])
+          subst (λ (t : Transcript). Run accounted run.end (progress (g.S.Source.told c.args.source) (g.K.Sink.told c.args.sink) c.args.shaken [])
               (progress (g.S.Source.told run.source) (g.K.Sink.told run.sink) t last)) (sym c.and.ensures) added,
         ),
       ),

@@ -1,0 +1,12 @@
+-- What came of the later messages, by how many threads answered them.
+use Rattle.fuse_session.specs.Owed.{Owed}
+use Rattle.fuse_session.proofs.Running.{Accounted-one}
+use Rattle.fuse_session.proofs.Serving.{Owed-broken}
+use Rattle.fuse_session.proofs.session.answer_all.Goals as goal
+
+pub returns-in_default : goal.returns-in_default
+returns-in_default g c =
+    let fs = c.args.service.now.handler.filesystem in
+    let rule = c.args.service.now.rule in
+    let promise = g.FS.Filesystem.promise in
+    Accounted-one (Owed promise fs rule.acl rule.owner) (Owed-broken promise fs rule.acl rule.owner) c.args.n_threads _ _ _ c.run_inline.ensures.run

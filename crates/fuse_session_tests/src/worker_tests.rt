@@ -1,0 +1,106 @@
+// Sessions on several threads.
+
+use crate::argument::Argument;
+use crate::probe::Probe;
+use crate::probing::Probing;
+use crate::test_messages::{ACCEPTED, ENOENT, INIT_7_8, error_reply, lookup_of, source_of};
+use fuse_config::{Config, SessionACL};
+use fuse_reply::{Replied, ReplyEntry};
+use fuse_request::Request;
+use fuse_session::{Ended, mount};
+use fuse_wire::{Errno, INodeNo, MemorySink};
+use std::sync::atomic::{AtomicBool, Ordering};
+use std::test::Fail;
+use std::thread;
+
+/// How often an answer is held at most.
+const MOST_TURNS: u64 = 1_000_000;
+
+/// A filesystem that knows no name, and answers a lookup of `a` only once one of `b` was called. Where that does not
+/// come in time, the answer is EIO.
+#[derive(Drop)]
+struct Holding {
+    is_b_called: AtomicBool,
+}
+
+impl Holding {
+    /// Whether `b` was called in time.
+    fn awaits_b(&self) -> bool {
+        for _turn in 0..MOST_TURNS {
+            if self.is_b_called.load(Ordering::SeqCst) {
+                return true;
+            }
+            thread::yield_now();
+        }
+        false
+    }
+}
+
+impl Probe for Holding {
+    ghost own = { λ call answer. Unit {0} };
+
+    fn started(&mut self, _request: &Request) {}
+
+    fn called(
+        &self,
+        _request: &Request,
+        _method: &'static str,
+        _arguments: &[Argument],
+        _texts: &[&[u8]],
+    ) {}
+
+    fn lookup(
+        &self,
+        _request: &Request,
+        _parent: INodeNo,
+        name: &[u8],
+        reply: ReplyEntry,
+    ) -> Replied {
+        if name == b"b".as_slice() {
+            self.is_b_called.store(true, Ordering::SeqCst);
+        }
+        if self.awaits_b() {
+            reply.error(Errno::ENOENT)
+        } else {
+            reply.error(Errno::EIO)
+        }
+    }
+
+    fn destroyed(&mut self) {}
+
+    ghost allows_default = { λ call. tt };
+}
+
+#[test]
+fn two_calls_run_at_once(rt: HostRuntime) -> Result<(), Fail> {
+    let alloc = rt.alloc();
+    let mut config = Config::new(alloc);
+    config.acl = SessionACL::All;
+    config.n_threads = Some(2);
+    let probe = Holding {
+        is_b_called: AtomicBool::new(false),
+    };
+    let messages: [&[u8]; 3] = [&INIT_7_8, &lookup_of(2, b'a'), &lookup_of(3, b'b')];
+    let Ended {
+        filesystem: _,
+        source: _,
+        sink,
+        outcome,
+        transcript,
+    } = mount(
+        &rt,
+        Probing { probe },
+        source_of(alloc, &messages)?,
+        MemorySink::new(alloc, Vec::new(alloc)),
+        0,
+        4096,
+        &config,
+    );
+    assert_eq!(rt; outcome, Ok(()));
+    assert_eq!(rt; (transcript.received, transcript.frames), (3, 3));
+    let sent = |frame: &[u8]| sink.frames().iter().any(|one| one.as_slice() == frame);
+    assert_eq!(rt; sink.frames()[0].as_slice(), ACCEPTED.as_slice());
+    assert!(rt; sent(&error_reply(2, ENOENT)));
+    assert!(rt; sent(&error_reply(3, ENOENT)));
+    Ok(())
+}
