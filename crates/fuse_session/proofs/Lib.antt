@@ -6,5 +6,5 @@ mod Exchanging
 mod Headlining
 mod Completing
 pub mod Refusing
-mod Running
+mod SessionParts
 mod Opening

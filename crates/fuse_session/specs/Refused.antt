@@ -9,6 +9,9 @@ use Rattle.fuse_config.specs.declared.session_acl.SessionACL.TheVariants.{Owner}
 use Rattle.fuse_session.specs.Accounted.{ManyThreads}
 use Rattle.fuse_session.specs.Exchange.{Outcome}
 use Rattle.fuse_workers.specs.Progress.{nothing_yet}
+use Rattle.fuse_workers.specs.Lines.{IsUnused}
+use Rattle.fuse_notify.specs.Queueing.{fresh_door}
+use Rattle.fuse_session.specs.declared.options.SessionMemory.{SessionMemory}
 use Rattle.fuse_session.specs.declared.ended.Ended.{Ended}
 use Rattle.fuse_session.specs.declared.error.SessionError.{SessionError}
 use Rattle.fuse_session.specs.declared.error.SessionError.TheVariants.{Conflict, AutoUnmount, CloneFd, Memory}
@@ -60,3 +63,7 @@ NotBegun config e = RefusedAs config e ⊎ ((e ≡ Memory) × OptionsWell config
 abbrev pub IsUntouched : {F S K : Type 0} → F → S → K → Ended F S K → Type 0
 IsUntouched fs source sink ended =
     (ended.filesystem ≡ fs) × (ended.source ≡ source) × (ended.sink ≡ sink) × (ended.transcript ≡ nothing_yet)
+
+-- the memory of a session was taken: nobody used it yet, and the notifier is of its line
+abbrev pub IsTaken : SessionMemory → Type 0
+IsTaken memory = IsUnused memory.buffers × (memory.notifier ≡ fresh_door memory.buffers.frames.line)

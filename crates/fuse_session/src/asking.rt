@@ -18,6 +18,7 @@ use fuse_wire::{Errno, RenameFlags};
 
 /// A filesystem, which is asked what reaches it. Each of its methods here is inlined into the table of operations: the
 /// frame of an arm that is called would stay in memory for all arms.
+#[derive(Drop)]
 pub(crate) struct Asking<FS> {
     pub(crate) filesystem: FS,
 }

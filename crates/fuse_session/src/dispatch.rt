@@ -16,6 +16,7 @@ use fuse_workers::Work;
 use std::sync::Wait;
 
 /// A handler, for those whom the rule admits.
+#[derive(Drop)]
 pub(crate) struct Service<H> {
     pub(crate) handler: H,
     pub(crate) rule: AccessRule,

@@ -7,7 +7,7 @@ use crate::{Filesystem, InvalidData, SessionError, Transcript};
 use fuse_workers::End;
 
 /// How a session ended. It hands back all that the session was given.
-#[derive(Debug)]
+#[derive(Debug, Drop)]
 pub struct Ended<FS, S, K> {
     /// The filesystem, after its `destroy` unless the options were refused or no memory was to be had.
     pub filesystem: FS,

@@ -1,18 +1,26 @@
 // What a session looks at before anything is taken.
 ghost use Rattle.std.specs.Prelude.{◌≡◌, ◌↔◌, ◌⊎◌, IfErr, IfOk, IsTrue, MatchResult};
 ghost use Rattle.std.specs.List.{list_any};
-ghost use Rattle.fuse_workers.specs.Lines.{IsUnused};
 ghost use Rattle.fuse_session.specs.Accounted.{ManyThreads};
-ghost use Rattle.fuse_session.specs.Refused.{ClonesDevice, NotBegun, OptionsWell, RefusedAs, is_auto_unmount};
+ghost use Rattle.fuse_session.specs.Refused.{ClonesDevice, IsTaken, NotBegun, OptionsWell, RefusedAs, is_auto_unmount};
 
 use crate::SessionError;
 use fuse_config::{Config, Conflict, MountOption, SessionACL, check_option_conflicts};
+use fuse_notify::Notifier;
+use fuse_wire::NoMemory;
 use fuse_workers::Buffers;
 use std::alloc::Global;
 
+/// The memory of a session: that of its run, and what makes its notifiers where it runs in the background.
+#[derive(Drop)]
+pub(crate) struct SessionMemory {
+    pub(crate) buffers: Buffers,
+    pub(crate) notifier: Notifier,
+}
+
 /// The memory of a session. The options are looked at first.
-pub(crate) fn prepare(alloc: Global, config: &Config) -> Result<Buffers, SessionError>
-    ensures ok { IfOk result IsUnused }
+pub(crate) fn prepare(alloc: Global, config: &Config) -> Result<SessionMemory, SessionError>
+    ensures ok { IfOk result IsTaken }
     ensures well { IfOk result (λ _. OptionsWell config.now) }
     ensures refused { IfErr result (λ e. NotBegun config.now e) }
 {
@@ -22,8 +30,8 @@ pub(crate) fn prepare(alloc: Global, config: &Config) -> Result<Buffers, Session
 
 /// The memory of a session over a device that is mounted already. That each of several threads is to have its own is
 /// looked at first.
-pub(crate) fn prepare_device(alloc: Global, config: &Config) -> Result<Buffers, SessionError>
-    ensures ok { IfOk result IsUnused }
+pub(crate) fn prepare_device(alloc: Global, config: &Config) -> Result<SessionMemory, SessionError>
+    ensures ok { IfOk result IsTaken }
     ensures well { IfOk result (λ _. ¬ (ClonesDevice config.now)) }
     ensures refused { IfErr result (λ e. ((e ≡ SessionError.CloneFd) × ClonesDevice config.now)
         ⊎ ((e ≡ SessionError.Memory) × ¬ (ClonesDevice config.now))) }
@@ -35,13 +43,16 @@ pub(crate) fn prepare_device(alloc: Global, config: &Config) -> Result<Buffers, 
 }
 
 /// The memory of a session.
-fn take_memory(alloc: Global) -> Result<Buffers, SessionError>
-    ensures ok { IfOk result IsUnused }
+fn take_memory(alloc: Global) -> Result<SessionMemory, SessionError>
+    ensures ok { IfOk result IsTaken }
     ensures refused { IfErr result (λ e. e ≡ SessionError.Memory) }
 {
-    match Buffers::new(alloc) {
-        Ok(buffers) => Ok(buffers),
-        Err(_) => Err(SessionError::Memory),
+    let Ok(mut buffers) = Buffers::new(alloc) else {
+        return Err(SessionError::Memory);
+    };
+    match buffers.notifier() {
+        Ok(notifier) => Ok(SessionMemory { buffers, notifier }),
+        Err(NoMemory) => Err(SessionError::Memory),
     }
 }
 

@@ -1,6 +1,6 @@
 // Sessions: opened by the handshake, and then run.
 ghost use Rattle.std.specs.Prelude.{◌≡◌, ◌≢◌, ◌<◌, ◌⊎◌, ◌↔◌, ℕ, [], Ok, Err, Some, IfErr, IfOk, MatchResult};
-ghost use Rattle.std.specs.Prelude.{List, false};
+ghost use Rattle.std.specs.Prelude.{IfSome, List, false};
 ghost use Rattle.fuse_workers.specs.EventLoop.{Run};
 ghost use Rattle.fuse_workers.specs.Lines.{IsUnused, unasked_of};
 ghost use Rattle.fuse_workers.specs.Progress.{nothing_yet, progress};
@@ -12,9 +12,11 @@ ghost use Rattle.fuse_session.specs.Complete.{AcceptsAll, HandshakeWell, RunWell
 ghost use Rattle.fuse_session.specs.Exchange.{Closed, Mounted, Unopened, setup, setup_of};
 ghost use Rattle.fuse_session.specs.Headline.{Headline, Lossless};
 ghost use Rattle.fuse_session.specs.HandshakeStep.{HandshakeRun};
-ghost use Rattle.fuse_session.specs.Refused.{ClonesDevice, IsUntouched, OfOptions, OptionsWell, RefusedAs, Untouched};
+ghost use Rattle.fuse_session.specs.Refused.{ClonesDevice, IsTaken, IsUntouched, OfOptions, OptionsWell, RefusedAs, Untouched};
+ghost use Rattle.fuse_session.specs.Spawning.{refused_by};
 ghost use Rattle.fuse_session.specs.Session.{Ends, EndsRun, IsOpened, OpensNone, Ran, Serves, setup_for};
 ghost use Rattle.fuse_session.specs.declared.handshake.HandshakeOutcome.TheVariants.{Accepted};
+ghost use Rattle.fuse_wire.specs.Faults.{Rose};
 ghost use Rattle.fuse_wire.specs.Source.{SourceState};
 ghost use Rattle.fuse_wire.specs.Sink.{SinkState};
 
@@ -23,8 +25,8 @@ use crate::asking::Asking;
 use crate::dispatch::Service;
 use crate::ended::{destroyed, run_outcome, untouched};
 use crate::handshake::{HandshakeOutcome, handshake};
-use crate::options::{prepare, prepare_device};
-use crate::{Ended, Filesystem, SessionError, Transcript};
+use crate::options::{SessionMemory, prepare, prepare_device};
+use crate::{BackgroundSession, Ended, Filesystem, SessionError, Spawner, Transcript};
 use fuse_config::{Config, SessionACL};
 use fuse_notify::Notifier;
 use fuse_wire::{NoMemory, Sink, Source};
@@ -40,9 +42,13 @@ pub struct Session<FS, S: Source, K: Sink> {
     n_threads: Option<usize>,
     channel: Channel<S, K>,
     lines: Lines,
+    /// What makes the notifiers of a session in the background, taken before.
+    notifier: Option<Notifier>,
 }
 
 impl<FS, S: Source, K: Sink> Model for Session<FS, S, K> {
+    ghost use Rattle.std.specs.Prelude.{◌≡◌, IfSome};
+    ghost use Rattle.fuse_notify.specs.Queueing.{fresh_door};
     ghost use Rattle.fuse_workers.specs.Lines.{IsUnused};
     ghost use Rattle.fuse_session.specs.Session.{Opened};
 
@@ -57,7 +63,7 @@ impl<FS, S: Source, K: Sink> Model for Session<FS, S, K> {
       line = s.lines.frames.line;
     } };
 
-    ghost invariant = { λ s. IsUnused s.lines };
+    ghost invariant = { λ s. IsUnused s.lines × IfSome s.notifier (λ n. n ≡ fresh_door s.lines.frames.line) };
 }
 
 /// The handshake, whose refusal is the outcome of a session.
@@ -89,19 +95,20 @@ fn open<R: Wait + AllocGlobal, FS: Filesystem, S: Source, K: Sink>(
     mut filesystem: FS,
     source: S,
     sink: K,
-    buffers: Buffers,
+    memory: SessionMemory,
     page_size: u32,
     rule: AccessRule,
     n_threads: Option<usize>,
 ) -> Result<Session<FS, S, K>, Ended<FS, S, K>>
     requires page { 0 < page_size }
-    requires unused { IsUnused buffers }
+    requires memory { IsTaken memory }
     ensures opened { IfOk result (λ s. IsOpened FS.promise page_size filesystem (S.told source) (K.told sink) s
         × Serves rule.acl rule.owner n_threads s) }
     ensures closed { IfErr result (λ e. OpensNone e.outcome
         × Closed (setup_of FS.promise page_size n_threads rule.acl rule.owner) filesystem e.filesystem e.outcome
         (S.told source) (S.told e.source) (K.told sink) (K.told e.sink) e.transcript) }
 {
+    let SessionMemory { buffers, notifier } = memory;
     let (mut channel, lines) = Channel::open(source, sink, buffers);
     match shake(rt, &mut filesystem, page_size, &mut channel) {
         Ok(()) => {
@@ -111,6 +118,7 @@ fn open<R: Wait + AllocGlobal, FS: Filesystem, S: Source, K: Sink>(
                 n_threads,
                 channel,
                 lines,
+                notifier: Some(notifier),
             })
         }
         Err(error) => {
@@ -239,12 +247,12 @@ impl<FS: Filesystem, S: Source, K: Sink + Send> Session<FS, S, K> {
             owner,
         };
         match prepare(rt.alloc(), config) {
-            Ok(buffers) => open(
+            Ok(memory) => open(
                 rt,
                 filesystem,
                 source,
                 sink,
-                buffers,
+                memory,
                 page_size,
                 rule,
                 config.n_threads,
@@ -298,12 +306,12 @@ impl<FS: Filesystem, S: Source, K: Sink + Send> Session<FS, S, K> {
     {
         let rule = AccessRule { acl, owner };
         match prepare_device(rt.alloc(), &config) {
-            Ok(buffers) => open(
+            Ok(memory) => open(
                 rt,
                 filesystem,
                 source,
                 sink,
-                buffers,
+                memory,
                 page_size,
                 rule,
                 config.n_threads,
@@ -350,6 +358,7 @@ impl<FS: Filesystem, S: Source, K: Sink + Send> Session<FS, S, K> {
             n_threads,
             channel,
             lines,
+            notifier: _,
         } = self;
         let (source, sink, buffers, shaken) = channel.close(lines);
         let Served {
@@ -371,6 +380,88 @@ impl<FS: Filesystem, S: Source, K: Sink + Send> Session<FS, S, K> {
         ensures fresh { IfOk result (λ n. n ≡ fresh_door self.old.line) }
     {
         self.lines.notifier()
+    }
+}
+
+impl<
+    FS: Filesystem + Drop + 'static,
+    S: Source + Send + Drop + 'static,
+    K: Sink + Send + Drop + 'static,
+> Session<FS, S, K> {
+    /// Starts the session in the background. Where the spawner refuses, it comes back as it was, and can still be run.
+    pub fn spawn<R: Threads + Wait + AllocGlobal + Send + Sync + Copy + 'static>(
+        self,
+        rt: &R,
+        spawner: &mut Spawner,
+    ) -> Result<BackgroundSession<FS, S, K>, Session<FS, S, K>>
+        // No reply comes after its method has returned.
+        requires prompt { FS.DEFERS ≡ false }
+        ensures { MatchResult result (λ background. background ≡ self)
+            (λ back. (back ≡ self) × Rose (refused_by spawner.old) (refused_by spawner.new)) }
+    {
+        let (session, notifier) = self.part();
+        match spawner.start(rt, session) {
+            Ok(running) => Ok(BackgroundSession { running, notifier }),
+            Err(session) => Err(session.with_notifier(notifier)),
+        }
+    }
+}
+
+impl<FS, S: Source, K: Sink> Session<FS, S, K> {
+    /// The session without what makes the notifiers of one in the background, and that.
+    fn part(self) -> (Session<FS, S, K>, Option<Notifier>)
+        ensures session { result.0 ≡ self }
+        ensures notifier { IfSome result.1 (λ n. n ≡ fresh_door self.line) }
+    {
+        let Session {
+            service,
+            n_threads,
+            channel,
+            lines,
+            notifier,
+        } = self;
+        let session = Session {
+            service,
+            n_threads,
+            channel,
+            lines,
+            notifier: None,
+        };
+        (session, notifier)
+    }
+
+    /// The session with that.
+    fn with_notifier(self, notifier: Option<Notifier>) -> Session<FS, S, K>
+        requires { IfSome notifier (λ n. n ≡ fresh_door self.line) }
+        ensures { result ≡ self }
+    {
+        let Session {
+            service,
+            n_threads,
+            channel,
+            lines,
+            notifier: _,
+        } = self;
+        Session {
+            service,
+            n_threads,
+            channel,
+            lines,
+            notifier,
+        }
+    }
+}
+
+impl<FS: Drop, S: Source + Drop, K: Sink + Drop> Session<FS, S, K> {
+    /// Gives it up, unserved: a closure that a thread never ran is dropped with what it holds.
+    pub(crate) fn discard(self) {
+        let Session {
+            service: _,
+            n_threads: _,
+            channel: _,
+            lines: _,
+            notifier: _,
+        } = self;
     }
 }
 

@@ -40,6 +40,8 @@ mod refusal_tests;
 #[cfg(test)]
 mod session_tests;
 #[cfg(test)]
+mod spawn_tests;
+#[cfg(test)]
 mod test_messages;
 #[cfg(test)]
 mod tests;

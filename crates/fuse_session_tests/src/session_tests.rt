@@ -15,7 +15,7 @@ use std::sync::Wait;
 use std::test::Fail;
 use std::thread::Threads;
 
-type Over = Ended<Probing<Counting>, MemorySource, MemorySink>;
+pub(crate) type Over = Ended<Probing<Counting>, MemorySource, MemorySink>;
 
 type Opening = Result<Session<Probing<Counting>, MemorySource, MemorySink>, Over>;
 
@@ -58,7 +58,7 @@ fn open<R: Wait + AllocGlobal>(
 }
 
 /// A session that ended so, after so many messages, has sent these frames, and destroyed its filesystem so often.
-fn is_left<A: Abort>(
+pub(crate) fn is_left<A: Abort>(
     rt: &A,
     over: Over,
     outcome: Result<(), SessionError>,

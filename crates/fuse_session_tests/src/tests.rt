@@ -103,8 +103,26 @@ pub(crate) fn serves_source<R: Threads + Wait + AllocGlobal + Abort + Sync>(
     source
 }
 
-/// Serves the first of these messages in a session that sends these frames, with this outcome and these counts; and
-/// where it is served, once more on two threads.
+/// Serves the first of these messages in a session on so many threads that sends these frames, with this outcome and these
+/// counts.
+fn serves_on<R: Threads + Wait + AllocGlobal + Abort + Sync>(
+    rt: &R,
+    n_threads: Option<usize>,
+    messages: &[&[u8]],
+    frames: &[&[u8]],
+    outcome: &Result<(), SessionError>,
+    counts: Counts<'_>,
+) -> Result<(), Fail> {
+    let alloc = rt.alloc();
+    let mut config = Config::new(alloc);
+    config.n_threads = n_threads;
+    let source = source_of(alloc, messages)?;
+    let sink = MemorySink::new(alloc, Vec::new(alloc));
+    let _source = serves_source(rt, &config, source, sink, frames, *outcome, counts);
+    Ok(())
+}
+
+/// The same on as many threads as are configured; and where any are, once more on two.
 fn serves_calls<R: Threads + Wait + AllocGlobal + Abort + Sync>(
     rt: &R,
     config: &Config,
@@ -113,18 +131,11 @@ fn serves_calls<R: Threads + Wait + AllocGlobal + Abort + Sync>(
     outcome: Result<(), SessionError>,
     counts: Counts<'_>,
 ) -> Result<(), Fail> {
-    let alloc = rt.alloc();
-    for n_threads in [config.n_threads, Some(2)] {
-        let mut config = Config::new(alloc);
-        config.n_threads = n_threads;
-        let source = source_of(alloc, messages)?;
-        let sink = MemorySink::new(alloc, Vec::new(alloc));
-        let _source = serves_source(rt, &config, source, sink, frames, outcome, counts);
-        if n_threads == Some(0) {
-            return Ok(());
-        }
+    serves_on(rt, config.n_threads, messages, frames, &outcome, counts)?;
+    if config.n_threads == Some(0) {
+        return Ok(());
     }
-    Ok(())
+    serves_on(rt, Some(2), messages, frames, &outcome, counts)
 }
 
 /// Serves the first of these messages, so many, in a session with this outcome, which sends these frames and no note,

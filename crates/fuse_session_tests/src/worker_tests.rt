@@ -36,6 +36,20 @@ impl Holding {
     }
 }
 
+impl Holding {
+    /// What a lookup of this name is answered by.
+    fn answer_to(&self, name: &[u8]) -> Errno {
+        if name == b"b".as_slice() {
+            self.is_b_called.store(true, Ordering::SeqCst);
+        }
+        if self.awaits_b() {
+            Errno::ENOENT
+        } else {
+            Errno::EIO
+        }
+    }
+}
+
 impl Probe for Holding {
     ghost own = { λ call answer. Unit {0} };
 
@@ -56,14 +70,7 @@ impl Probe for Holding {
         name: &[u8],
         reply: ReplyEntry,
     ) -> Replied {
-        if name == b"b".as_slice() {
-            self.is_b_called.store(true, Ordering::SeqCst);
-        }
-        if self.awaits_b() {
-            reply.error(Errno::ENOENT)
-        } else {
-            reply.error(Errno::EIO)
-        }
+        reply.error(self.answer_to(name))
     }
 
     fn destroyed(&mut self) {}
@@ -98,9 +105,11 @@ fn two_calls_run_at_once(rt: HostRuntime) -> Result<(), Fail> {
     );
     assert_eq!(rt; outcome, Ok(()));
     assert_eq!(rt; (transcript.received, transcript.frames), (3, 3));
-    let sent = |frame: &[u8]| sink.frames().iter().any(|one| one.as_slice() == frame);
-    assert_eq!(rt; sink.frames()[0].as_slice(), ACCEPTED.as_slice());
-    assert!(rt; sent(&error_reply(2, ENOENT)));
-    assert!(rt; sent(&error_reply(3, ENOENT)));
+    let frames = sink.frames();
+    assert_eq!(rt; frames.len(), 3);
+    let is_sent = |frame: &[u8]| frames.iter().any(|one| one.as_slice() == frame);
+    assert_eq!(rt; frames[0].as_slice(), ACCEPTED.as_slice());
+    assert!(rt; is_sent(&error_reply(2, ENOENT)));
+    assert!(rt; is_sent(&error_reply(3, ENOENT)));
     Ok(())
 }

@@ -1,6 +1,6 @@
 -- What came of the later messages, by how many threads answered them.
 use Rattle.fuse_session.specs.Owed.{Owed}
-use Rattle.fuse_session.proofs.Running.{Accounted-one}
+use Rattle.fuse_session.proofs.SessionParts.{Accounted-one}
 use Rattle.fuse_session.proofs.Serving.{Owed-broken}
 use Rattle.fuse_session.proofs.session.answer_all.Goals as goal
 

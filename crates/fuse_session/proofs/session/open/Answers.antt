@@ -2,7 +2,7 @@
 use Rattle.std.proofs.Common.{sym, subst}
 use Rattle.fuse_session.specs.Exchange.{Closed, Outcome, setup_of}
 use Rattle.fuse_session.specs.Session.{OpensNone}
-use Rattle.fuse_session.proofs.Running.{Closed-unopened}
+use Rattle.fuse_session.proofs.SessionParts.{Closed-unopened}
 use Rattle.fuse_session.proofs.session.open.Goals as goal
 
 pub returns-in-Err-clause-closed : goal.returns-in-Err-clause-closed

@@ -4,7 +4,7 @@ use Rattle.fuse_session.specs.Exchange.{Unopened, setup_of}
 use Rattle.fuse_session.specs.Session.{OpensNone}
 use Rattle.fuse_session.specs.declared.error.SessionError.{SessionError}
 use Rattle.fuse_session.proofs.Exchanging.{Unopened-failed, Unopened-gone, Unopened-refused}
-use Rattle.fuse_session.proofs.Running.{opens_none-refused}
+use Rattle.fuse_session.proofs.SessionParts.{opens_none-refused}
 use Rattle.fuse_session.proofs.session.shake.Goals as goal
 
 pub returns-in-Gone : goal.returns-in-Gone

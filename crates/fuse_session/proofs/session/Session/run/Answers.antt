@@ -1,6 +1,6 @@
 -- A run, and the session that it ends.
 use Rattle.std.proofs.Common.{ap, sym}
-use Rattle.fuse_session.proofs.Running.{Headline-ran, Mounted-ran, Ok-from_run, Ran-ends}
+use Rattle.fuse_session.proofs.SessionParts.{Headline-ran, Mounted-ran, Ok-from_run, Ran-ends}
 use Rattle.fuse_session.proofs.session.Session.run.Goals as goal
 
 pub returns-clause-ran : goal.returns-clause-ran

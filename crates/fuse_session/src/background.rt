@@ -1,0 +1,153 @@
+// Sessions in the background.
+ghost use Rattle.std.specs.Prelude.{◌≡◌, ◌≢◌, ◌<◌, ◌⊎◌, ◌↔◌, ℕ, Ok, Err, Some, IfErr, IfOk, MatchResult, false};
+ghost use Rattle.fuse_notify.specs.Queueing.{fresh_door};
+ghost use Rattle.fuse_session.specs.Complete.{AcceptsAll, HandshakeWell, RunWell};
+ghost use Rattle.fuse_session.specs.Exchange.{Closed, Mounted, setup};
+ghost use Rattle.fuse_session.specs.Headline.{Headline, Lossless};
+ghost use Rattle.fuse_session.specs.Refused.{IsUntouched, OfOptions, OptionsWell, RefusedAs, Untouched};
+ghost use Rattle.fuse_session.specs.Session.{EndsRun, IsOpened, OpensNone, Ran, Serves, setup_for};
+ghost use Rattle.fuse_session.specs.Spawning.{HasEnded, IfEnded, IfRefused, refused_by};
+ghost use Rattle.fuse_wire.specs.Faults.{Rose};
+ghost use Rattle.fuse_wire.specs.Sink.{SinkState};
+ghost use Rattle.fuse_wire.specs.Source.{SourceState};
+
+use crate::{Ended, Filesystem, Running, Session, SessionError, Spawner};
+use fuse_config::Config;
+use fuse_notify::Notifier;
+use fuse_wire::{NoMemory, Sink, Source};
+use std::alloc::AllocGlobal;
+use std::marker::Model;
+use std::sync::Wait;
+use std::thread::Threads;
+
+/// A session that runs in the background. It must be spent: `join` waits for its end. A contract sees the session that was
+/// started.
+pub struct BackgroundSession<FS: Filesystem, S: Source, K: Sink> {
+    pub(crate) running: Running<FS, S, K>,
+    pub(crate) notifier: Option<Notifier>,
+}
+
+impl<FS: Filesystem, S: Source, K: Sink> Model for BackgroundSession<FS, S, K> {
+    ghost use Rattle.std.specs.Prelude.{◌≡◌, IfSome};
+    ghost use Rattle.fuse_notify.specs.Queueing.{fresh_door};
+    ghost use Rattle.fuse_session.specs.Session.{Opened};
+    ghost use Rattle.fuse_session.specs.Spawned.{started};
+
+    ghost Value = { Opened FS };
+
+    ghost view = { λ b. started b.running };
+
+    ghost invariant = { λ b. IfSome b.notifier (λ n. n ≡ fresh_door (started b.running).line) };
+}
+
+impl<FS: Filesystem, S: Source, K: Sink + Send> BackgroundSession<FS, S, K> {
+    /// Waits for the end of the session.
+    pub fn join<R: Threads + Wait + AllocGlobal + Sync>(self, rt: &R) -> Ended<FS, S, K>
+        // What was taken, sent, lost and counted after the handshake, why it ended so, and that `destroy` was called once.
+        ensures ran { Ran FS.promise self result.filesystem result.outcome
+            (S.told result.source) (K.told result.sink) result.transcript }
+
+        // With the handshake that opened it, it is a whole session.
+        ensures session { (page : ℕ) (fs : _) (source : SourceState) (sink : SinkState) →
+            IsOpened FS.promise page fs source sink self →
+            Mounted (setup_for FS.promise page self) fs result.filesystem result.outcome
+            source (S.told result.source) sink (K.told result.sink) result.transcript }
+
+        // One reply for each message: see `Headline`.
+        ensures headline { (page : ℕ) (fs : _) (source : SourceState) (sink : SinkState) →
+            IsOpened FS.promise page fs source sink self →
+            result.outcome ≡ Ok tt → Lossless sink (K.told result.sink) result.transcript →
+            Headline FS.promise page self.acl self.owner fs source (S.told result.source) sink (K.told result.sink) }
+
+        // It ends well where nothing is amiss.
+        ensures complete { RunWell self (S.told result.source) → result.outcome ≡ Ok tt }
+    {
+        let BackgroundSession {
+            running,
+            notifier: _,
+        } = self;
+        running.join(rt)
+    }
+
+    /// What queues notices, which the session sends after the reply that follows. One that is queued after its end is not
+    /// sent.
+    pub fn notifier(&mut self) -> Result<Notifier, NoMemory>
+        ensures same { self.new ≡ self.old }
+        ensures fresh { IfOk result (λ n. n ≡ fresh_door self.old.line) }
+    {
+        match &mut self.notifier {
+            Some(notifier) => notifier.again(),
+            None => Err(NoMemory),
+        }
+    }
+}
+
+/// Why no session runs in the background.
+pub enum SpawnError<FS, S: Source, K: Sink> {
+    /// None was opened: as from `Session::new`.
+    Ended(Ended<FS, S, K>),
+    /// It was opened, but the spawner refused to start it. It can still be run.
+    Refused(Session<FS, S, K>),
+}
+
+/// Opens a session as `Session::new` does, and starts it in the background.
+pub fn spawn_mount<
+    R: Threads + Wait + AllocGlobal + Send + Sync + Copy + 'static,
+    FS: Filesystem + Drop + 'static,
+    S: Source + Send + Drop + 'static,
+    K: Sink + Send + Drop + 'static,
+>(
+    rt: &R,
+    spawner: &mut Spawner,
+    filesystem: FS,
+    source: S,
+    sink: K,
+    owner: u32,
+    page_size: u32,
+    config: &Config,
+) -> Result<BackgroundSession<FS, S, K>, SpawnError<FS, S, K>>
+    requires page { 0 < page_size }
+    // No reply comes after its method has returned.
+    requires prompt { FS.DEFERS ≡ false }
+
+    // A handshake that was accepted opened it.
+    ensures opened { IfOk result (λ s. IsOpened FS.promise page_size filesystem (S.told source) (K.told sink) s
+        × Serves config.now.acl owner config.now.n_threads s) }
+
+    // So it did where it was refused, and then the spawner's count rose.
+    ensures refused { IfErr result (IfRefused (λ s.
+        IsOpened FS.promise page_size filesystem (S.told source) (K.told sink) s
+        × Serves config.now.acl owner config.now.n_threads s × Rose (refused_by spawner.old) (refused_by spawner.new))) }
+
+    // What was taken, sent, lost and counted where it was not opened, why it ended so, and that `destroy` was called once.
+    ensures ended { IfErr result (IfEnded (λ e. ¬ (Untouched e.outcome) →
+        Closed (setup FS.promise page_size config.now owner) filesystem e.filesystem e.outcome
+        (S.told source) (S.told e.source) (K.told sink) (K.told e.sink) e.transcript)) }
+
+    // Its error is never Ok, and never that no thread is to serve.
+    ensures causes { IfErr result (IfEnded (λ e. OpensNone e.outcome ⊎ Untouched e.outcome)) }
+
+    // It is opened where nothing is amiss, but for want of memory.
+    ensures complete { IfErr result (IfEnded (λ e. OptionsWell config.now →
+        HandshakeWell FS.promise.may_init filesystem (S.told source) (S.told e.source) →
+        e.outcome ≡ Err SessionError.Memory)) }
+
+    // Where `init` refuses nothing, its error is not the outcome.
+    ensures accepted { IfErr result (IfEnded (λ e. AcceptsAll FS.promise.may_init filesystem →
+        (n : ℕ) → e.outcome ≢ Err (SessionError.Init n))) }
+
+    // Options are refused exactly where a cause holds, and none that is looked at before it.
+    ensures options { (error : SessionError) → OfOptions error →
+        MatchResult result (λ _. ⊥) (HasEnded (λ e. e.outcome ≡ Err error)) ↔ RefusedAs config.now error }
+
+    // Refused options, and want of memory, leave all as it was.
+    ensures untouched { IfErr result (IfEnded (λ e. Untouched e.outcome → IsUntouched filesystem source sink e)) }
+{
+    match Session::new(rt, filesystem, source, sink, owner, page_size, config) {
+        Ok(session) => match session.spawn(rt, spawner) {
+            Ok(background) => Ok(background),
+            Err(session) => Err(SpawnError::Refused(session)),
+        },
+        Err(ended) => Err(SpawnError::Ended(ended)),
+    }
+}

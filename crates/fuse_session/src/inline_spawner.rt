@@ -1,0 +1,72 @@
+// Sessions that run at once.
+ghost use Rattle.std.specs.Prelude.{◌≡◌, ◌≤◌, MatchResult, false};
+ghost use Rattle.fuse_wire.specs.Faults.{Rose};
+ghost use Rattle.fuse_session.specs.Spawned.{StartsInline, started};
+
+use crate::running::AtEnd;
+use crate::{Filesystem, Running, Session};
+use fuse_wire::{Sink, Source};
+use std::alloc::AllocGlobal;
+use std::marker::Model;
+use std::snapshot::Snapshot;
+use std::sync::Wait;
+use std::thread::Threads;
+
+/// Runs each session at once, on the thread that starts it, and refuses some starts. It is for tests.
+#[derive(Drop)]
+pub struct InlineSpawner {
+    refusals: Vec<u64>,
+    starts: u64,
+    refused: u64,
+}
+
+impl Model for InlineSpawner {
+    ghost use Rattle.fuse_session.specs.Starts.{InlineStarts};
+
+    ghost Value = { InlineStarts };
+
+    ghost view = { λ s. record { listed = s.refusals.items; starts = s.starts; refused = s.refused } };
+}
+
+impl InlineSpawner {
+    /// The starts whose numbers are listed are refused. They are numbered from 1, those that are refused too, and each
+    /// after the last number of a u64 has that one.
+    pub fn new(refusals: Vec<u64>) -> InlineSpawner
+        ensures { result ≡ record { listed = refusals.items; starts = 0; refused = 0 } }
+    {
+        InlineSpawner {
+            refusals,
+            starts: 0,
+            refused: 0,
+        }
+    }
+}
+
+impl InlineSpawner {
+    /// Runs the session, or refuses it where the start is listed.
+    pub fn start<
+        R: Threads + Wait + AllocGlobal + Send + Sync + Copy + 'static,
+        FS: Filesystem + Drop + 'static,
+        S: Source + Send + Drop + 'static,
+        K: Sink + Send + Drop + 'static,
+    >(&mut self, rt: &R, session: Session<FS, S, K>) -> Result<Running<FS, S, K>, Session<FS, S, K>>
+        // No reply comes after its method has returned.
+        requires prompt { FS.DEFERS ≡ false }
+        ensures counted { self.old.refused ≤ self.new.refused }
+        ensures started { MatchResult result (λ running. started running ≡ session)
+            (λ back. (back ≡ session) × Rose self.old.refused self.new.refused) }
+        ensures exactly { StartsInline result self.old self.new }
+    {
+        self.starts = self.starts.saturating_add(1);
+        if self.refusals.contains(&self.starts) {
+            self.refused = self.refused.saturating_add(1);
+            return Err(session);
+        }
+        let seen = Snapshot::of(&session);
+        let ended = session.run(rt);
+        Ok(Running::AtEnd(AtEnd {
+            session: seen,
+            ended,
+        }))
+    }
+}

@@ -1,0 +1,41 @@
+// What runs sessions in the background.
+ghost use Rattle.std.specs.Prelude.{◌≡◌, ◌≤◌, MatchResult, false};
+ghost use Rattle.fuse_session.specs.Spawned.{started};
+ghost use Rattle.fuse_session.specs.Spawning.{refused_by};
+ghost use Rattle.fuse_wire.specs.Faults.{Rose};
+
+use crate::{Filesystem, InlineSpawner, Running, Session, ThreadSpawner};
+use fuse_wire::{Sink, Source};
+use std::alloc::AllocGlobal;
+use std::sync::Wait;
+use std::thread::Threads;
+
+/// What runs a session while its caller goes on.
+#[derive(Drop)]
+pub enum Spawner {
+    /// A thread of its own runs each session.
+    Thread(ThreadSpawner),
+    /// Each session runs at once, for tests.
+    Inline(InlineSpawner),
+}
+
+impl Spawner {
+    /// Starts a session. Where it can't be started, it comes back as it was.
+    pub fn start<
+        R: Threads + Wait + AllocGlobal + Send + Sync + Copy + 'static,
+        FS: Filesystem + Drop + 'static,
+        S: Source + Send + Drop + 'static,
+        K: Sink + Send + Drop + 'static,
+    >(&mut self, rt: &R, session: Session<FS, S, K>) -> Result<Running<FS, S, K>, Session<FS, S, K>>
+        // No reply comes after its method has returned.
+        requires prompt { FS.DEFERS ≡ false }
+        ensures counted { refused_by self.old ≤ refused_by self.new }
+        ensures started { MatchResult result (λ running. started running ≡ session)
+            (λ back. (back ≡ session) × Rose (refused_by self.old) (refused_by self.new)) }
+    {
+        match self {
+            Spawner::Thread(threads) => threads.start(rt, session),
+            Spawner::Inline(inline) => inline.start(rt, session),
+        }
+    }
+}

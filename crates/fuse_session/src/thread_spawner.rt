@@ -1,0 +1,117 @@
+// Sessions on threads of their own.
+ghost use Rattle.std.specs.Prelude.{◌≡◌, ◌≤◌, MatchResult, false};
+ghost use Rattle.fuse_wire.specs.Faults.{Rose};
+ghost use Rattle.fuse_session.specs.Spawned.{CameOf, started};
+
+use crate::running::{AtEnd, Came, Carried, ComesOf, OnThread};
+use crate::{Filesystem, Running, Session};
+use fuse_wire::{Sink, Source};
+use std::alloc::{AllocGlobal, Global};
+use std::snapshot::Snapshot;
+use std::sync::atomic::{AtomicBool, Ordering};
+use std::sync::{Arc, Wait};
+use std::thread;
+use std::thread::Threads;
+
+/// Starts a thread for each session. It counts the starts for which there was no thread, or no memory.
+#[derive(Drop)]
+pub struct ThreadSpawner {
+    refused: u64,
+}
+
+impl ThreadSpawner {
+    /// It has refused none yet.
+    pub fn new() -> ThreadSpawner {
+        ThreadSpawner { refused: 0 }
+    }
+}
+
+/// Runs the session, or gives it back where it is held.
+fn run_unless_held<
+    R: Threads + Wait + AllocGlobal + Sync + Copy,
+    FS: Filesystem,
+    S: Source,
+    K: Sink + Send,
+>(rt: R, carried: Carried<FS, S, K>, is_held: Arc<AtomicBool, Global>) -> Came<FS, S, K>
+    requires prompt { FS.DEFERS ≡ false }
+    ensures { CameOf FS.promise S.told K.told carried.session result }
+{
+    if is_held.load(Ordering::SeqCst) {
+        Came::Held(carried)
+    } else {
+        Came::Ended(carried.into_session().run(&rt))
+    }
+}
+
+/// A flag that is down, shared by two.
+fn shared_flag(alloc: Global) -> Option<(Arc<AtomicBool, Global>, Arc<AtomicBool, Global>)> {
+    let flag = Arc::new(alloc, AtomicBool::new(false)).ok()?;
+    let share = Arc::try_clone(&flag).ok()?;
+    Some((flag, share))
+}
+
+/// Starts a thread for the session. Where there is none, what comes of it on this one is given back: it is held.
+fn start_thread<
+    R: Threads + Wait + AllocGlobal + Send + Sync + Copy + 'static,
+    FS: Filesystem + Drop + 'static,
+    S: Source + Send + Drop + 'static,
+    K: Sink + Send + Drop + 'static,
+>(
+    rt: &R,
+    session: Session<FS, S, K>,
+    is_held: Arc<AtomicBool, Global>,
+    share: Arc<AtomicBool, Global>,
+) -> Result<OnThread<FS, S, K>, Came<FS, S, K>>
+    requires prompt { FS.DEFERS ≡ false }
+    ensures { MatchResult result (λ thread. thread ≡ session) (CameOf FS.promise S.told K.told session) }
+{
+    let promise = ComesOf {
+        session: Snapshot::of(&session),
+    };
+    let carried = Carried::new(session);
+    let runtime = *rt;
+    let task = move || -> Came<FS, S, K>
+        requires prompt { FS.DEFERS ≡ false }
+        ensures { CameOf FS.promise S.told K.told carried.session result }
+    { run_unless_held(runtime, carried, share) };
+    match thread::spawn_with(rt, promise, task) {
+        Ok(handle) => Ok(OnThread { handle }),
+        Err(refused) => {
+            is_held.store(true, Ordering::SeqCst);
+            Err((refused.value)())
+        }
+    }
+}
+
+impl ThreadSpawner {
+    /// Starts a thread for the session. Where there is none, or no memory, it comes back as it was.
+    pub fn start<
+        R: Threads + Wait + AllocGlobal + Send + Sync + Copy + 'static,
+        FS: Filesystem + Drop + 'static,
+        S: Source + Send + Drop + 'static,
+        K: Sink + Send + Drop + 'static,
+    >(&mut self, rt: &R, session: Session<FS, S, K>) -> Result<Running<FS, S, K>, Session<FS, S, K>>
+        // No reply comes after its method has returned.
+        requires prompt { FS.DEFERS ≡ false }
+        ensures counted { self.old.refused ≤ self.new.refused }
+        ensures started { MatchResult result (λ running. started running ≡ session)
+            (λ back. (back ≡ session) × Rose self.old.refused self.new.refused) }
+    {
+        let Some((is_held, share)) = shared_flag(rt.alloc()) else {
+            self.refused = self.refused.saturating_add(1);
+            return Err(session);
+        };
+        let seen = Snapshot::of(&session);
+        match start_thread(rt, session, is_held, share) {
+            Ok(thread) => Ok(Running::OnThread(thread)),
+            Err(Came::Ended(ended)) => Ok(Running::AtEnd(AtEnd {
+                session: seen,
+                ended,
+            })),
+            Err(Came::Held(carried)) => {
+                self.refused = self.refused.saturating_add(1);
+                Err(carried.into_session())
+            }
+        }
+    }
+}
