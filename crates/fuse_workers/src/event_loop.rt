@@ -24,6 +24,7 @@ pub(crate) fn destroyed(alloc: Global, id: RequestId) -> Out
 }
 
 /// Takes the message of this number and answers it. None is that the run goes on.
+#[inline(always)]
 fn take_turn<R: Wait + AllocGlobal, W: Work, S: Source, K: Sink>(
     rt: &R,
     work: &W,
@@ -56,6 +57,7 @@ fn take_turn<R: Wait + AllocGlobal, W: Work, S: Source, K: Sink>(
 }
 
 /// Answers messages until the source has none left, or one ends the run. After each the notices that wait are sent.
+#[inline(always)]
 pub(crate) fn answer_in_turn<R: Wait + AllocGlobal, W: Work, S: Source, K: Sink>(
     rt: &R,
     work: &W,
