@@ -1,5 +1,5 @@
 // What a request comes to: an error that the product fixes, or what the filesystem answers.
-ghost use Rattle.std.specs.Prelude.{false};
+ghost use Rattle.std.specs.Prelude.{◌≡◌, false};
 ghost use Rattle.fuse_session.specs.Asked.{IsOwed};
 ghost use Rattle.fuse_session.specs.Owed.{Owed-destroy, OwedMessage};
 ghost use Rattle.fuse_workers.specs.Progress.{IsPrompt};
@@ -28,6 +28,7 @@ impl<H: Handler> Service<H> {
     fn serve(&self, asked: &Asked, notifier: &mut Notifier, operation: &Operation<'_>) -> Out
         ensures owed { IsOwed (H.owes self.now.handler) asked.now operation.now result }
         ensures prompt { IsPrompt result }
+        ensures line { notifier.new.line ≡ notifier.old.line }
     {
         match operation {
             Operation::Lookup(operation) => self.handler.lookup(asked, operation),

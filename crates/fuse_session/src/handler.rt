@@ -162,7 +162,8 @@ pub(crate) trait Handler {
 
     fn poll(&self, asked: &Asked, notifier: &mut Notifier, operation: &Poll) -> Out
         ensures owed { IsOwed (owes self.now) asked.now (Operation.Poll operation.now) result }
-        ensures prompt { IsPrompt result };
+        ensures prompt { IsPrompt result }
+        ensures line { notifier.new.line ≡ notifier.old.line };
 
     fn batch_forget(&self, asked: &Asked, operation: &BatchForget<'_>) -> Out
         ensures owed { IsOwed (owes self.now) asked.now (Operation.BatchForget operation.now) result }

@@ -5,6 +5,7 @@ use Rattle.atomic_table.specs.Seated.{TableId}
 use Rattle.fuse_line.specs.Hand.{hand}
 use Rattle.fuse_line.specs.Seen.{Seen}
 use Rattle.fuse_line.specs.declared.hand.Kind.TheVariants.{First}
+use Rattle.fuse_notify.specs.Queueing.{fresh_door}
 use Rattle.fuse_reply.specs.Parcel.{is_prompt}
 use Rattle.fuse_reply.specs.declared.parcel.Parcel.{Parcel}
 use Rattle.fuse_reply.specs.declared.parcel.Parcel.TheVariants.{Prompt, Notice}
@@ -26,19 +27,25 @@ pub record IsAlone {T : Type 0} (inner : T → Bool) (line : TableId) (pass : Se
   pub alone : pass.hand.others ≡ 0
   pub settled : IsPermutation (filter inner pass.hand.put) (filter inner pass.hand.taken)
 
--- what a contract sees of both lines: their first passes
+-- what a contract sees of both lines: their first passes, and the door of what makes notifiers
 pub record LinesState : Type 0 where
   pub frames : Seen Parcel
   pub jobs : Seen Job
+  pub notifier : Seen Parcel
 
 -- the notices that were taken off the line of frames
 abbrev pub unasked_of : LinesState → List (List ℕ)
 unasked_of lines = notices_in lines.frames.hand.taken
 
--- nothing was pushed or taken yet by a first pass
+-- nothing was pushed or taken yet by a first pass, nor by the notifier's door, which is one to the line of frames
 pub record IsUnused (lines : LinesState) : Type 0 where
   pub frames : lines.frames.hand ≡ hand First 0 [] []
   pub jobs : lines.jobs.hand ≡ hand First 0 [] []
+  pub notifier : lines.notifier ≡ fresh_door lines.frames.line
+
+-- the passes are on this line of jobs and on this line of frames, and the notifier's door is one to that line of frames
+abbrev pub IsOn : (jobs frames : TableId) → LinesState → Type 0
+IsOn jobs frames lines = (lines.jobs.line ≡ jobs) × (lines.frames.line ≡ frames) × (lines.notifier.line ≡ frames)
 
 -- each first pass counts no other, and took each job and each prompt that was pushed
 pub record IsDrained (lines : LinesState) : Type 0 where

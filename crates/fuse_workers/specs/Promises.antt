@@ -1,8 +1,14 @@
--- What a worker's promise is about.
+-- What a worker's promise is about, and what the caller has.
 use Rattle.std.specs.Prelude.{◌≡◌}
 use Rattle.atomic_table.specs.Seated.{TableId}
+use Rattle.fuse_workers.specs.Lines.{LinesState}
+use Rattle.fuse_workers.specs.declared.caller.Caller.{Caller}
 use Rattle.fuse_workers.specs.declared.threads.Serves.{Serves}
 
 -- this work, this line of jobs and this line of frames
 abbrev pub PromisesFor : {W : Type 0} → W → (jobs frames : TableId) → Serves W → Type 0
 PromisesFor work jobs frames promise = (promise.work.value ≡ work) × (promise.jobs.value ≡ jobs) × (promise.frames.value ≡ frames)
+
+-- what a caller has of both lines
+abbrev pub lines_of : Caller → LinesState
+lines_of caller = record { frames = caller.frames; jobs = caller.jobs; notifier = caller.notifier }

@@ -27,7 +27,7 @@ impl Model for Lines {
 
     ghost Value = { LinesState };
 
-    ghost view = { λ l. record { frames = l.frames; jobs = l.jobs } };
+    ghost view = { λ l. record { frames = l.frames; jobs = l.jobs; notifier = l.notifier } };
 }
 
 impl Lines {

@@ -5,7 +5,9 @@ ghost use Rattle.fuse_line.specs.declared.hand.Kind.TheVariants.{First};
 ghost use Rattle.fuse_line.specs.Tells.{IsSettled};
 ghost use Rattle.fuse_workers.specs.Answering.{IsRequest};
 ghost use Rattle.fuse_workers.specs.Hearing.{Hears, TurnHeard, end_of};
+ghost use Rattle.fuse_workers.specs.Lines.{IsOn};
 ghost use Rattle.fuse_workers.specs.OneEach.{number_of};
+ghost use Rattle.fuse_workers.specs.Promises.{lines_of};
 ghost use Rattle.fuse_workers.specs.Threads.{IsCaller, at_once, job_of};
 
 use crate::intake::Intake;
@@ -94,9 +96,9 @@ fn hand_in<R: Wait + AllocGlobal, W: Work>(
 )
     requires prompt { W.DEFERS ≡ false }
     requires request { IsRequest message.now }
-    requires lines { (caller.old.jobs.line ≡ jobs.now) × (caller.old.frames.line ≡ frames.now) }
+    requires lines { IsOn jobs.now frames.now (lines_of caller.old) }
     requires first { (caller.old.jobs.hand.kind ≡ First) × (caller.old.frames.hand.kind ≡ First) }
-    ensures lines { (caller.new.jobs.line ≡ jobs.now) × (caller.new.frames.line ≡ frames.now) }
+    ensures lines { IsOn jobs.now frames.now (lines_of caller.new) }
     ensures others { (caller.new.jobs.hand.others ≡ caller.old.jobs.hand.others)
         × (caller.new.frames.hand.others ≡ caller.old.frames.hand.others) }
     ensures caller { (ms : List (List ℕ)) → number_of (length ms) ≡ seq →
@@ -130,9 +132,9 @@ fn take_one<R: Wait + AllocGlobal, W: Work, S: Source>(
     caller: &mut Caller,
 ) -> Option<Stopped>
     requires prompt { W.DEFERS ≡ false }
-    requires lines { (caller.old.jobs.line ≡ jobs.now) × (caller.old.frames.line ≡ frames.now) }
+    requires lines { IsOn jobs.now frames.now (lines_of caller.old) }
     requires first { (caller.old.jobs.hand.kind ≡ First) × (caller.old.frames.hand.kind ≡ First) }
-    ensures lines { (caller.new.jobs.line ≡ jobs.now) × (caller.new.frames.line ≡ frames.now) }
+    ensures lines { IsOn jobs.now frames.now (lines_of caller.new) }
     ensures others { (caller.new.jobs.hand.others ≡ caller.old.jobs.hand.others)
         × (caller.new.frames.hand.others ≡ caller.old.frames.hand.others) }
     ensures turn { TurnHeard (W.owed work.now) seq result intake.old intake.new
@@ -165,9 +167,9 @@ pub(crate) fn take_messages<R: Wait + AllocGlobal, W: Work, S: Source>(
     caller: &mut Caller,
 ) -> Stopped
     requires prompt { W.DEFERS ≡ false }
-    requires lines { (caller.old.jobs.line ≡ jobs.now) × (caller.old.frames.line ≡ frames.now) }
+    requires lines { IsOn jobs.now frames.now (lines_of caller.old) }
     requires caller { IsCaller (at_once (W.owed work.now)) [] caller.old.jobs.hand caller.old.frames.hand }
-    ensures lines { (caller.new.jobs.line ≡ jobs.now) × (caller.new.frames.line ≡ frames.now) }
+    ensures lines { IsOn jobs.now frames.now (lines_of caller.new) }
     ensures others { (caller.new.jobs.hand.others ≡ caller.old.jobs.hand.others)
         × (caller.new.frames.hand.others ≡ caller.old.frames.hand.others) }
     ensures heard { (ms : List (List ℕ)) × Hears result ms intake.old intake.new
@@ -192,9 +194,9 @@ pub(crate) fn answer_rest<R: Wait + AllocGlobal, W: Work>(
     caller: &mut Caller,
 )
     requires prompt { W.DEFERS ≡ false }
-    requires lines { (caller.old.jobs.line ≡ jobs.now) × (caller.old.frames.line ≡ frames.now) }
+    requires lines { IsOn jobs.now frames.now (lines_of caller.old) }
     requires first { (caller.old.jobs.hand.kind ≡ First) × (caller.old.frames.hand.kind ≡ First) }
-    ensures lines { (caller.new.jobs.line ≡ jobs.now) × (caller.new.frames.line ≡ frames.now) }
+    ensures lines { IsOn jobs.now frames.now (lines_of caller.new) }
     ensures others { (caller.new.jobs.hand.others ≡ caller.old.jobs.hand.others)
         × (caller.new.frames.hand.others ≡ caller.old.frames.hand.others) }
     ensures caller { (ms : List (List ℕ)) →

@@ -104,8 +104,9 @@ impl<S: Source, K: Sink> Channel<S, K> {
     /// nowhere.
     #[inline(always)]
     pub(crate) fn pass_on_notices<R: Wait>(&mut self, rt: &R, frames: &mut RunLine<Parcel>)
-        ensures { NoticesAlone (beside self.old.progress (notices_in frames.old.hand.taken))
+        ensures notices { NoticesAlone (beside self.old.progress (notices_in frames.old.hand.taken))
             (beside self.new.progress (notices_in frames.new.hand.taken)) }
+        ensures line { frames.new.line ≡ frames.old.line }
     {
         if !frames.is_empty() {
             self.outlet.send_notices(rt, frames);

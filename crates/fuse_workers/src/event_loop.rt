@@ -3,7 +3,7 @@ ghost use Rattle.std.specs.Prelude.{◌≡◌, false, []};
 ghost use Rattle.fuse_reply.specs.Answer.Answer.{Empty};
 ghost use Rattle.fuse_reply.specs.Frame.{reply};
 ghost use Rattle.fuse_workers.specs.EventLoop.{OneTurn, Run};
-ghost use Rattle.fuse_workers.specs.Lines.{IsUnused, notices_in, unasked_of};
+ghost use Rattle.fuse_workers.specs.Lines.{IsOn, IsUnused, notices_in, unasked_of};
 ghost use Rattle.fuse_workers.specs.OneEach.{InOrder};
 ghost use Rattle.fuse_workers.specs.Progress.{PassesOnAll, Quiet, beside, nothing_yet, progress};
 
@@ -35,6 +35,7 @@ fn take_turn<R: Wait + AllocGlobal, W: Work, S: Source, K: Sink>(
     requires { W.DEFERS ≡ false }
     ensures turn { OneTurn (W.owed work.now) seq result channel.old.progress channel.new.progress }
     ensures unasked { channel.new.progress.unasked ≡ channel.old.progress.unasked }
+    ensures line { notifier.new.line ≡ notifier.old.line }
 {
     let count = match channel.take_message(rt) {
         Taken::Message(count) => count,
@@ -66,9 +67,10 @@ pub(crate) fn answer_in_turn<R: Wait + AllocGlobal, W: Work, S: Source, K: Sink>
     frames: &mut RunLine<Parcel>,
 ) -> End
     requires { W.DEFERS ≡ false }
-    ensures { Run (InOrder (W.owed work.now) 0) result
+    ensures run { Run (InOrder (W.owed work.now) 0) result
         (beside channel.old.progress (notices_in frames.old.hand.taken))
         (beside channel.new.progress (notices_in frames.new.hand.taken)) }
+    ensures lines { (frames.new.line ≡ frames.old.line) × (notifier.new.line ≡ notifier.old.line) }
 {
     let mut seq: u64 = 0;
     for _ in rt.forever() {
@@ -105,6 +107,9 @@ pub fn run_inline<R: Wait + AllocGlobal, W: Work, S: Source, K: Sink>(
     ensures notices { Quiet (K.told sink) (K.told result.sink) → PassesOnAll
         (progress (S.told source) (K.told sink) nothing_yet [])
         (progress (S.told result.source) (K.told result.sink) result.transcript (unasked_of result.buffers)) }
+
+    // The lines are those of the buffers, and what makes notifiers has a door to the line of frames.
+    ensures lines { IsOn buffers.jobs.line buffers.frames.line result.buffers }
 {
     let (mut channel, lines) = Channel::open(source, sink, buffers);
     let Lines {

@@ -68,6 +68,7 @@ impl<K: Sink> Outlet<K> {
             NoticesAlone (progress source self.old.sink counts (notices_in frames.old.hand.taken))
             (progress source self.new.sink counts (notices_in frames.new.hand.taken)) }
         ensures counts { self.new.counts ≡ self.old.counts }
+        ensures line { frames.new.line ≡ frames.old.line }
     {
         for _ in rt.forever() {
             match frames.next(rt) {

@@ -4,7 +4,9 @@ ghost use Rattle.std.specs.List.{All};
 ghost use Rattle.std.specs.Vec.{vec_capacity, vec_len};
 ghost use Rattle.fuse_line.specs.Hand.{hand};
 ghost use Rattle.fuse_line.specs.declared.hand.Kind.TheVariants.{First, Inner};
-ghost use Rattle.fuse_workers.specs.Promises.{PromisesFor};
+ghost use Rattle.fuse_notify.specs.Queueing.{fresh_door};
+ghost use Rattle.fuse_workers.specs.Lines.{IsOn};
+ghost use Rattle.fuse_workers.specs.Promises.{PromisesFor, lines_of};
 ghost use Rattle.fuse_workers.specs.Relays.{IsRelayed};
 ghost use Rattle.fuse_workers.specs.Threads.{IsCaller, IsServed, at_once};
 
@@ -79,9 +81,9 @@ fn start_one<'s, E, W: Work, R: Threads + Wait + AllocGlobal + Sync>(
     caller: &mut Caller,
 ) -> Option<Worker<W>>
     requires prompt { W.DEFERS ≡ false }
-    requires lines { (caller.old.jobs.line ≡ jobs.now) × (caller.old.frames.line ≡ frames.now) }
+    requires lines { IsOn jobs.now frames.now (lines_of caller.old) }
     requires caller { IsCaller (at_once (W.owed work.now)) [] caller.old.jobs.hand caller.old.frames.hand }
-    ensures lines { (caller.new.jobs.line ≡ jobs.now) × (caller.new.frames.line ≡ frames.now) }
+    ensures lines { IsOn jobs.now frames.now (lines_of caller.new) }
     ensures caller { IsCaller (at_once (W.owed work.now)) [] caller.new.jobs.hand caller.new.frames.hand }
     ensures others { MatchOption result
         ((caller.new.jobs.hand.others ≡ caller.old.jobs.hand.others)
@@ -102,7 +104,8 @@ fn start_one<'s, E, W: Work, R: Threads + Wait + AllocGlobal + Sync>(
     };
     let worker = move || -> (Pass<RequestJob>, Pass<Parcel>)
         requires { (W.DEFERS ≡ false) × (job_pass.line ≡ jobs.now) × (frame_pass.line ≡ frames.now)
-            × (job_pass.hand ≡ hand Inner 0 [] []) × (frame_pass.hand ≡ hand Inner 0 [] []) }
+            × (job_pass.hand ≡ hand Inner 0 [] []) × (frame_pass.hand ≡ hand Inner 0 [] [])
+            × (notifier ≡ fresh_door frames.now) }
         ensures { (result.0.line ≡ jobs.entry.now) × (result.1.line ≡ frames.entry.now)
             × IsServed (at_once (W.owed work.entry.now)) result.0.hand result.1.hand }
     {
@@ -134,11 +137,11 @@ pub(crate) fn start_workers<'s, E, W: Work, R: Threads + Wait + AllocGlobal + Sy
     workers: &mut Vec<Worker<W>>,
 )
     requires prompt { W.DEFERS ≡ false }
-    requires lines { (caller.old.jobs.line ≡ jobs.now) × (caller.old.frames.line ≡ frames.now) }
+    requires lines { IsOn jobs.now frames.now (lines_of caller.old) }
     requires caller { IsCaller (at_once (W.owed work.now)) [] caller.old.jobs.hand caller.old.frames.hand }
     requires room { length flags.now ≤ vec_capacity workers.old - vec_len workers.old }
     requires promises { All (λ h. PromisesFor work.now jobs.now frames.now h.promise) workers.old.items }
-    ensures lines { (caller.new.jobs.line ≡ jobs.now) × (caller.new.frames.line ≡ frames.now) }
+    ensures lines { IsOn jobs.now frames.now (lines_of caller.new) }
     ensures caller { IsCaller (at_once (W.owed work.now)) [] caller.new.jobs.hand caller.new.frames.hand }
     ensures promises { All (λ h. PromisesFor work.now jobs.now frames.now h.promise) workers.new.items }
     ensures jobs { caller.new.jobs.hand.others + vec_len workers.old ≡ caller.old.jobs.hand.others + vec_len workers.new }
@@ -162,10 +165,10 @@ fn join_one<W: Work, R: Threads>(
     caller: &mut Caller,
     worker: Worker<W>,
 )
-    requires lines { (caller.old.jobs.line ≡ jobs.now) × (caller.old.frames.line ≡ frames.now) }
+    requires lines { IsOn jobs.now frames.now (lines_of caller.old) }
     requires first { (caller.old.jobs.hand.kind ≡ First) × (caller.old.frames.hand.kind ≡ First) }
     requires promise { PromisesFor work.now jobs.now frames.now worker.promise }
-    ensures lines { (caller.new.jobs.line ≡ jobs.now) × (caller.new.frames.line ≡ frames.now) }
+    ensures lines { IsOn jobs.now frames.now (lines_of caller.new) }
     ensures first { (caller.new.jobs.hand.kind ≡ First) × (caller.new.frames.hand.kind ≡ First) }
     ensures others { (caller.new.jobs.hand.others ≡ caller.old.jobs.hand.others - 1)
         × (caller.new.frames.hand.others ≡ caller.old.frames.hand.others - 1) }
@@ -188,12 +191,12 @@ pub(crate) fn join_workers<W: Work, R: Threads>(
     caller: &mut Caller,
     workers: Vec<Worker<W>>,
 )
-    requires lines { (caller.old.jobs.line ≡ jobs.now) × (caller.old.frames.line ≡ frames.now) }
+    requires lines { IsOn jobs.now frames.now (lines_of caller.old) }
     requires first { (caller.old.jobs.hand.kind ≡ First) × (caller.old.frames.hand.kind ≡ First) }
     requires promises { All (λ h. PromisesFor work.now jobs.now frames.now h.promise) workers.items }
     requires others { (caller.old.jobs.hand.others ≡ vec_len workers)
         × (caller.old.frames.hand.others ≡ 1 + vec_len workers) }
-    ensures lines { (caller.new.jobs.line ≡ jobs.now) × (caller.new.frames.line ≡ frames.now) }
+    ensures lines { IsOn jobs.now frames.now (lines_of caller.new) }
     ensures first { (caller.new.jobs.hand.kind ≡ First) × (caller.new.frames.hand.kind ≡ First) }
     ensures others { (caller.new.jobs.hand.others ≡ 0) × (caller.new.frames.hand.others ≡ 1) }
     ensures caller { (ms : List (List ℕ)) →

@@ -25,8 +25,8 @@ pub trait Work: Sync {
     ghost DEFERS: { Bool };
 
     /// Answers the message of this number, which has a good header and is no DESTROY. A poll is told of news through
-    /// what the notifier makes. The reply may come later only through the door: where there is none, the error says
-    /// why, and it is `Shut` exactly where no reply of this work comes later.
+    /// what the notifier makes, which stays one to the same line. The reply may come later only through the door: where
+    /// there is none, the error says why, and it is `Shut` exactly where no reply of this work comes later.
     fn answer<R: Wait + AllocGlobal>(
         &self,
         rt: &R,
@@ -38,7 +38,8 @@ pub trait Work: Sync {
         requires message { IsRequest message.now }
         requires door { DoorFits DEFERS door }
         ensures owed { owed self.now seq message.now result }
-        ensures later { MayComeLater door seq message.now result };
+        ensures later { MayComeLater door seq message.now result }
+        ensures line { notifier.new.line ≡ notifier.old.line };
 
     /// DESTROY is owed an empty reply, which the run gives itself.
     ghost owed_to_destroy: { (work : Self) (seq : ℕ) (m : List ℕ) → incoming m ≡ Destroy

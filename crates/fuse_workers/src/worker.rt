@@ -2,6 +2,7 @@
 ghost use Rattle.std.specs.Prelude.{◌≡◌, [], false};
 ghost use Rattle.fuse_line.specs.Hand.{hand};
 ghost use Rattle.fuse_line.specs.declared.hand.Kind.TheVariants.{Inner};
+ghost use Rattle.fuse_notify.specs.Queueing.{fresh_door};
 ghost use Rattle.fuse_workers.specs.Threads.{IsServed, at_once};
 
 use crate::Work;
@@ -26,6 +27,7 @@ pub(crate) fn answer_jobs<R: Wait + AllocGlobal, W: Work>(
     requires prompt { W.DEFERS ≡ false }
     requires lines { (job_pass.line ≡ jobs.now) × (frame_pass.line ≡ frames.now) }
     requires hands { (job_pass.hand ≡ hand Inner 0 [] []) × (frame_pass.hand ≡ hand Inner 0 [] []) }
+    requires notifier { notifier ≡ fresh_door frames.now }
     ensures lines { (result.0.line ≡ jobs.now) × (result.1.line ≡ frames.now) }
     ensures served { IsServed (at_once (W.owed work.now)) result.0.hand result.1.hand }
 {

@@ -10,8 +10,9 @@ ghost use Rattle.fuse_workers.specs.Conducting.{Conducts, answered_last};
 ghost use Rattle.fuse_workers.specs.EventLoop.{Run};
 ghost use Rattle.fuse_workers.specs.Hearing.{Hears};
 ghost use Rattle.fuse_workers.specs.Incoming.{IsBroken};
-ghost use Rattle.fuse_workers.specs.Lines.{IsAlone, IsDrained, IsUnused, notices_in, unasked_of};
+ghost use Rattle.fuse_workers.specs.Lines.{IsAlone, IsDrained, IsOn, IsUnused, notices_in, unasked_of};
 ghost use Rattle.fuse_workers.specs.OneEach.{InOrder, UpToOrder};
+ghost use Rattle.fuse_workers.specs.Promises.{lines_of};
 ghost use Rattle.fuse_workers.specs.Progress.{IntakeState, PassesOnAll, Quiet, nothing_yet, progress};
 ghost use Rattle.fuse_workers.specs.Threads.{IsCaller, at_once};
 
@@ -64,7 +65,7 @@ fn answer_last<R: Wait + AllocGlobal, W: Work>(
     requires first { caller.old.frames.hand.kind ≡ First }
     ensures line { caller.new.frames.line ≡ frames.now }
     ensures others { caller.new.frames.hand.others ≡ caller.old.frames.hand.others }
-    ensures jobs { caller.new.jobs ≡ caller.old.jobs }
+    ensures same { (caller.new.jobs ≡ caller.old.jobs) × (caller.new.notifier ≡ caller.old.notifier) }
     ensures caller { (ms : List (List ℕ)) (before : IntakeState) (after : IntakeState) →
         (hears : Hears stopped ms before after) →
         IsCaller (at_once (W.owed work.now)) ms caller.old.jobs.hand caller.old.frames.hand →
@@ -90,11 +91,11 @@ fn answer_all<'s, E, W: Work, S: Source, R: Threads + Wait + AllocGlobal + Sync>
     mut workers: Vec<Worker<W>>,
 ) -> Stopped
     requires prompt { W.DEFERS ≡ false }
-    requires lines { (caller.old.jobs.line ≡ jobs.now) × (caller.old.frames.line ≡ frames.now) }
+    requires lines { IsOn jobs.now frames.now (lines_of caller.old) }
     requires caller { IsCaller (at_once (W.owed work.now)) [] caller.old.jobs.hand caller.old.frames.hand }
     requires others { (caller.old.jobs.hand.others ≡ 0) × (caller.old.frames.hand.others ≡ 1) }
     requires workers { (workers.items ≡ []) × (length flags.now ≤ vec_capacity workers) }
-    ensures lines { (caller.new.jobs.line ≡ jobs.now) × (caller.new.frames.line ≡ frames.now) }
+    ensures lines { IsOn jobs.now frames.now (lines_of caller.new) }
     ensures others { (caller.new.jobs.hand.others ≡ 0) × (caller.new.frames.hand.others ≡ 1) }
     ensures settled { IsSettled (λ _. true) caller.new.jobs.hand }
     ensures answered { (ms : List (List ℕ)) × (hears : Hears result ms intake.old intake.new)
@@ -133,12 +134,12 @@ fn conduct<
     workers: Vec<Worker<W>>,
 ) -> (Option<Stopped>, LentEnds<'a, S, K>)
     requires prompt { W.DEFERS ≡ false }
-    requires lines { (lent.caller.jobs.line ≡ jobs.now) × (lent.caller.frames.line ≡ frames.now) }
+    requires lines { IsOn jobs.now frames.now (lines_of lent.caller) }
     requires hands { (lent.caller.jobs.hand ≡ hand First 0 [] []) × (lent.caller.frames.hand ≡ hand First 0 [] []) }
     requires workers { (workers.items ≡ []) × (length flags.now ≤ vec_capacity workers) }
     ensures same { (result.1.intake.ghost_name ≡ lent.entry.intake.ghost_name)
         × (result.1.outlet.ghost_name ≡ lent.entry.outlet.ghost_name) }
-    ensures lines { (result.1.caller.jobs.line ≡ jobs.now) × (result.1.caller.frames.line ≡ frames.now) }
+    ensures lines { IsOn jobs.now frames.now (lines_of result.1.caller) }
     ensures conducts { Conducts (at_once (W.owed work.now)) result.0 lent.entry.intake.now result.1.intake.now
         lent.entry.outlet.now result.1.outlet.now result.1.caller.jobs.hand result.1.caller.frames.hand }
 {
@@ -197,12 +198,12 @@ fn run_in_scope<'a, W: Work, S: Source, K: Sink + Send, R: Threads + Wait + Allo
     workers: Vec<Worker<W>>,
 ) -> (Option<Stopped>, LentEnds<'a, S, K>)
     requires prompt { W.DEFERS ≡ false }
-    requires lines { (lent.caller.jobs.line ≡ jobs.now) × (lent.caller.frames.line ≡ frames.now) }
+    requires lines { IsOn jobs.now frames.now (lines_of lent.caller) }
     requires hands { (lent.caller.jobs.hand ≡ hand First 0 [] []) × (lent.caller.frames.hand ≡ hand First 0 [] []) }
     requires workers { (workers.items ≡ []) × (length flags.now ≤ vec_capacity workers) }
     ensures same { (result.1.intake.ghost_name ≡ lent.entry.intake.ghost_name)
         × (result.1.outlet.ghost_name ≡ lent.entry.outlet.ghost_name) }
-    ensures lines { (result.1.caller.jobs.line ≡ jobs.now) × (result.1.caller.frames.line ≡ frames.now) }
+    ensures lines { IsOn jobs.now frames.now (lines_of result.1.caller) }
     ensures conducts { Conducts (at_once (W.owed work.now)) result.0 lent.entry.intake.now result.1.intake.now
         lent.entry.outlet.now result.1.outlet.now result.1.caller.jobs.hand result.1.caller.frames.hand }
 {
@@ -213,14 +214,13 @@ fn run_in_scope<'a, W: Work, S: Source, K: Sink + Send, R: Threads + Wait + Allo
         rt,
         |scope| -> (Option<Stopped>, LentEnds<S, K>)
             requires prompt { W.DEFERS ≡ false }
-            requires lines { (lent.caller.jobs.line ≡ jobs.now) × (lent.caller.frames.line ≡ frames.now) }
+            requires lines { IsOn jobs.now frames.now (lines_of lent.caller) }
             requires hands { (lent.caller.jobs.hand ≡ hand First 0 [] [])
                 × (lent.caller.frames.hand ≡ hand First 0 [] []) }
             requires workers { (workers.items ≡ []) × (length flags.now ≤ vec_capacity workers) }
             ensures same { (result.1.intake.ghost_name ≡ lent.entry.intake.ghost_name)
                 × (result.1.outlet.ghost_name ≡ lent.entry.outlet.ghost_name) }
-            ensures lines { (result.1.caller.jobs.line ≡ jobs.entry.now)
-                × (result.1.caller.frames.line ≡ frames.entry.now) }
+            ensures lines { IsOn jobs.entry.now frames.entry.now (lines_of result.1.caller) }
             ensures conducts { Conducts (at_once (W.owed work.entry.now)) result.0 lent.entry.intake.now
                 result.1.intake.now lent.entry.outlet.now result.1.outlet.now result.1.caller.jobs.hand
                 result.1.caller.frames.hand }
@@ -263,9 +263,9 @@ fn run_with<S: Source, K: Sink + Send, W: Work, R: Threads + Wait + AllocGlobal 
     ends: Ends<S, K>,
 ) -> (Option<Stopped>, Ends<S, K>)
     requires prompt { W.DEFERS ≡ false }
-    requires lines { (ends.caller.jobs.line ≡ jobs.now) × (ends.caller.frames.line ≡ frames.now) }
+    requires lines { IsOn jobs.now frames.now (lines_of ends.caller) }
     requires hands { (ends.caller.jobs.hand ≡ hand First 0 [] []) × (ends.caller.frames.hand ≡ hand First 0 [] []) }
-    ensures lines { (result.1.caller.jobs.line ≡ jobs.now) × (result.1.caller.frames.line ≡ frames.now) }
+    ensures lines { IsOn jobs.now frames.now (lines_of result.1.caller) }
     ensures conducts { Conducts (at_once (W.owed work.now)) result.0 ends.intake result.1.intake ends.outlet
         result.1.outlet result.1.caller.jobs.hand result.1.caller.frames.hand }
 {
@@ -311,7 +311,7 @@ fn ended<S: Source, K: Sink>(
     ensures end { result.end ≡ end }
     ensures ends { (S.told result.source ≡ ends.intake.source) × (K.told result.sink ≡ ends.outlet.sink) }
     ensures transcript { result.transcript ≡ record ends.outlet.counts { received = ends.intake.received } }
-    ensures buffers { result.buffers ≡ record { frames = ends.caller.frames; jobs = ends.caller.jobs } }
+    ensures buffers { result.buffers ≡ lines_of ends.caller }
     ensures drained { IsDrained result.buffers }
 {
     let Ends {
@@ -362,10 +362,12 @@ fn answer_alone<W: Work, S: Source, K: Sink, R: Wait + AllocGlobal>(
     requires prompt { W.DEFERS ≡ false }
     requires jobs { IsAlone (λ _. true) (arc_value jobs) ends.caller.jobs }
     requires frames { IsAlone is_prompt (arc_value frames) ends.caller.frames }
+    requires notifier { ends.caller.notifier.line ≡ arc_value frames }
     ensures run { Run (InOrder (W.owed work.now) 0) result.end
         (progress ends.intake.source ends.outlet.sink (record ends.outlet.counts { received = ends.intake.received })
         (notices_in ends.caller.frames.hand.taken))
         (progress (S.told result.source) (K.told result.sink) result.transcript (unasked_of result.buffers)) }
+    ensures lines { IsOn (arc_value jobs) (arc_value frames) result.buffers }
     ensures drained { IsDrained result.buffers }
 {
     let Ends {
@@ -419,12 +421,13 @@ fn run_on<W: Work, S: Source, K: Sink + Send, R: Threads + Wait + AllocGlobal + 
     ends: Ends<S, K>,
 ) -> RunEnd<S, K>
     requires prompt { W.DEFERS ≡ false }
-    requires lines { (ends.caller.jobs.line ≡ arc_value jobs) × (ends.caller.frames.line ≡ arc_value frames) }
+    requires lines { IsOn (arc_value jobs) (arc_value frames) (lines_of ends.caller) }
     requires hands { (ends.caller.jobs.hand ≡ hand First 0 [] []) × (ends.caller.frames.hand ≡ hand First 0 [] []) }
     requires nothing { (ends.intake.received ≡ 0) × (ends.outlet.counts ≡ nothing_yet) }
     ensures run { Run (UpToOrder (W.owed work.now) IsBroken) result.end
         (progress ends.intake.source ends.outlet.sink nothing_yet [])
         (progress (S.told result.source) (K.told result.sink) result.transcript (unasked_of result.buffers)) }
+    ensures lines { IsOn (arc_value jobs) (arc_value frames) result.buffers }
     ensures drained { IsDrained result.buffers }
 {
     let (stopped, ends) = run_with(rt, work, count, &jobs, &frames, ends);
@@ -462,6 +465,9 @@ pub fn run_workers<R: Threads + Wait + AllocGlobal + Sync, W: Work, S: Source, K
     ensures notices { Quiet (K.told sink) (K.told result.sink) → PassesOnAll
         (progress (S.told source) (K.told sink) nothing_yet [])
         (progress (S.told result.source) (K.told result.sink) result.transcript (unasked_of result.buffers)) }
+
+    // The lines are those of the buffers, and what makes notifiers has a door to the line of frames.
+    ensures lines { IsOn buffers.jobs.line buffers.frames.line result.buffers }
 
     // Each job and each reply that was pushed on a line was taken off it, and no worker and no sender is left.
     ensures drained { IsDrained result.buffers }

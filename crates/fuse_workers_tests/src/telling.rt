@@ -1,5 +1,5 @@
 // What queues notices while it answers the messages of the tests.
-ghost use Rattle.std.specs.Prelude.{false};
+ghost use Rattle.std.specs.Prelude.{◌≡◌, false};
 
 use crate::works::id_of;
 use fuse_notify::Notifier;
@@ -33,7 +33,9 @@ impl Telling {
         rt: &R,
         notifier: &mut Notifier,
         handle: PollHandle,
-    ) -> bool {
+    ) -> bool
+        ensures { notifier.new.line ≡ notifier.old.line }
+    {
         if let Some(own) = &mut *self.own.lock(rt) {
             return own.poll(rt, handle).is_ok();
         }

@@ -40,4 +40,5 @@ loop-preserved g c =
           let numbered = subst (λ (n : ℕ). IsCaller owed ms (with_taken j x) (with_put f (Prompt n out))) (sym c.seq-seq.ensures) rest in
           subst (λ (v : Hand Parcel). IsCaller owed ms c.pop.new.pass.hand v) (sym put)
           (subst (λ (v : Hand Job). IsCaller owed ms v (with_put f (Prompt c.seq-seq.result out))) (sym took) numbered),
+      c.answer-out.ensures.line ∙ so_far.7,
     )

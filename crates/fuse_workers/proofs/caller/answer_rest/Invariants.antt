@@ -11,3 +11,4 @@ invariant-loop g l =
     × (l.caller.jobs.hand.others ≡ l.fn.caller.jobs.hand.others) × (l.caller.frames.hand.others ≡ l.fn.caller.frames.hand.others)
     × ((ms : List (List ℕ)) → IsCaller (at_once (g.W.Work.owed l.work)) ms l.fn.caller.jobs.hand l.fn.caller.frames.hand
     → IsCaller (at_once (g.W.Work.owed l.work)) ms l.caller.jobs.hand l.caller.frames.hand)
+    × (l.caller.notifier.line ≡ l.frames)

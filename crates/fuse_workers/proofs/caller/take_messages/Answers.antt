@@ -9,7 +9,7 @@ use Rattle.fuse_workers.proofs.Hearing.{HearsLast-then, HearsOn-none, HearsOn-th
 use Rattle.fuse_workers.proofs.caller.take_messages.Goals as goal
 
 pub loop-init : goal.loop-init
-loop-init g c = (c.requires.lines.0, c.requires.lines.1, refl, refl, [], refl, HearsOn-none _, c.requires.caller)
+loop-init g c = (c.requires.lines.0, c.requires.lines.1, refl, refl, [], refl, HearsOn-none _, c.requires.caller, c.requires.lines.2)
 
 pub returns-in-Some-take_one-clause-heard : goal.returns-in-Some-take_one-clause-heard
 returns-in-Some-take_one-clause-heard g c =
@@ -37,4 +37,5 @@ loop-preserved g c =
       omega (arith, length-append ms (next.0 ∷ []), so_far.5, c.saturating_add-seq.ensures),
       HearsOn-then ms (next.0 ∷ []) _ _ _ so_far.6 next.1,
       next.2,
+      c.take_one.ensures.lines.2,
     )

@@ -11,3 +11,4 @@ invariant-loop g l =
     (so_far : RunOn (g.W.Work.owed l.work) 0 (beside l.fn.channel.progress (notices_in l.fn.frames.hand.taken))
     (beside l.channel.progress (notices_in l.frames.hand.taken)))
     × (number_of (length so_far.turns) ≡ l.seq)
+    × (l.frames.line ≡ l.fn.frames.line) × (l.notifier.line ≡ l.fn.notifier.line)

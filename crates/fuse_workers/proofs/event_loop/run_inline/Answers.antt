@@ -27,7 +27,7 @@ returns-clause-run g c =
     ap (λ (p : Progress). beside p last) closed.ensures.channel
     ∙ ap (λ (l : LinesState). ended (unasked_of l)) (sym closed.ensures.lines) in
     subst (λ (q : Progress). run (progress (g.S.Source.told c.args.source) (g.K.Sink.told c.args.sink) nothing_yet []) q) finish
-    (subst (λ (p : Progress). run p (beside c.answer_in_turn-end.new.channel.progress last)) start c.answer_in_turn-end.ensures)
+    (subst (λ (p : Progress). run p (beside c.answer_in_turn-end.new.channel.progress last)) start c.answer_in_turn-end.ensures.run)
 
 pub returns-clause-notices : goal.returns-clause-notices
 returns-clause-notices g c quiet = PassesOnAll-quiet (returns-clause-run g c).moved quiet

@@ -10,5 +10,6 @@ loop-worker-preserved g c = (
   search rules,
   search rules,
   (λ k d below. let h = c.loop-worker.invariant.6 (k + 1) d in grind rules),
-  λ ms h. c.join_one.ensures.caller ms (c.loop-worker.invariant.7 ms h),
+  (λ ms h. c.join_one.ensures.caller ms (c.loop-worker.invariant.7 ms h)),
+  search rules,
 )

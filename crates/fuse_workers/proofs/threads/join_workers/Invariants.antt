@@ -15,3 +15,4 @@ invariant-loop-worker g l =
     → PromisesFor l.work l.jobs l.frames (get_or (into_iter_items l.worker-iterator) k d).promise)
     × ((ms : List (List ℕ)) → IsCaller (at_once (g.W.Work.owed l.work)) ms l.fn.caller.jobs.hand l.fn.caller.frames.hand
     → IsCaller (at_once (g.W.Work.owed l.work)) ms l.caller.jobs.hand l.caller.frames.hand)
+    × (l.caller.notifier.line ≡ l.frames)

@@ -14,3 +14,4 @@ invariant-loop-flag g l =
     × All (λ h. PromisesFor l.work l.jobs l.frames h.promise) l.workers.items
     × (l.caller.jobs.hand.others + vec_len l.fn.workers ≡ l.fn.caller.jobs.hand.others + vec_len l.workers)
     × (l.caller.frames.hand.others + vec_len l.fn.workers ≡ l.fn.caller.frames.hand.others + vec_len l.workers)
+    × (l.caller.notifier.line ≡ l.frames)

@@ -6,8 +6,8 @@ use Rattle.fuse_workers.specs.Progress.{NoticesAlone, beside}
 use Rattle.fuse_workers.proofs.Moving.{NoticesAlone-none}
 use Rattle.fuse_workers.proofs.channel.Channel.pass_on_notices.Goals as goal
 
-pub returns-else-not-is_empty : goal.returns-else-not-is_empty
-returns-else-not-is_empty g c =
+pub returns-else-not-is_empty-clause-notices : goal.returns-else-not-is_empty-clause-notices
+returns-else-not-is_empty-clause-notices g c =
     let p = c.args.self.now.progress in
     subst (λ (unasked : List (List ℕ)). NoticesAlone (beside p (notices_in c.args.frames.now.hand.taken)) (beside p unasked))
     (sym (ap (λ (s : Seen Parcel). notices_in s.hand.taken) c.is_empty.ensures)) (NoticesAlone-none _)

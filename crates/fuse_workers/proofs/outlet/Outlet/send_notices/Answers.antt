@@ -7,7 +7,7 @@ use Rattle.fuse_workers.proofs.Moving.{NoticesAlone-none, NoticesAlone-next}
 use Rattle.fuse_workers.proofs.outlet.Outlet.send_notices.Goals as goal
 
 pub loop-init : goal.loop-init
-loop-init g c = (λ source counts. NoticesAlone-none _, refl)
+loop-init g c = (λ source counts. NoticesAlone-none _, refl, refl)
 
 pub loop-preserved : goal.loop-preserved
 loop-preserved g c =
@@ -15,4 +15,5 @@ loop-preserved g c =
       λ source counts. NoticesAlone-next sends.sending c.in-Some-next.notice _ _ _ (c.loop.invariant.0 source counts) sends.in_range sends.aside sends.sent refl
           (ap (λ (s : Seen Parcel). notices_in s.hand.taken) c.in-Some-next.ensures ∙ notices-one c.loop.frames.hand.taken c.in-Some-next.notice) refl,
       sends.counts ∙ c.loop.invariant.1,
+      ap (λ (s : Seen Parcel). s.line) c.in-Some-next.ensures ∙ c.loop.invariant.2,
     )

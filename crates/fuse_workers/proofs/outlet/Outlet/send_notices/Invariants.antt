@@ -10,4 +10,4 @@ abbrev pub invariant-loop : goal.invariant-loop
 invariant-loop g l =
     ((source : SourceState) (counts : Transcript) → NoticesAlone (progress source l.fn.self.sink counts (notices_in l.fn.frames.hand.taken))
     (progress source l.self.sink counts (notices_in l.frames.hand.taken)))
-    × (l.self.counts ≡ l.fn.self.counts)
+    × (l.self.counts ≡ l.fn.self.counts) × (l.frames.line ≡ l.fn.frames.line)
