@@ -16,3 +16,4 @@ mod Relaying
 mod Hearing
 mod Conducting
 mod Assembling
+pub mod Matching

@@ -14,3 +14,4 @@ pub mod Relays
 pub mod Hearing
 pub mod Promises
 pub mod Conducting
+pub mod Matched
