@@ -17,3 +17,4 @@ mod Hearing
 mod Conducting
 mod Assembling
 pub mod Matching
+mod Bookkeeping

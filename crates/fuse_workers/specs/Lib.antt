@@ -15,3 +15,4 @@ pub mod Hearing
 pub mod Promises
 pub mod Conducting
 pub mod Matched
+pub mod Book

@@ -4,6 +4,7 @@
 //! note each, on one thread in order.
 #![tactic(auto)]
 
+mod book;
 mod buffers;
 mod caller;
 mod channel;
@@ -25,10 +26,12 @@ mod stepping;
 mod taken;
 mod threads;
 mod transcript;
+mod unmatched;
 mod work;
 mod worker;
 mod workers;
 
+pub use book::Book;
 pub use buffers::{Buffers, Lines};
 pub use channel::Channel;
 pub use end::{End, RunEnd};
