@@ -7,3 +7,4 @@ pub mod Splitting
 pub mod NoticeLaws
 pub mod AreReplies
 pub mod Tails
+pub mod Marking

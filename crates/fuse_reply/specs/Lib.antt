@@ -8,3 +8,6 @@ pub mod Reply
 pub mod Deliver
 pub mod Notice
 pub mod Parcel
+pub mod SetOnce
+pub mod SetOnceLaws
+pub mod EndMark

@@ -12,6 +12,7 @@ ghost use Rattle.fuse_reply.specs.Frame.{answer_status, reply, reply_frames, IsR
 ghost use Rattle.fuse_reply.specs.Listing.{DirEntry, PlusEntry, EachFits};
 ghost use Rattle.fuse_reply.specs.Listing.{dirent, direntplus, listing, plus_listing};
 ghost use Rattle.fuse_reply.specs.Notice.{Notice, IsNotice, notice, notify_code};
+ghost use Rattle.fuse_reply.specs.SetOnceLaws.{OneNumber, SetNumber, TwoCases};
 
 use crate::{Out, OutEnd};
 
@@ -89,4 +90,19 @@ pub fn plus_listings_split_in_one_way()
 /// What became of a message is equal where it is the same.
 pub fn equal_where_they_are_the_same()
     ensures ends { SaysSame ⟦<OutEnd as PartialEq>⟧.eq }
+{}
+
+/// Two notes of one mark know one number.
+pub fn notes_of_a_mark_know_one_number()
+    ensures { OneNumber }
+{}
+
+/// A note knows the number that the Seal of its mark has set.
+pub fn notes_know_what_the_seal_set()
+    ensures { SetNumber }
+{}
+
+/// A mark is not set, and then nobody has read a number; or it is set to one, and then nobody has read another.
+pub fn a_mark_is_set_or_not()
+    ensures { TwoCases }
 {}

@@ -4,6 +4,8 @@
 
 mod attributes;
 mod door;
+mod end_mark;
+mod end_note;
 mod entries;
 pub mod laws;
 mod notice_frame;
@@ -31,8 +33,12 @@ mod reply_poll;
 mod reply_statfs;
 mod reply_write;
 mod reply_xattr;
+mod seal;
+mod sight;
 
 pub use door::{Door, NoDoor};
+pub use end_mark::EndMark;
+pub use end_note::EndNote;
 pub use notice_frame::NoticeFrame;
 pub use out::{Out, OutEnd};
 pub use packed::{MAX_PAYLOAD, Packed};
@@ -57,3 +63,4 @@ pub use reply_poll::{Events, ReplyPoll};
 pub use reply_statfs::{Fills, ReplyStatfs};
 pub use reply_write::{ByteCounts, ReplyWrite};
 pub use reply_xattr::{ReplyXattr, Xattrs};
+pub use seal::Seal;

@@ -5,6 +5,8 @@
 #[cfg(test)]
 mod directory_tests;
 #[cfg(test)]
+mod end_mark_tests;
+#[cfg(test)]
 mod fixed_tests;
 #[cfg(test)]
 mod stream_tests;
