@@ -12,12 +12,13 @@ ghost use Rattle.fuse_workers.specs.Threads.{IsCaller, at_once, job_of};
 
 use crate::intake::Intake;
 use crate::request_job::RequestJob;
+use crate::worker::answer_job;
 use crate::{End, Incoming, Taken, Work};
 use fuse_line::{Line, Pass};
 use fuse_notify::Notifier;
 use fuse_reply::{NoDoor, Parcel};
 use fuse_request::RequestError;
-use fuse_wire::{RequestId, Source};
+use fuse_wire::{NoMemory, RequestId, Source};
 use std::alloc::Global;
 use std::sync::Wait;
 
@@ -77,10 +78,10 @@ fn push_job<R: Wait>(
     if !has_workers {
         return false;
     }
-    let Ok(copy) = message.to_vec(alloc) else {
-        return false;
-    };
-    jobs.push(rt, pass, RequestJob::new(seq, copy)).is_ok()
+    match RequestJob::copied(alloc, seq, message) {
+        Ok(job) => jobs.push(rt, pass, job).is_ok(),
+        Err(NoMemory) => false,
+    }
 }
 
 /// Pushes a request as a job. Where no worker is there, or there is no memory or no place for it, answers it here.
@@ -208,15 +209,8 @@ pub(crate) fn answer_rest<R: Wait + AllocGlobal, W: Work>(
         let Some(job) = jobs.pop(rt, &mut caller.jobs) else {
             return;
         };
-        let seq = job.seq();
-        let out = work.answer(
-            rt,
-            &mut caller.notifier,
-            Err(NoDoor::Shut),
-            seq,
-            job.message(),
-        );
-        frames.push_waiting(rt, &mut caller.frames, Parcel::Prompt(seq, out));
+        let parcel = answer_job(rt, work, &mut caller.notifier, job);
+        frames.push_waiting(rt, &mut caller.frames, parcel);
     }
     unreachable!()
 }

@@ -1,16 +1,23 @@
 // A job on its way to a worker.
-ghost use Rattle.std.specs.Prelude.{◌≡◌, true};
+ghost use Rattle.std.specs.Prelude.{◌≡◌, ◌≤◌, IfOk, IsOk, length, true};
 ghost use Rattle.fuse_workers.specs.Answering.{IsRequest};
 ghost use Rattle.fuse_workers.specs.Threads.{job_of};
+ghost use Rattle.fuse_workers.specs.declared.request_job.TheConstants.{INLINE_MESSAGE};
 
 use fuse_line::Class;
+use fuse_wire::NoMemory;
+use smallvec::SmallVec;
+use std::alloc::Global;
 use std::marker::Model;
+
+/// Messages of up to so many bytes are copied into their place on the line itself.
+const INLINE_MESSAGE: usize = 128;
 
 /// A job on its way to a worker. A contract sees it as a job, whose message is a request, always.
 #[derive(Drop)]
 pub(crate) struct RequestJob {
     seq: u64,
-    message: Vec<u8>,
+    message: SmallVec<u8, INLINE_MESSAGE>,
 }
 
 impl Model for RequestJob {
@@ -35,12 +42,14 @@ impl Class for RequestJob {
 }
 
 impl RequestJob {
-    /// A job of this request.
-    pub(crate) fn new(seq: u64, message: Vec<u8>) -> RequestJob
-        requires { IsRequest message.items }
-        ensures { result ≡ job_of seq message.items }
+    /// A job of a copy of this request. A short one takes no memory.
+    pub(crate) fn copied(alloc: Global, seq: u64, message: &[u8]) -> Result<RequestJob, NoMemory>
+        requires { IsRequest message.now }
+        ensures ok { IfOk result (λ job. job ≡ job_of seq message.now) }
+        ensures inline { length message.now ≤ INLINE_MESSAGE → IsOk result }
     {
-        RequestJob { seq, message }
+        let message = SmallVec::from_slice(alloc, message)?;
+        Ok(RequestJob { seq, message })
     }
 
     /// The message's number.

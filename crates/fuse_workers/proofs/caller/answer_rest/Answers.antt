@@ -1,12 +1,10 @@
-use Rattle.std.proofs.Common.{◌∙◌, ℕ, List, ap, subst, sym}
+use Rattle.std.proofs.Common.{◌∙◌, ap, subst, sym}
 use Rattle.fuse_line.specs.Hand.{with_put, with_taken}
 use Rattle.fuse_line.specs.declared.hand.Hand.{Hand}
 use Rattle.fuse_reply.specs.declared.parcel.Parcel.{Parcel}
-use Rattle.fuse_reply.specs.declared.parcel.Parcel.TheVariants.{Prompt}
 use Rattle.fuse_workers.specs.OneEach.{Owing}
 use Rattle.fuse_workers.specs.Threads.{IsCaller, at_once}
 use Rattle.fuse_workers.specs.declared.state.Job.{Job}
-use Rattle.fuse_workers.proofs.LoopSteps.{not-broken, prompt-shut}
 use Rattle.fuse_workers.proofs.Working.{Caller-rest}
 use Rattle.fuse_workers.proofs.caller.answer_rest.Goals as goal
 
@@ -18,17 +16,9 @@ loop-preserved g c =
     let j = c.loop.caller.jobs.hand in
     let f = c.loop.caller.frames.hand in
     let x = c.in-Some-pop.job in
-    let out = c.answer-out.result in
+    let said = c.answer_job-parcel.ensures.answered in
     let took = c.in-Some-pop.ensures.hand in
-    let put = c.push_waiting.ensures.hand in
-    let said = c.message.ensures.message in
-    let there : owed c.seq-seq.result c.message.result.now out = (
-      c.answer-out.ensures.owed,
-      prompt-shut c.seq-seq.result c.message.result.now out c.answer-out.ensures.later,
-      not-broken c.message.result.now c.message.ensures.request,
-    ) in
-    let answers : owed x.seq x.message out =
-    subst (λ (m : List ℕ). owed x.seq m out) said (subst (λ (n : ℕ). owed n c.message.result.now out) c.seq-seq.ensures there) in (
+    let put = c.push_waiting.ensures.hand in (
       c.pop.ensures.line,
       c.push_waiting.ensures.line,
       ap (λ (v : Hand Job). v.kind) took ∙ so_far.2,
@@ -36,9 +26,9 @@ loop-preserved g c =
       ap (λ (v : Hand Job). v.others) took ∙ so_far.4,
       ap (λ (v : Hand Parcel). v.others) put ∙ so_far.5,
       λ ms caller.
-          let rest = Caller-rest owed ms j f x out (so_far.6 ms caller) answers in
-          let numbered = subst (λ (n : ℕ). IsCaller owed ms (with_taken j x) (with_put f (Prompt n out))) (sym c.seq-seq.ensures) rest in
+          let rest = Caller-rest owed ms j f x said.0 (so_far.6 ms caller) said.2 in
+          let pushed = subst (λ (p : Parcel). IsCaller owed ms (with_taken j x) (with_put f p)) (sym said.1) rest in
           subst (λ (v : Hand Parcel). IsCaller owed ms c.pop.new.pass.hand v) (sym put)
-          (subst (λ (v : Hand Job). IsCaller owed ms v (with_put f (Prompt c.seq-seq.result out))) (sym took) numbered),
-      c.answer-out.ensures.line ∙ so_far.7,
+          (subst (λ (v : Hand Job). IsCaller owed ms v (with_put f c.answer_job-parcel.result)) (sym took) pushed),
+      c.answer_job-parcel.ensures.line ∙ so_far.7,
     )
