@@ -1,13 +1,11 @@
 -- What comes of queueing a notice. A notifier is seen as its door to the line.
 use Rattle.std.specs.Prelude.{◌≡◌, ◌<◌, ℕ, List, [], length, Result, Ok, Err}
-use Rattle.crossbeam_queue.specs.Fifo.{Held}
 use Rattle.atomic_table.specs.Seated.{TableId}
-use Rattle.fuse_line.specs.Hand.{hand, with_put}
+use Rattle.fuse_line.specs.Hand.{hand}
 use Rattle.fuse_line.specs.declared.hand.Kind.TheVariants.{Door}
 use Rattle.fuse_line.specs.Seen.{Seen}
-use Rattle.fuse_line.specs.Tells.{Tells}
 use Rattle.fuse_reply.specs.Sizes.{inline_size}
-use Rattle.fuse_reply.specs.Parcel.{is_prompt}
+use Rattle.fuse_reply.specs.Queueing.{with_parcel, FoundFull}
 use Rattle.fuse_reply.specs.declared.parcel.Parcel.{Parcel}
 use Rattle.fuse_reply.specs.declared.parcel.Parcel.TheVariants.{Notice as Told}
 use Rattle.fuse_reply.specs.Notice.{Notice, FitsFrame, IsTooBig, notice, notice_payload}
@@ -15,14 +13,6 @@ use Rattle.fuse_notify.specs.Making.{Makes}
 use Rattle.fuse_notify.specs.declared.notice.NoticeError.{NoticeError}
 use Rattle.fuse_notify.specs.declared.notifier.NotifyError.{NotifyError}
 use Rattle.fuse_notify.specs.declared.notifier.NotifyError.TheVariants.{TooBig, Full, Memory}
-
--- the door after this parcel was pushed
-abbrev pub with_parcel : Seen Parcel → Parcel → Seen Parcel
-with_parcel door parcel = record { line = door.line; hand = with_put door.hand parcel }
-
--- a push by this door found each place of the line taken
-abbrev pub FoundFull : Seen Parcel → Type 0
-FoundFull door = Held door.line.slots (Tells is_prompt door.hand)
 
 -- the frame of a notice was pushed, or else nothing was, since the line was full
 abbrev pub Pushes : Result (Unit {0}) NotifyError → (frame : List ℕ) (before after : Seen Parcel) → Type 0

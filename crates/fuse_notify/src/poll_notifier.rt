@@ -3,7 +3,7 @@ ghost use Rattle.std.specs.Prelude.{◌≡◌, [], ◌∷◌, IfErr};
 ghost use Rattle.fuse_reply.specs.Notice.{notice};
 ghost use Rattle.fuse_reply.specs.Notice.Notice.{Poll};
 ghost use Rattle.fuse_reply.specs.declared.parcel.Parcel.TheVariants.{Notice as Told};
-ghost use Rattle.fuse_notify.specs.Queueing.{FoundFull};
+ghost use Rattle.fuse_reply.specs.Queueing.{FoundFull};
 
 use crate::{Notice, Notifier};
 use fuse_line::Full;

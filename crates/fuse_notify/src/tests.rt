@@ -151,7 +151,7 @@ fn drain<R: Wait>(
     for _ in 0..100 {
         match line.pop(rt, first) {
             Some(Parcel::Notice(frame)) => frame.send(&mut sink),
-            Some(Parcel::Prompt(_, _)) | None => break,
+            Some(Parcel::Prompt(_, _) | Parcel::Late(_)) | None => break,
         };
     }
     sink

@@ -9,7 +9,8 @@ use Rattle.std.proofs.lemmas.List.{append-nil}
 use Rattle.std.proofs.lemmas.Grind.{flat_map-append}
 use Rattle.std.proofs.Math.Seq.{drop-cons}
 use Rattle.std.proofs.Math.ListN.{drop_of_length-le}
-use Rattle.fuse_reply.specs.Listing.{DirEntry, Fits, Listing, dirent, listing}
+use Rattle.fuse_reply.specs.Adding.{Listing}
+use Rattle.fuse_reply.specs.Listing.{DirEntry, Fits, dirent, listing}
 use Rattle.fuse_reply.specs.Answer.{IsDirEntry}
 use Rattle.fuse_reply.specs.Sizes.{max_payload}
 use Rattle.fuse_read_only.specs.Tree.{Member, fitting, followed_by, last_offset, numbered}

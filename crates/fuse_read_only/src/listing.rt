@@ -2,7 +2,8 @@
 ghost use Rattle.std.specs.Prelude.{◌≡◌, ◌<◌, ◌≤◌, ◌+◌, Ok, false, [], length, IfErr, IfOk, IsOk};
 ghost use Rattle.std.specs.List.{AllByRecursion};
 ghost use Rattle.fuse_reply.specs.Answer.{IsDirEntry};
-ghost use Rattle.fuse_reply.specs.Listing.{Adds, dirent, listing};
+ghost use Rattle.fuse_reply.specs.Adding.{Adds};
+ghost use Rattle.fuse_reply.specs.Listing.{dirent, listing};
 ghost use Rattle.fuse_reply.specs.Sizes.{inline_size};
 ghost use Rattle.fuse_read_only.specs.Tree.{followed_by, member_of};
 ghost use Rattle.fuse_read_only.specs.ReadOnly.{listing_of};

@@ -8,3 +8,4 @@ pub mod NoticeLaws
 pub mod AreReplies
 pub mod Tails
 pub mod Marking
+pub mod LateReplies

@@ -11,3 +11,9 @@ pub mod Parcel
 pub mod SetOnce
 pub mod SetOnceLaws
 pub mod EndMark
+pub mod Late
+pub mod Queueing
+pub mod Door
+pub mod Adding
+pub mod Deferral
+pub mod Refusing

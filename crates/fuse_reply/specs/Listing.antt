@@ -1,6 +1,5 @@
 -- Entries of a directory, as READDIR and READDIRPLUS list them (`struct fuse_dirent` and `struct fuse_direntplus` of `fuse.h`).
-use Rattle.std.specs.Prelude.{◌≡◌, ℕ, ◌+◌, ◌-◌, ◌/◌, ◌%◌, ◌≤◌, ◌^◌, ◌++◌, List, [], ◌∷◌, length, replicate, flat_map, min}
-use Rattle.std.specs.Prelude.{Bool, true, false, Result, Ok, Err}
+use Rattle.std.specs.Prelude.{ℕ, ◌+◌, ◌-◌, ◌/◌, ◌%◌, ◌≤◌, ◌^◌, ◌++◌, List, [], ◌∷◌, length, replicate, flat_map, min}
 use Rattle.std.specs.Int.{w32, w64, to_le_bytes}
 use Rattle.fuse_wire.specs.declared.file_attr.FileAttr.{FileAttr}
 use Rattle.fuse_wire.specs.declared.file_attr.FileType.{FileType}
@@ -57,20 +56,6 @@ plus_listing = flat_map direntplus
 -- so many bytes fit behind those that are held: both are no more than the size, and than a frame can carry
 abbrev pub Fits : (size held more : ℕ) → Type 0
 Fits size held more = held + more ≤ min size max_payload
-
--- a listing that is being made: the request that it answers, how many bytes it may have, and those that it has
-pub record Listing : Type 0 where
-  pub id : ℕ
-  pub size : ℕ
-  pub held : List ℕ
-
--- what became of an entry of these bytes: it is taken exactly where it fits; where it does not (true), and for want of memory,
--- which only an entry that fits asks for, nothing changes
-abbrev pub Adds : {E : Type 0} → Result Bool E → (entry : List ℕ) → Listing → Listing → Type 0
-Adds (Ok false) entry before after =
-    Fits before.size (length before.held) (length entry) × (after ≡ record before { held = before.held ++ entry })
-Adds (Ok true) entry before after = (Fits before.size (length before.held) (length entry) → ⊥) × (after ≡ before)
-Adds (Err e) entry before after = Fits before.size (length before.held) (length entry) × (after ≡ before)
 
 -- each entry fits behind those before it, and behind so many bytes that were held first
 abbrev pub EachFits : {E : Type 0} → (E → List ℕ) → (size held : ℕ) → List E → Type 0

@@ -1,10 +1,38 @@
-// Whether a reply may come later.
+// What a reply goes through that comes later.
+ghost use Rattle.std.specs.Prelude.{◌≡◌, None, Some, IfNone, IfSome};
+ghost use Rattle.std.specs.Arc.{arc_value};
+ghost use Rattle.fuse_line.specs.declared.hand.Kind.TheVariants.{Door as IsDoor};
+ghost use Rattle.fuse_reply.specs.Door.{LooksAt, PushesLate};
+ghost use Rattle.fuse_reply.specs.Late.{IsReplyTo};
 
-/// What a reply goes through that comes after its method has returned. None is made so far.
-#[derive(Debug, Drop)]
+use crate::{EndMark, EndNote, LateFrame, Packed, Parcel};
+use fuse_line::{Line, Pass};
+use fuse_wire::RequestId;
+use std::alloc::Global;
+use std::marker::Model;
+use std::sync::{Arc, Wait};
+
+/// What a reply goes through that comes after its method has returned. Contracts see the number of the message that the
+/// reply is for, a door to the line, and a share of the mark of the run's end.
+#[derive(Drop)]
 pub struct Door {
-    /// The number of the message that the reply is for.
     seq: u64,
+    line: Arc<Line<Parcel>, Global>,
+    pass: Pass<Parcel>,
+    mark: EndMark,
+}
+
+impl Model for Door {
+    ghost use Rattle.std.specs.Prelude.{◌≡◌};
+    ghost use Rattle.std.specs.Arc.{arc_value};
+    ghost use Rattle.fuse_line.specs.declared.hand.Kind.TheVariants.{Door as IsDoor};
+    ghost use Rattle.fuse_reply.specs.Door.{DoorSeen};
+
+    ghost Value = { DoorSeen };
+
+    ghost view = { λ d. record { seq = d.seq; pass = d.pass; mark = d.mark } };
+
+    ghost invariant = { λ d. (d.pass.line ≡ arc_value d.line) × (d.pass.hand.kind ≡ IsDoor) };
 }
 
 /// Why a reply can't come later.
@@ -14,4 +42,60 @@ pub enum NoDoor {
     Shut,
     /// No memory was to be had for what it would go through.
     Starved,
+}
+
+impl Door {
+    /// What the reply to the message of this number goes through: a share of the line, a door to it, and a share of
+    /// the mark of the run's end.
+    pub fn new(seq: u64, line: Arc<Line<Parcel>, Global>, pass: Pass<Parcel>, mark: EndMark) -> Door
+        requires line { pass.line ≡ arc_value line }
+        requires door { pass.hand.kind ≡ IsDoor }
+        ensures { result ≡ record { seq = seq; pass = pass; mark = mark } }
+    {
+        Door {
+            seq,
+            line,
+            pass,
+            mark,
+        }
+    }
+
+    /// The number of the message.
+    #[inline(always)]
+    pub(crate) fn seq(&self) -> u64
+        ensures { result ≡ self.now.seq }
+    {
+        self.seq
+    }
+
+    /// A note, where the run has ended.
+    pub(crate) fn note(&mut self) -> Option<EndNote>
+        ensures looks { LooksAt self.old self.new }
+        ensures ended { IfSome result (λ note. (note.name ≡ self.old.mark.name)
+            × (self.new.mark.known ≡ Some note.taken)) }
+        ensures goes_on { IfNone result (self.new.mark.known ≡ None) }
+    {
+        self.mark.note()
+    }
+
+    /// Queues the frame, which is the reply to the request of this id, unless the line is full.
+    pub(crate) fn push<R: Wait>(
+        &mut self,
+        rt: &R,
+        id: RequestId,
+        packed: Packed,
+    ) -> Result<(), Packed>
+        requires { IsReplyTo id.0 packed }
+        ensures { PushesLate result id.0 packed self.old self.new }
+    {
+        let parcel = Parcel::Late(LateFrame::new(self.seq, id, packed));
+        match self.line.push(rt, &mut self.pass, parcel) {
+            Ok(()) => Ok(()),
+            Err(full) => match full.item {
+                Parcel::Late(frame) => Err(frame.into_packed()),
+                // What comes back is what was pushed.
+                Parcel::Prompt(_, _) | Parcel::Notice(_) => unreachable!(),
+            },
+        }
+    }
 }

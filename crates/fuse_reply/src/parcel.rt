@@ -2,7 +2,7 @@
 ghost use Rattle.std.specs.Prelude.{◌≡◌};
 ghost use Rattle.fuse_reply.specs.Parcel.{is_prompt};
 
-use crate::{NoticeFrame, Out};
+use crate::{LateFrame, NoticeFrame, Out};
 use fuse_line::Class;
 use std::alloc::AllocError;
 
@@ -13,6 +13,8 @@ pub enum Parcel {
     Prompt(u64, Out),
     /// A notice.
     Notice(NoticeFrame),
+    /// The frame of a reply that comes later.
+    Late(LateFrame),
 }
 
 /// A copy is the same.
@@ -23,11 +25,12 @@ impl Clone for Parcel {
         match self {
             Parcel::Prompt(seq, out) => Ok(Parcel::Prompt(*seq, out.clone()?)),
             Parcel::Notice(frame) => Ok(Parcel::Notice(frame.clone()?)),
+            Parcel::Late(frame) => Ok(Parcel::Late(frame.clone()?)),
         }
     }
 }
 
-/// What goes out for a message is an inner item: whoever notifies can't push it.
+/// What goes out for a message is an inner item: whoever notifies, or answers later, can't push it.
 impl Class for Parcel {
     ghost is_inner = { is_prompt };
 

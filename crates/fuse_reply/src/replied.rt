@@ -44,6 +44,16 @@ impl Replied {
         Replied::by(Packed::bare(alloc, id, -error.code()))
     }
 
+    /// The reply to the message of this number, of the request of this id, comes later.
+    #[inline(always)]
+    pub(crate) fn deferred(seq: u64, id: RequestId) -> Replied
+        ensures { result ≡ Out.Deferred seq id }
+    {
+        Replied {
+            out: Out::Deferred(seq, id),
+        }
+    }
+
     /// What goes out.
     #[inline(always)]
     pub fn into_out(self) -> Out

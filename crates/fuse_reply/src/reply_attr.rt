@@ -20,7 +20,7 @@ impl Reply<Attrs> {
     #[tactic(auto, using(crate::proofs::AreReplies::attr_is_reply))]
     /// The inode has these attributes, which hold for so long.
     pub fn attr(self, ttl: &Duration, attr: &FileAttr) -> Replied
-        ensures reply { result ≡ Out.Frame (reply self (Attr ttl.now attr.now)) }
+        ensures reply { result ≡ Out.Frame (reply self.id (Attr ttl.now attr.now)) }
         ensures answer { IsAnswer (Attr ttl.now attr.now) }
     {
         let (alloc, id) = self.into_parts();

@@ -18,7 +18,7 @@ impl Reply<Blocks> {
     #[tactic(auto, using(crate::proofs::AreReplies::bmap_is_reply))]
     /// It lies in this block of the device, any u64: `struct fuse_bmap_out`.
     pub fn bmap(self, block: u64) -> Replied
-        ensures reply { result ≡ Out.Frame (reply self (Bmap block)) }
+        ensures reply { result ≡ Out.Frame (reply self.id (Bmap block)) }
         ensures answer { IsAnswer (Bmap block) }
     {
         let (alloc, id) = self.into_parts();

@@ -32,7 +32,7 @@ impl Reply<NewFiles> {
         flags: FopenFlags,
     ) -> Replied
         requires { bit_and flags.0 FOPEN_PASSTHROUGH ≡ 0 }
-        ensures reply { result ≡ Out.Frame (reply self (Create ttl.now generation.0 attr.now fh.0 flags.0)) }
+        ensures reply { result ≡ Out.Frame (reply self.id (Create ttl.now generation.0 attr.now fh.0 flags.0)) }
         ensures answer { IsAnswer (Create ttl.now generation.0 attr.now fh.0 flags.0) }
     {
         let (alloc, id) = self.into_parts();

@@ -24,9 +24,9 @@ impl Reply<Bytes> {
     /// These are the bytes. Where they are more than 144 and no memory is to be had for them, it failed for that.
     pub fn data(self, bytes: &[u8]) -> Replied
         requires { length bytes.now ≤ max_payload }
-        ensures replies { RepliesWith self (Data bytes.now) result }
+        ensures replies { RepliesWith self.id (Data bytes.now) result }
         ensures answer { IsAnswer (Data bytes.now) }
-        ensures inline { length bytes.now ≤ inline_size → result ≡ Out.Frame (reply self (Data bytes.now)) }
+        ensures inline { length bytes.now ≤ inline_size → result ≡ Out.Frame (reply self.id (Data bytes.now)) }
     {
         let (alloc, id) = self.into_parts();
         if bytes.len() <= INLINE_SIZE {

@@ -3,7 +3,8 @@ ghost use Rattle.std.specs.Prelude.{◌≡◌, ◌<◌, ◌≤◌, ◌^◌, ◌+
 ghost use Rattle.std.specs.List.{AllByRecursion};
 ghost use Rattle.fuse_reply.specs.Sizes.{inline_size};
 ghost use Rattle.fuse_reply.specs.Frame.{reply};
-ghost use Rattle.fuse_reply.specs.Listing.{Adds, DirEntry, dirent, listing};
+ghost use Rattle.fuse_reply.specs.Adding.{Adds};
+ghost use Rattle.fuse_reply.specs.Listing.{DirEntry, dirent, listing};
 ghost use Rattle.fuse_reply.specs.Answer.{IsAnswer, IsDirEntry};
 ghost use Rattle.fuse_reply.specs.Answer.Answer.{Directory};
 ghost use Rattle.fuse_reply.specs.declared.out.Out.{Out};

@@ -3,7 +3,8 @@ ghost use Rattle.std.specs.Prelude.{◌≡◌, ◌<◌, ◌≤◌, ◌^◌, ◌+
 ghost use Rattle.std.specs.List.{AllByRecursion};
 ghost use Rattle.fuse_reply.specs.Sizes.{inline_size};
 ghost use Rattle.fuse_reply.specs.Frame.{reply};
-ghost use Rattle.fuse_reply.specs.Listing.{Adds, PlusEntry, direntplus, plus_listing};
+ghost use Rattle.fuse_reply.specs.Adding.{Adds};
+ghost use Rattle.fuse_reply.specs.Listing.{PlusEntry, direntplus, plus_listing};
 ghost use Rattle.fuse_reply.specs.Answer.{IsAnswer, IsPlusEntry};
 ghost use Rattle.fuse_reply.specs.Answer.Answer.{DirectoryPlus};
 ghost use Rattle.fuse_reply.specs.declared.out.Out.{Out};

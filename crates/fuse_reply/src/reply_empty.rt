@@ -17,7 +17,7 @@ impl Reply<Nothing> {
     #[tactic(auto, using(crate::proofs::AreReplies::empty_is_reply))]
     /// It is done.
     pub fn ok(self) -> Replied
-        ensures { result ≡ Out.Frame (reply self Empty) }
+        ensures { result ≡ Out.Frame (reply self.id Empty) }
     {
         let (alloc, id) = self.into_parts();
         Replied::by(Packed::bare(alloc, id, 0))

@@ -19,7 +19,7 @@ pub type ReplyEntry = Reply<Entries>;
 impl Reply<Entries> {
     /// The name leads to the inode of these attributes, and both hold for so long.
     pub fn entry(self, ttl: &Duration, attr: &FileAttr, generation: Generation) -> Replied
-        ensures reply { result ≡ Out.Frame (reply self (Entry ttl.now ttl.now generation.0 attr.now)) }
+        ensures reply { result ≡ Out.Frame (reply self.id (Entry ttl.now ttl.now generation.0 attr.now)) }
         ensures answer { IsAnswer (Entry ttl.now ttl.now generation.0 attr.now) }
     {
         self.entry_with_ttls(ttl, ttl, attr, generation)
@@ -34,7 +34,7 @@ impl Reply<Entries> {
         attr: &FileAttr,
         generation: Generation,
     ) -> Replied
-        ensures reply { result ≡ Out.Frame (reply self (Entry entry_ttl.now attr_ttl.now generation.0 attr.now)) }
+        ensures reply { result ≡ Out.Frame (reply self.id (Entry entry_ttl.now attr_ttl.now generation.0 attr.now)) }
         ensures answer { IsAnswer (Entry entry_ttl.now attr_ttl.now generation.0 attr.now) }
     {
         let (alloc, id) = self.into_parts();

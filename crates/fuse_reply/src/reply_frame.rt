@@ -46,6 +46,16 @@ impl ReplyFrame {
         ReplyFrame { packed }
     }
 
+    /// The frame as its bytes.
+    #[inline(always)]
+    pub(crate) fn into_packed(self) -> Packed
+        ensures frame { result ≡ self }
+        ensures reply { IsReply result }
+    {
+        let ReplyFrame { packed } = self;
+        packed
+    }
+
     /// Does nothing. Its contract says what the frame is.
     pub(crate) fn is_reply(&self)
         ensures { IsReply self.now }

@@ -24,10 +24,10 @@ impl Reply<IoctlResults> {
     /// is to be had for them, it failed for that.
     pub fn ioctl(self, code: i32, bytes: &[u8]) -> Replied
         requires { ioctl_out_size + length bytes.now ≤ max_payload }
-        ensures replies { RepliesWith self (Ioctl code bytes.now) result }
+        ensures replies { RepliesWith self.id (Ioctl code bytes.now) result }
         ensures answer { IsAnswer (Ioctl code bytes.now) }
         ensures inline { ioctl_out_size + length bytes.now ≤ inline_size
-            → result ≡ Out.Frame (reply self (Ioctl code bytes.now)) }
+            → result ≡ Out.Frame (reply self.id (Ioctl code bytes.now)) }
     {
         let (alloc, id) = self.into_parts();
         match Packed::of_parts(alloc, id, &ioctl_bytes(code), bytes) {

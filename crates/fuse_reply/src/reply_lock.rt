@@ -21,7 +21,7 @@ impl Reply<Locks> {
     /// `F_WRLCK`, or `F_UNLCK` where none stands in the way), held by the process `pid`. Each may be any number of its
     /// type.
     pub fn locked(self, start: u64, end: u64, typ: i32, pid: u32) -> Replied
-        ensures reply { result ≡ Out.Frame (reply self (Lock start end typ pid)) }
+        ensures reply { result ≡ Out.Frame (reply self.id (Lock start end typ pid)) }
         ensures answer { IsAnswer (Lock start end typ pid) }
     {
         let (alloc, id) = self.into_parts();

@@ -18,7 +18,7 @@ impl Reply<Offsets> {
     #[tactic(auto, using(crate::proofs::AreReplies::lseek_is_reply))]
     /// It is at this offset, in bytes, any i64: `struct fuse_lseek_out`.
     pub fn offset(self, offset: i64) -> Replied
-        ensures reply { result ≡ Out.Frame (reply self (Lseek offset)) }
+        ensures reply { result ≡ Out.Frame (reply self.id (Lseek offset)) }
         ensures answer { IsAnswer (Lseek offset) }
     {
         let (alloc, id) = self.into_parts();

@@ -24,7 +24,7 @@ impl Reply<OpenFiles> {
     /// flag `FOPEN_PASSTHROUGH` is for a file of the kernel's own, which no reply here can name.
     pub fn opened(self, fh: FileHandle, flags: FopenFlags) -> Replied
         requires { bit_and flags.0 FOPEN_PASSTHROUGH ≡ 0 }
-        ensures reply { result ≡ Out.Frame (reply self (Open fh.0 flags.0)) }
+        ensures reply { result ≡ Out.Frame (reply self.id (Open fh.0 flags.0)) }
         ensures answer { IsAnswer (Open fh.0 flags.0) }
     {
         let (alloc, id) = self.into_parts();

@@ -21,7 +21,7 @@ impl Reply<Events> {
     #[tactic(auto, using(crate::proofs::AreReplies::poll_is_reply))]
     /// It is ready for these, now. Bits without a name are sent as they are.
     pub fn poll(self, revents: PollEvents) -> Replied
-        ensures reply { result ≡ Out.Frame (reply self (Poll revents.0)) }
+        ensures reply { result ≡ Out.Frame (reply self.id (Poll revents.0)) }
         ensures answer { IsAnswer (Poll revents.0) }
     {
         let (alloc, id) = self.into_parts();

@@ -32,7 +32,7 @@ impl Reply<Fills> {
         frsize: u32,
     ) -> Replied
         ensures reply { result
-            ≡ Out.Frame (reply self (Statfs blocks bfree bavail files ffree bsize namelen frsize)) }
+            ≡ Out.Frame (reply self.id (Statfs blocks bfree bavail files ffree bsize namelen frsize)) }
         ensures answer { IsAnswer (Statfs blocks bfree bavail files ffree bsize namelen frsize) }
     {
         let (alloc, id) = self.into_parts();

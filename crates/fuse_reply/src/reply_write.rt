@@ -19,7 +19,7 @@ impl Reply<ByteCounts> {
     #[tactic(auto, using(crate::proofs::AreReplies::write_is_reply))]
     /// So many bytes were written, any u32.
     pub fn written(self, size: u32) -> Replied
-        ensures reply { result ≡ Out.Frame (reply self (Write size)) }
+        ensures reply { result ≡ Out.Frame (reply self.id (Write size)) }
         ensures answer { IsAnswer (Write size) }
     {
         let (alloc, id) = self.into_parts();

@@ -21,7 +21,7 @@ impl Reply<Xattrs> {
     #[tactic(auto, using(crate::proofs::AreReplies::xattr_size_is_reply))]
     /// It has so many bytes, any u32: `struct fuse_getxattr_out`. A request that asks for 0 bytes is answered so.
     pub fn size(self, size: u32) -> Replied
-        ensures reply { result ≡ Out.Frame (reply self (XattrSize size)) }
+        ensures reply { result ≡ Out.Frame (reply self.id (XattrSize size)) }
         ensures answer { IsAnswer (XattrSize size) }
     {
         let (alloc, id) = self.into_parts();
@@ -32,9 +32,9 @@ impl Reply<Xattrs> {
     /// memory is to be had for them, it failed for that.
     pub fn data(self, bytes: &[u8]) -> Replied
         requires { length bytes.now ≤ max_payload }
-        ensures replies { RepliesWith self (Data bytes.now) result }
+        ensures replies { RepliesWith self.id (Data bytes.now) result }
         ensures answer { IsAnswer (Data bytes.now) }
-        ensures inline { length bytes.now ≤ inline_size → result ≡ Out.Frame (reply self (Data bytes.now)) }
+        ensures inline { length bytes.now ≤ inline_size → result ≡ Out.Frame (reply self.id (Data bytes.now)) }
     {
         let (alloc, id) = self.into_parts();
         ReplyData::new(alloc, id).data(bytes)

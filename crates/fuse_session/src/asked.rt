@@ -1,7 +1,9 @@
 // A request that is served.
-ghost use Rattle.std.specs.Prelude.{◌≡◌, []};
+ghost use Rattle.std.specs.Prelude.{◌≡◌, [], Err};
 ghost use Rattle.fuse_reply.specs.Answer.Answer.{Empty, Error};
+ghost use Rattle.fuse_reply.specs.Deferral.{prompt_reply};
 ghost use Rattle.fuse_reply.specs.Frame.{reply};
+ghost use Rattle.fuse_reply.specs.declared.door.NoDoor.TheVariants.{Shut};
 ghost use Rattle.fuse_reply.specs.declared.out.Out.{Out};
 
 use crate::refusal::refusal;
@@ -23,7 +25,7 @@ impl Asked {
     /// Its reply, of a fixed size or of data.
     #[inline(always)]
     pub(crate) fn reply<Kind>(&self) -> Reply<Kind>
-        ensures { result ≡ self.now.id.0 }
+        ensures { result ≡ prompt_reply self.now.id.0 }
     {
         Reply::new(self.alloc, self.id)
     }
@@ -31,7 +33,7 @@ impl Asked {
     /// Its reply, of entries that have at most so many bytes.
     #[inline(always)]
     pub(crate) fn listing<Kind: EntryKind>(&self, size: u32) -> ReplyListing<Kind>
-        ensures { result ≡ record { id = self.now.id.0; size = size; held = [] } }
+        ensures { result ≡ record { id = self.now.id.0; door = Err Shut; size = size; held = [] } }
     {
         ReplyListing::new(self.alloc, self.id, size as usize)
     }

@@ -26,7 +26,7 @@ pub fn init() -> Result<(), Errno>
 
 /// ENOSYS, which the caller gets.
 pub fn lookup(reply: ReplyEntry) -> Replied
-    ensures reply { result ≡ Out.Frame (reply_of reply (Error ENOSYS)) }
+    ensures reply { result ≡ Out.Frame (reply_of reply.id (Error ENOSYS)) }
     ensures answer { IsAnswer (Error ENOSYS) }
 {
     reply.error(Errno::ENOSYS)
@@ -41,7 +41,7 @@ pub fn forget() -> u64
 
 /// ENOSYS, which the caller gets.
 pub fn getattr(reply: ReplyAttr) -> Replied
-    ensures reply { result ≡ Out.Frame (reply_of reply (Error ENOSYS)) }
+    ensures reply { result ≡ Out.Frame (reply_of reply.id (Error ENOSYS)) }
     ensures answer { IsAnswer (Error ENOSYS) }
 {
     reply.error(Errno::ENOSYS)
@@ -49,7 +49,7 @@ pub fn getattr(reply: ReplyAttr) -> Replied
 
 /// ENOSYS, which the caller gets.
 pub fn setattr(reply: ReplyAttr) -> Replied
-    ensures reply { result ≡ Out.Frame (reply_of reply (Error ENOSYS)) }
+    ensures reply { result ≡ Out.Frame (reply_of reply.id (Error ENOSYS)) }
     ensures answer { IsAnswer (Error ENOSYS) }
 {
     reply.error(Errno::ENOSYS)
@@ -57,7 +57,7 @@ pub fn setattr(reply: ReplyAttr) -> Replied
 
 /// ENOSYS, which the caller gets.
 pub fn readlink(reply: ReplyData) -> Replied
-    ensures reply { result ≡ Out.Frame (reply_of reply (Error ENOSYS)) }
+    ensures reply { result ≡ Out.Frame (reply_of reply.id (Error ENOSYS)) }
     ensures answer { IsAnswer (Error ENOSYS) }
 {
     reply.error(Errno::ENOSYS)
@@ -65,7 +65,7 @@ pub fn readlink(reply: ReplyData) -> Replied
 
 /// EPERM: there are no symbolic links.
 pub fn symlink(reply: ReplyEntry) -> Replied
-    ensures reply { result ≡ Out.Frame (reply_of reply (Error EPERM)) }
+    ensures reply { result ≡ Out.Frame (reply_of reply.id (Error EPERM)) }
     ensures answer { IsAnswer (Error EPERM) }
 {
     reply.error(Errno::EPERM)
@@ -73,7 +73,7 @@ pub fn symlink(reply: ReplyEntry) -> Replied
 
 /// ENOSYS, which the caller gets.
 pub fn mknod(reply: ReplyEntry) -> Replied
-    ensures reply { result ≡ Out.Frame (reply_of reply (Error ENOSYS)) }
+    ensures reply { result ≡ Out.Frame (reply_of reply.id (Error ENOSYS)) }
     ensures answer { IsAnswer (Error ENOSYS) }
 {
     reply.error(Errno::ENOSYS)
@@ -81,7 +81,7 @@ pub fn mknod(reply: ReplyEntry) -> Replied
 
 /// ENOSYS, which the caller gets.
 pub fn mkdir(reply: ReplyEntry) -> Replied
-    ensures reply { result ≡ Out.Frame (reply_of reply (Error ENOSYS)) }
+    ensures reply { result ≡ Out.Frame (reply_of reply.id (Error ENOSYS)) }
     ensures answer { IsAnswer (Error ENOSYS) }
 {
     reply.error(Errno::ENOSYS)
@@ -89,7 +89,7 @@ pub fn mkdir(reply: ReplyEntry) -> Replied
 
 /// ENOSYS, which the caller gets.
 pub fn unlink(reply: ReplyEmpty) -> Replied
-    ensures reply { result ≡ Out.Frame (reply_of reply (Error ENOSYS)) }
+    ensures reply { result ≡ Out.Frame (reply_of reply.id (Error ENOSYS)) }
     ensures answer { IsAnswer (Error ENOSYS) }
 {
     reply.error(Errno::ENOSYS)
@@ -97,7 +97,7 @@ pub fn unlink(reply: ReplyEmpty) -> Replied
 
 /// ENOSYS, which the caller gets.
 pub fn rmdir(reply: ReplyEmpty) -> Replied
-    ensures reply { result ≡ Out.Frame (reply_of reply (Error ENOSYS)) }
+    ensures reply { result ≡ Out.Frame (reply_of reply.id (Error ENOSYS)) }
     ensures answer { IsAnswer (Error ENOSYS) }
 {
     reply.error(Errno::ENOSYS)
@@ -105,7 +105,7 @@ pub fn rmdir(reply: ReplyEmpty) -> Replied
 
 /// ENOSYS, which the caller gets.
 pub fn rename(reply: ReplyEmpty) -> Replied
-    ensures reply { result ≡ Out.Frame (reply_of reply (Error ENOSYS)) }
+    ensures reply { result ≡ Out.Frame (reply_of reply.id (Error ENOSYS)) }
     ensures answer { IsAnswer (Error ENOSYS) }
 {
     reply.error(Errno::ENOSYS)
@@ -113,7 +113,7 @@ pub fn rename(reply: ReplyEmpty) -> Replied
 
 /// EPERM: there are no hard links.
 pub fn link(reply: ReplyEntry) -> Replied
-    ensures reply { result ≡ Out.Frame (reply_of reply (Error EPERM)) }
+    ensures reply { result ≡ Out.Frame (reply_of reply.id (Error EPERM)) }
     ensures answer { IsAnswer (Error EPERM) }
 {
     reply.error(Errno::EPERM)
@@ -121,7 +121,7 @@ pub fn link(reply: ReplyEntry) -> Replied
 
 /// Open under the number 0, with no flags.
 pub fn open(reply: ReplyOpen) -> Replied
-    ensures reply { result ≡ Out.Frame (reply_of reply (Open 0 0)) }
+    ensures reply { result ≡ Out.Frame (reply_of reply.id (Open 0 0)) }
     ensures answer { IsAnswer (Open 0 0) }
 {
     reply.opened(FileHandle(0), FopenFlags::empty())
@@ -129,7 +129,7 @@ pub fn open(reply: ReplyOpen) -> Replied
 
 /// ENOSYS, which the caller gets.
 pub fn read(reply: ReplyData) -> Replied
-    ensures reply { result ≡ Out.Frame (reply_of reply (Error ENOSYS)) }
+    ensures reply { result ≡ Out.Frame (reply_of reply.id (Error ENOSYS)) }
     ensures answer { IsAnswer (Error ENOSYS) }
 {
     reply.error(Errno::ENOSYS)
@@ -137,7 +137,7 @@ pub fn read(reply: ReplyData) -> Replied
 
 /// ENOSYS, which the caller gets.
 pub fn write(reply: ReplyWrite) -> Replied
-    ensures reply { result ≡ Out.Frame (reply_of reply (Error ENOSYS)) }
+    ensures reply { result ≡ Out.Frame (reply_of reply.id (Error ENOSYS)) }
     ensures answer { IsAnswer (Error ENOSYS) }
 {
     reply.error(Errno::ENOSYS)
@@ -145,7 +145,7 @@ pub fn write(reply: ReplyWrite) -> Replied
 
 /// No blocks and no inodes; blocks of 512 bytes, and names of at most 255.
 pub fn statfs(reply: ReplyStatfs) -> Replied
-    ensures reply { result ≡ Out.Frame (reply_of reply (Statfs 0 0 0 0 0 512 255 0)) }
+    ensures reply { result ≡ Out.Frame (reply_of reply.id (Statfs 0 0 0 0 0 512 255 0)) }
     ensures answer { IsAnswer (Statfs 0 0 0 0 0 512 255 0) }
 {
     reply.statfs(0, 0, 0, 0, 0, 512, 255, 0)
@@ -153,7 +153,7 @@ pub fn statfs(reply: ReplyStatfs) -> Replied
 
 /// Done.
 pub fn release(reply: ReplyEmpty) -> Replied
-    ensures reply { result ≡ Out.Frame (reply_of reply Empty) }
+    ensures reply { result ≡ Out.Frame (reply_of reply.id Empty) }
     ensures answer { IsAnswer Empty }
 {
     reply.ok()
@@ -161,7 +161,7 @@ pub fn release(reply: ReplyEmpty) -> Replied
 
 /// ENOSYS: each call succeeds, and the kernel asks no more.
 pub fn fsync(reply: ReplyEmpty) -> Replied
-    ensures reply { result ≡ Out.Frame (reply_of reply (Error ENOSYS)) }
+    ensures reply { result ≡ Out.Frame (reply_of reply.id (Error ENOSYS)) }
     ensures answer { IsAnswer (Error ENOSYS) }
 {
     reply.error(Errno::ENOSYS)
@@ -169,7 +169,7 @@ pub fn fsync(reply: ReplyEmpty) -> Replied
 
 /// ENOSYS: the caller gets EOPNOTSUPP, and the kernel asks no more.
 pub fn setxattr(reply: ReplyEmpty) -> Replied
-    ensures reply { result ≡ Out.Frame (reply_of reply (Error ENOSYS)) }
+    ensures reply { result ≡ Out.Frame (reply_of reply.id (Error ENOSYS)) }
     ensures answer { IsAnswer (Error ENOSYS) }
 {
     reply.error(Errno::ENOSYS)
@@ -177,7 +177,7 @@ pub fn setxattr(reply: ReplyEmpty) -> Replied
 
 /// ENOSYS: the caller gets EOPNOTSUPP, and the kernel asks no more.
 pub fn getxattr(reply: ReplyXattr) -> Replied
-    ensures reply { result ≡ Out.Frame (reply_of reply (Error ENOSYS)) }
+    ensures reply { result ≡ Out.Frame (reply_of reply.id (Error ENOSYS)) }
     ensures answer { IsAnswer (Error ENOSYS) }
 {
     reply.error(Errno::ENOSYS)
@@ -185,7 +185,7 @@ pub fn getxattr(reply: ReplyXattr) -> Replied
 
 /// ENOSYS: the caller gets EOPNOTSUPP, and the kernel asks no more.
 pub fn listxattr(reply: ReplyXattr) -> Replied
-    ensures reply { result ≡ Out.Frame (reply_of reply (Error ENOSYS)) }
+    ensures reply { result ≡ Out.Frame (reply_of reply.id (Error ENOSYS)) }
     ensures answer { IsAnswer (Error ENOSYS) }
 {
     reply.error(Errno::ENOSYS)
@@ -193,7 +193,7 @@ pub fn listxattr(reply: ReplyXattr) -> Replied
 
 /// ENOSYS: the caller gets EOPNOTSUPP, and the kernel asks no more.
 pub fn removexattr(reply: ReplyEmpty) -> Replied
-    ensures reply { result ≡ Out.Frame (reply_of reply (Error ENOSYS)) }
+    ensures reply { result ≡ Out.Frame (reply_of reply.id (Error ENOSYS)) }
     ensures answer { IsAnswer (Error ENOSYS) }
 {
     reply.error(Errno::ENOSYS)
@@ -201,7 +201,7 @@ pub fn removexattr(reply: ReplyEmpty) -> Replied
 
 /// ENOSYS: each close succeeds, and the kernel asks no more.
 pub fn flush(reply: ReplyEmpty) -> Replied
-    ensures reply { result ≡ Out.Frame (reply_of reply (Error ENOSYS)) }
+    ensures reply { result ≡ Out.Frame (reply_of reply.id (Error ENOSYS)) }
     ensures answer { IsAnswer (Error ENOSYS) }
 {
     reply.error(Errno::ENOSYS)
@@ -209,7 +209,7 @@ pub fn flush(reply: ReplyEmpty) -> Replied
 
 /// Open under the number 0, with no flags.
 pub fn opendir(reply: ReplyOpen) -> Replied
-    ensures reply { result ≡ Out.Frame (reply_of reply (Open 0 0)) }
+    ensures reply { result ≡ Out.Frame (reply_of reply.id (Open 0 0)) }
     ensures answer { IsAnswer (Open 0 0) }
 {
     reply.opened(FileHandle(0), FopenFlags::empty())
@@ -225,7 +225,7 @@ pub fn readdir(reply: ReplyDirectory) -> Replied
 
 /// Done.
 pub fn releasedir(reply: ReplyEmpty) -> Replied
-    ensures reply { result ≡ Out.Frame (reply_of reply Empty) }
+    ensures reply { result ≡ Out.Frame (reply_of reply.id Empty) }
     ensures answer { IsAnswer Empty }
 {
     reply.ok()
@@ -233,7 +233,7 @@ pub fn releasedir(reply: ReplyEmpty) -> Replied
 
 /// ENOSYS: each call succeeds, and the kernel asks no more.
 pub fn fsyncdir(reply: ReplyEmpty) -> Replied
-    ensures reply { result ≡ Out.Frame (reply_of reply (Error ENOSYS)) }
+    ensures reply { result ≡ Out.Frame (reply_of reply.id (Error ENOSYS)) }
     ensures answer { IsAnswer (Error ENOSYS) }
 {
     reply.error(Errno::ENOSYS)
@@ -241,7 +241,7 @@ pub fn fsyncdir(reply: ReplyEmpty) -> Replied
 
 /// ENOSYS, which the caller gets.
 pub fn getlk(reply: ReplyLock) -> Replied
-    ensures reply { result ≡ Out.Frame (reply_of reply (Error ENOSYS)) }
+    ensures reply { result ≡ Out.Frame (reply_of reply.id (Error ENOSYS)) }
     ensures answer { IsAnswer (Error ENOSYS) }
 {
     reply.error(Errno::ENOSYS)
@@ -249,7 +249,7 @@ pub fn getlk(reply: ReplyLock) -> Replied
 
 /// ENOSYS, which the caller gets.
 pub fn setlk(reply: ReplyEmpty) -> Replied
-    ensures reply { result ≡ Out.Frame (reply_of reply (Error ENOSYS)) }
+    ensures reply { result ≡ Out.Frame (reply_of reply.id (Error ENOSYS)) }
     ensures answer { IsAnswer (Error ENOSYS) }
 {
     reply.error(Errno::ENOSYS)
@@ -257,7 +257,7 @@ pub fn setlk(reply: ReplyEmpty) -> Replied
 
 /// ENOSYS: each access is allowed, and the kernel asks no more.
 pub fn access(reply: ReplyEmpty) -> Replied
-    ensures reply { result ≡ Out.Frame (reply_of reply (Error ENOSYS)) }
+    ensures reply { result ≡ Out.Frame (reply_of reply.id (Error ENOSYS)) }
     ensures answer { IsAnswer (Error ENOSYS) }
 {
     reply.error(Errno::ENOSYS)
@@ -265,7 +265,7 @@ pub fn access(reply: ReplyEmpty) -> Replied
 
 /// ENOSYS: the kernel sends MKNOD and then OPEN, and no more CREATE.
 pub fn create(reply: ReplyCreate) -> Replied
-    ensures reply { result ≡ Out.Frame (reply_of reply (Error ENOSYS)) }
+    ensures reply { result ≡ Out.Frame (reply_of reply.id (Error ENOSYS)) }
     ensures answer { IsAnswer (Error ENOSYS) }
 {
     reply.error(Errno::ENOSYS)
@@ -273,7 +273,7 @@ pub fn create(reply: ReplyCreate) -> Replied
 
 /// ENOSYS: the kernel asks no more.
 pub fn bmap(reply: ReplyBmap) -> Replied
-    ensures reply { result ≡ Out.Frame (reply_of reply (Error ENOSYS)) }
+    ensures reply { result ≡ Out.Frame (reply_of reply.id (Error ENOSYS)) }
     ensures answer { IsAnswer (Error ENOSYS) }
 {
     reply.error(Errno::ENOSYS)
@@ -281,7 +281,7 @@ pub fn bmap(reply: ReplyBmap) -> Replied
 
 /// ENOSYS, which newer kernels turn into ENOTTY.
 pub fn ioctl(reply: ReplyIoctl) -> Replied
-    ensures reply { result ≡ Out.Frame (reply_of reply (Error ENOSYS)) }
+    ensures reply { result ≡ Out.Frame (reply_of reply.id (Error ENOSYS)) }
     ensures answer { IsAnswer (Error ENOSYS) }
 {
     reply.error(Errno::ENOSYS)
@@ -289,7 +289,7 @@ pub fn ioctl(reply: ReplyIoctl) -> Replied
 
 /// ENOSYS: the kernel takes every file for ready, and asks no more.
 pub fn poll(reply: ReplyPoll) -> Replied
-    ensures reply { result ≡ Out.Frame (reply_of reply (Error ENOSYS)) }
+    ensures reply { result ≡ Out.Frame (reply_of reply.id (Error ENOSYS)) }
     ensures answer { IsAnswer (Error ENOSYS) }
 {
     reply.error(Errno::ENOSYS)
@@ -311,7 +311,7 @@ pub fn batch_forget<F: Fn(INodeNo, u64) -> u64>(nodes: ForgetList<'_>, forget: F
 
 /// ENOSYS: the caller gets EOPNOTSUPP, and the kernel asks no more.
 pub fn fallocate(reply: ReplyEmpty) -> Replied
-    ensures reply { result ≡ Out.Frame (reply_of reply (Error ENOSYS)) }
+    ensures reply { result ≡ Out.Frame (reply_of reply.id (Error ENOSYS)) }
     ensures answer { IsAnswer (Error ENOSYS) }
 {
     reply.error(Errno::ENOSYS)
@@ -327,7 +327,7 @@ pub fn readdirplus(reply: ReplyDirectoryPlus) -> Replied
 
 /// ENOSYS: the kernel takes a file for contents up to its end, and asks no more.
 pub fn lseek(reply: ReplyLseek) -> Replied
-    ensures reply { result ≡ Out.Frame (reply_of reply (Error ENOSYS)) }
+    ensures reply { result ≡ Out.Frame (reply_of reply.id (Error ENOSYS)) }
     ensures answer { IsAnswer (Error ENOSYS) }
 {
     reply.error(Errno::ENOSYS)
@@ -335,7 +335,7 @@ pub fn lseek(reply: ReplyLseek) -> Replied
 
 /// ENOSYS: the kernel copies by reads and writes, and asks no more.
 pub fn copy_file_range(reply: ReplyWrite) -> Replied
-    ensures reply { result ≡ Out.Frame (reply_of reply (Error ENOSYS)) }
+    ensures reply { result ≡ Out.Frame (reply_of reply.id (Error ENOSYS)) }
     ensures answer { IsAnswer (Error ENOSYS) }
 {
     reply.error(Errno::ENOSYS)

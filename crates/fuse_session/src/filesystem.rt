@@ -44,7 +44,7 @@ pub trait Filesystem: Send + Sync {
     /// entry whose inode is 0 says the same, and is kept as long as the entry says. Each other entry counts as one
     /// lookup of its inode, until `forget` gives it back. `defaults::lookup` answers ENOSYS, which the caller gets.
     fn lookup(&self, request: &Request, parent: INodeNo, name: &[u8], reply: ReplyEntry) -> Replied
-        ensures { Answered promise.may_answer self.now request.now (Call.Lookup parent.0 name.now) reply result };
+        ensures { Answered promise.may_answer self.now request.now (Call.Lookup parent.0 name.now) reply.id result };
 
     /// FORGET: the kernel gives back `nlookup` lookups of this inode. Each inode that `lookup`, `symlink`, `mknod`,
     /// `mkdir`, `link` or `create` answered counted as one, and so did each entry that `readdirplus` listed, but for `.`
@@ -67,7 +67,7 @@ pub trait Filesystem: Send + Sync {
         reply: ReplyAttr,
     ) -> Replied
         ensures { Answered promise.may_answer self.now request.now
-            (Call.GetAttr ino.0 (handle_number fh)) reply result };
+            (Call.GetAttr ino.0 (handle_number fh)) reply.id result };
 
     /// SETATTR: sets those attributes of this inode that are Some. The answer is all of them as they are then, as for
     /// `getattr`. `mode` is a whole `st_mode`, of which the kind does not change. `size` is in bytes: a file is cut
@@ -95,14 +95,14 @@ pub trait Filesystem: Send + Sync {
     ) -> Replied
         ensures { Answered promise.may_answer self.now request.now
             (Call.SetAttr ino.0 mode uid gid size atime mtime ctime (handle_number fh)
-            crtime chgtime bkuptime (option_map (λ f. f.0) flags)) reply result };
+            crtime chgtime bkuptime (option_map (λ f. f.0) flags)) reply.id result };
 
     /// READLINK: where this symbolic link leads, as bytes without a zero byte behind them. The kernel asks each time
     /// that it follows the link, but may keep the answer where `FUSE_CACHE_SYMLINKS` was granted. It takes one byte less
     /// than a page at most: for a longer answer the caller gets EIO. `defaults::readlink` answers ENOSYS, which the
     /// caller gets.
     fn readlink(&self, request: &Request, ino: INodeNo, reply: ReplyData) -> Replied
-        ensures { Answered promise.may_answer self.now request.now (Call.ReadLink ino.0) reply result };
+        ensures { Answered promise.may_answer self.now request.now (Call.ReadLink ino.0) reply.id result };
 
     /// SYMLINK: makes a symbolic link under the name `link_name` in the directory `parent`. `target` is where it leads; it
     /// need not lead to anything. The answer is the new inode, of the kind Symlink, as `lookup` gives one. It counts as a
@@ -117,7 +117,7 @@ pub trait Filesystem: Send + Sync {
         reply: ReplyEntry,
     ) -> Replied
         ensures { Answered promise.may_answer self.now request.now
-            (Call.SymLink parent.0 link_name.now target.now) reply result };
+            (Call.SymLink parent.0 link_name.now target.now) reply.id result };
 
     /// MKNOD: makes a file under a name, for `mknod(2)` and the like, and for each new regular file once `create` has
     /// answered ENOSYS. `mode` is its kind and its permissions, as in `st_mode`. The bits of `umask` are taken away from
@@ -136,7 +136,7 @@ pub trait Filesystem: Send + Sync {
         reply: ReplyEntry,
     ) -> Replied
         ensures { Answered promise.may_answer self.now request.now
-            (Call.MkNod parent.0 name.now mode umask rdev) reply result };
+            (Call.MkNod parent.0 name.now mode umask rdev) reply.id result };
 
     /// MKDIR: makes a directory under a name. `mode` is its permissions, without a kind, and `umask` is as for `mknod`.
     /// The error for a name that is there already is EEXIST. The answer is as for `mknod`, of the kind Directory.
@@ -151,19 +151,19 @@ pub trait Filesystem: Send + Sync {
         reply: ReplyEntry,
     ) -> Replied
         ensures { Answered promise.may_answer self.now request.now
-            (Call.MkDir parent.0 name.now mode umask) reply result };
+            (Call.MkDir parent.0 name.now mode umask) reply.id result };
 
     /// UNLINK: takes a name, but not that of a directory, out of the directory `parent`. The inode may have other names.
     /// Even without one it may still be open, and the kernel may name it until it is released and its lookups are given
     /// back by `forget`. `defaults::unlink` answers ENOSYS, which the caller gets.
     fn unlink(&self, request: &Request, parent: INodeNo, name: &[u8], reply: ReplyEmpty) -> Replied
-        ensures { Answered promise.may_answer self.now request.now (Call.Unlink parent.0 name.now) reply result };
+        ensures { Answered promise.may_answer self.now request.now (Call.Unlink parent.0 name.now) reply.id result };
 
     /// RMDIR: takes the name of an empty directory out of the directory `parent`. The kernel does not look whether it is
     /// empty: the error where it is not is ENOTEMPTY. The kernel may still name its inode, as after `unlink`.
     /// `defaults::rmdir` answers ENOSYS, which the caller gets.
     fn rmdir(&self, request: &Request, parent: INodeNo, name: &[u8], reply: ReplyEmpty) -> Replied
-        ensures { Answered promise.may_answer self.now request.now (Call.RmDir parent.0 name.now) reply result };
+        ensures { Answered promise.may_answer self.now request.now (Call.RmDir parent.0 name.now) reply.id result };
 
     /// RENAME and RENAME2: what `name` means in `parent` is from now on `newname` in `newparent`. RENAME has no flags.
     /// What had the new name is replaced in the same step, a directory only where it is empty (ENOTEMPTY), and its inode
@@ -182,7 +182,7 @@ pub trait Filesystem: Send + Sync {
         reply: ReplyEmpty,
     ) -> Replied
         ensures { Answered promise.may_answer self.now request.now
-            (Call.Rename parent.0 name.now newparent.0 newname.now flags.0) reply result };
+            (Call.Rename parent.0 name.now newparent.0 newname.now flags.0) reply.id result };
 
     /// LINK: gives the inode `ino`, which is no directory, one more name, `newname` in the directory `newparent`. The
     /// answer is that same inode, with its attributes as they are then, and how long the kernel may rely on the name and
@@ -197,7 +197,7 @@ pub trait Filesystem: Send + Sync {
         reply: ReplyEntry,
     ) -> Replied
         ensures { Answered promise.may_answer self.now request.now
-            (Call.Link ino.0 newparent.0 newname.now) reply result };
+            (Call.Link ino.0 newparent.0 newname.now) reply.id result };
 
     /// OPEN: opens a regular file. `flags` are those of `open(2)` without `O_CREAT`, `O_EXCL` and `O_NOCTTY`, and
     /// without `O_TRUNC` unless `FUSE_ATOMIC_O_TRUNC` was granted. Unless it is mounted with `default_permissions` the
@@ -206,7 +206,7 @@ pub trait Filesystem: Send + Sync {
     /// ENOSYS is remembered by a kernel that offers `FUSE_NO_OPEN_SUPPORT`: this open and all later ones succeed with 0
     /// for `fh`, and no OPEN or RELEASE is sent again. `defaults::open` answers 0 and no flags.
     fn open(&self, request: &Request, ino: INodeNo, flags: OpenFlags, reply: ReplyOpen) -> Replied
-        ensures { Answered promise.may_answer self.now request.now (Call.Open ino.0 flags.0) reply result };
+        ensures { Answered promise.may_answer self.now request.now (Call.Open ino.0 flags.0) reply.id result };
 
     /// READ: the bytes of an open file from `offset` on, `size` of them. `offset` and `size` are in bytes, and `offset`
     /// is at most `i64::MAX`. Fewer bytes than `size` are the end of the file, and none are past it; for more than
@@ -227,7 +227,7 @@ pub trait Filesystem: Send + Sync {
         reply: ReplyData,
     ) -> Replied
         ensures { Answered promise.may_answer self.now request.now
-            (Call.Read ino.0 fh.0 offset size flags.0 (owner_number lock_owner)) reply result };
+            (Call.Read ino.0 fh.0 offset size flags.0 (owner_number lock_owner)) reply.id result };
 
     /// WRITE: puts the bytes `written` into an open file from `offset` on, which is in bytes and at most `i64::MAX`.
     /// `fh`, `flags` and `lock_owner` are as for `read`. Where `write_flags` has `FUSE_WRITE_CACHE` the write comes
@@ -248,13 +248,13 @@ pub trait Filesystem: Send + Sync {
         reply: ReplyWrite,
     ) -> Replied
         ensures { Answered promise.may_answer self.now request.now
-            (Call.Write ino.0 fh.0 offset written.now write_flags.0 flags.0 (owner_number lock_owner)) reply result };
+            (Call.Write ino.0 fh.0 offset written.now write_flags.0 flags.0 (owner_number lock_owner)) reply.id result };
 
     /// STATFS: how full the filesystem is, as for `statfs(2)`. `ino` is the inode that the caller asks by, which may be
     /// any of the filesystem. The kernel asks each time. `defaults::statfs` answers no blocks and no inodes at all,
     /// blocks of 512 bytes, names of at most 255 bytes, and 0 for the size of a block that is counted.
     fn statfs(&self, request: &Request, ino: INodeNo, reply: ReplyStatfs) -> Replied
-        ensures { Answered promise.may_answer self.now request.now (Call.StatFs ino.0) reply result };
+        ensures { Answered promise.may_answer self.now request.now (Call.StatFs ino.0) reply.id result };
 
     /// RELEASE: an open file is no longer used, by a descriptor or a mapping. It comes once for each `open` that
     /// opened it, and `fh` is free then. `flags` are those that the file was open with. `lock_owner` is Some where
@@ -271,7 +271,7 @@ pub trait Filesystem: Send + Sync {
         reply: ReplyEmpty,
     ) -> Replied
         ensures { Answered promise.may_answer self.now request.now
-            (Call.Release ino.0 fh.0 flags.0 (owner_number lock_owner) flush) reply result };
+            (Call.Release ino.0 fh.0 flags.0 (owner_number lock_owner) flush) reply.id result };
 
     /// FSYNC: brings what was written to an open file to the disk, for `fsync(2)` and the like. Where `datasync` is
     /// true, as for `fdatasync(2)`, its contents are enough, without the attributes. The kernel has sent the writes that
@@ -285,7 +285,7 @@ pub trait Filesystem: Send + Sync {
         datasync: bool,
         reply: ReplyEmpty,
     ) -> Replied
-        ensures { Answered promise.may_answer self.now request.now (Call.FSync ino.0 fh.0 datasync) reply result };
+        ensures { Answered promise.may_answer self.now request.now (Call.FSync ino.0 fh.0 datasync) reply.id result };
 
     /// SETXATTR: gives this inode the extended attribute `name`, which has its prefix (`user.` and the like). `value`
     /// may be empty. `flags` are those of `setxattr(2)`: with `XATTR_CREATE` (1) an attribute that is there already is
@@ -303,7 +303,7 @@ pub trait Filesystem: Send + Sync {
         reply: ReplyEmpty,
     ) -> Replied
         ensures { Answered promise.may_answer self.now request.now
-            (Call.SetXAttr ino.0 name.now value.now flags position) reply result };
+            (Call.SetXAttr ino.0 name.now value.now flags position) reply.id result };
 
     /// GETXATTR: the value of the extended attribute `name` of this inode. Where `size` is 0 the answer is how many
     /// bytes it has, by `ReplyXattr::size`. Else it is the bytes, by `ReplyXattr::data`, and `size` is how many the
@@ -318,14 +318,14 @@ pub trait Filesystem: Send + Sync {
         size: u32,
         reply: ReplyXattr,
     ) -> Replied
-        ensures { Answered promise.may_answer self.now request.now (Call.GetXAttr ino.0 name.now size) reply result };
+        ensures { Answered promise.may_answer self.now request.now (Call.GetXAttr ino.0 name.now size) reply.id result };
 
     /// LISTXATTR: the names of all extended attributes of this inode, one behind the other, with a zero byte after each.
     /// `size` is as for `getxattr`, and ERANGE too; the zero bytes count. For an empty name, or no zero byte at the end,
     /// the caller gets EIO. ENOSYS is remembered: this caller and all later ones get EOPNOTSUPP, and no LISTXATTR is
     /// sent again. `defaults::listxattr` answers ENOSYS.
     fn listxattr(&self, request: &Request, ino: INodeNo, size: u32, reply: ReplyXattr) -> Replied
-        ensures { Answered promise.may_answer self.now request.now (Call.ListXAttr ino.0 size) reply result };
+        ensures { Answered promise.may_answer self.now request.now (Call.ListXAttr ino.0 size) reply.id result };
 
     /// REMOVEXATTR: takes the extended attribute `name` away from this inode. The error for one that is not there is
     /// ENODATA. ENOSYS is remembered: this caller and all later ones get EOPNOTSUPP, and no REMOVEXATTR is sent again.
@@ -337,7 +337,7 @@ pub trait Filesystem: Send + Sync {
         name: &[u8],
         reply: ReplyEmpty,
     ) -> Replied
-        ensures { Answered promise.may_answer self.now request.now (Call.RemoveXAttr ino.0 name.now) reply result };
+        ensures { Answered promise.may_answer self.now request.now (Call.RemoveXAttr ino.0 name.now) reply.id result };
 
     /// FLUSH: a descriptor of an open file is closed. It comes at each `close(2)`, so that one open may have many, or
     /// none. Its error is that of the `close(2)`: here failed writes can be told. Nothing need be brought to the disk.
@@ -352,7 +352,7 @@ pub trait Filesystem: Send + Sync {
         lock_owner: LockOwner,
         reply: ReplyEmpty,
     ) -> Replied
-        ensures { Answered promise.may_answer self.now request.now (Call.Flush ino.0 fh.0 lock_owner.0) reply result };
+        ensures { Answered promise.may_answer self.now request.now (Call.Flush ino.0 fh.0 lock_owner.0) reply.id result };
 
     /// OPENDIR: opens a directory. `flags` are as for `open`. The answer is a number, which is `fh` of each call on this
     /// open directory, and how the kernel treats it: with `FOPEN_CACHE_DIR` it may cache the entries, and with
@@ -366,7 +366,7 @@ pub trait Filesystem: Send + Sync {
         flags: OpenFlags,
         reply: ReplyOpen,
     ) -> Replied
-        ensures { Answered promise.may_answer self.now request.now (Call.OpenDir ino.0 flags.0) reply result };
+        ensures { Answered promise.may_answer self.now request.now (Call.OpenDir ino.0 flags.0) reply.id result };
 
     /// READDIR: the entries of an open directory, as many as fit into `reply`, which has the size that the kernel asks
     /// for. The first time `offset` is 0. Later it is the one that an entry was added with, and the listing goes on
@@ -396,7 +396,7 @@ pub trait Filesystem: Send + Sync {
         flags: OpenFlags,
         reply: ReplyEmpty,
     ) -> Replied
-        ensures { Answered promise.may_answer self.now request.now (Call.ReleaseDir ino.0 fh.0 flags.0) reply result };
+        ensures { Answered promise.may_answer self.now request.now (Call.ReleaseDir ino.0 fh.0 flags.0) reply.id result };
 
     /// FSYNCDIR: brings what changed in an open directory to the disk, for `fsync(2)` of a directory. Where `datasync`
     /// is true its entries are enough, without its attributes. ENOSYS is remembered: this call and all later ones
@@ -409,7 +409,7 @@ pub trait Filesystem: Send + Sync {
         datasync: bool,
         reply: ReplyEmpty,
     ) -> Replied
-        ensures { Answered promise.may_answer self.now request.now (Call.FSyncDir ino.0 fh.0 datasync) reply result };
+        ensures { Answered promise.may_answer self.now request.now (Call.FSyncDir ino.0 fh.0 datasync) reply.id result };
 
     /// GETLK: which lock of another owner stands in the way of one that `lock_owner` may want, for `F_GETLK` of
     /// `fcntl(2)`. It would be of the type `typ`, `F_RDLCK` (0) or `F_WRLCK` (1), on the bytes from `start` up to and
@@ -430,7 +430,7 @@ pub trait Filesystem: Send + Sync {
         reply: ReplyLock,
     ) -> Replied
         ensures { Answered promise.may_answer self.now request.now
-            (Call.GetLk ino.0 fh.0 lock_owner.0 start end typ pid) reply result };
+            (Call.GetLk ino.0 fh.0 lock_owner.0 start end typ pid) reply.id result };
 
     /// SETLK and SETLKW: takes a lock of the type `typ` for `lock_owner`, or gives up what it has with `F_UNLCK`. Types
     /// and range are as for `getlk`, and `pid` is the process, which `getlk` tells of a lock. Where another's lock
@@ -453,7 +453,7 @@ pub trait Filesystem: Send + Sync {
         reply: ReplyEmpty,
     ) -> Replied
         ensures { Answered promise.may_answer self.now request.now
-            (Call.SetLk ino.0 fh.0 lock_owner.0 start end typ pid sleep) reply result };
+            (Call.SetLk ino.0 fh.0 lock_owner.0 start end typ pid sleep) reply.id result };
 
     /// ACCESS: whether the caller may do all that `mask` says with this inode: `R_OK`, `W_OK` and `X_OK`, or no bit,
     /// which is `F_OK`. It is sent for `access(2)` and `chdir(2)`, unless the filesystem is mounted with
@@ -467,7 +467,7 @@ pub trait Filesystem: Send + Sync {
         mask: AccessFlags,
         reply: ReplyEmpty,
     ) -> Replied
-        ensures { Answered promise.may_answer self.now request.now (Call.Access ino.0 mask.0) reply result };
+        ensures { Answered promise.may_answer self.now request.now (Call.Access ino.0 mask.0) reply.id result };
 
     /// CREATE: makes a regular file under a name and opens it, for `open(2)` with `O_CREAT` where the kernel knows of no
     /// such name. `mode` and `umask` are as for `mknod`. `flags` are those of `open(2)` without `O_NOCTTY`. Where the
@@ -485,7 +485,7 @@ pub trait Filesystem: Send + Sync {
         reply: ReplyCreate,
     ) -> Replied
         ensures { Answered promise.may_answer self.now request.now
-            (Call.Create parent.0 name.now mode umask flags) reply result };
+            (Call.Create parent.0 name.now mode umask flags) reply.id result };
 
     /// BMAP: in which block of the device the block `idx` of this file lies. Both are counted in blocks of `blocksize`
     /// bytes. It is sent for `FIBMAP` of `ioctl(2)` and the like, and only where the filesystem is mounted from a block
@@ -499,7 +499,7 @@ pub trait Filesystem: Send + Sync {
         idx: u64,
         reply: ReplyBmap,
     ) -> Replied
-        ensures { Answered promise.may_answer self.now request.now (Call.BMap ino.0 blocksize idx) reply result };
+        ensures { Answered promise.may_answer self.now request.now (Call.BMap ino.0 blocksize idx) reply.id result };
 
     /// IOCTL: the command `cmd` of `ioctl(2)` on an open file, or on an open directory where `flags` has
     /// `FUSE_IOCTL_DIR`. Other flags say that a program of 32 bits calls. The kernel reads off the command what goes in
@@ -519,7 +519,7 @@ pub trait Filesystem: Send + Sync {
         reply: ReplyIoctl,
     ) -> Replied
         ensures { Answered promise.may_answer self.now request.now
-            (Call.IoCtl ino.0 fh.0 flags.0 cmd in_data.now out_size) reply result };
+            (Call.IoCtl ino.0 fh.0 flags.0 cmd in_data.now out_size) reply.id result };
 
     /// POLL: which of `events` an open file is ready for now. `fh` is the number that the file was opened with. The
     /// answer is given at once. Where `flags` has `FUSE_POLL_SCHEDULE_NOTIFY` and the file is ready for none of them,
@@ -538,7 +538,7 @@ pub trait Filesystem: Send + Sync {
         reply: ReplyPoll,
     ) -> Replied
         ensures { Answered promise.may_answer self.now request.now
-            (Call.Poll ino.0 fh.0 ph.handle events.0 flags.0) reply result };
+            (Call.Poll ino.0 fh.0 ph.handle events.0 flags.0) reply.id result };
 
     /// BATCH_FORGET: the kernel gives back lookups of several inodes at once. From 7.16 on it sends this in place of
     /// FORGET where more than one inode waits to be forgotten. Each row of `nodes` is an inode and how many of its
@@ -565,7 +565,7 @@ pub trait Filesystem: Send + Sync {
         reply: ReplyEmpty,
     ) -> Replied
         ensures { Answered promise.may_answer self.now request.now
-            (Call.FAllocate ino.0 fh.0 offset length mode) reply result };
+            (Call.FAllocate ino.0 fh.0 offset length mode) reply.id result };
 
     /// READDIRPLUS: as `readdir`, and each entry has what `lookup` answers for its name, which the kernel may rely on as
     /// long. Each counts as one lookup of its inode, but `.` and `..` do not. It is sent only where
@@ -598,7 +598,7 @@ pub trait Filesystem: Send + Sync {
         whence: i32,
         reply: ReplyLseek,
     ) -> Replied
-        ensures { Answered promise.may_answer self.now request.now (Call.Lseek ino.0 fh.0 offset whence) reply result };
+        ensures { Answered promise.may_answer self.now request.now (Call.Lseek ino.0 fh.0 offset whence) reply.id result };
 
     /// COPY_FILE_RANGE: copies `len` bytes between two open files of this filesystem, or within one, for
     /// `copy_file_range(2)`: from `offset_in` of the first on, to `offset_out` of the second. Offsets are in bytes, and
@@ -620,7 +620,7 @@ pub trait Filesystem: Send + Sync {
         reply: ReplyWrite,
     ) -> Replied
         ensures { Answered promise.may_answer self.now request.now
-            (Call.CopyFileRange ino_in.0 fh_in.0 offset_in ino_out.0 fh_out.0 offset_out len flags.0) reply result };
+            (Call.CopyFileRange ino_in.0 fh_in.0 offset_in ino_out.0 fh_out.0 offset_out len flags.0) reply.id result };
 
     /// The session is over. It is called once and last on each end of a session, but for the want of memory at its
     /// start, where nothing is called.

@@ -28,7 +28,7 @@ pub(crate) trait Probe {
     );
 
     fn lookup(&self, request: &Request, parent: INodeNo, name: &[u8], reply: ReplyEntry) -> Replied
-        ensures { IsAnswered own request.now (Call.Lookup parent.0 name.now) reply result }
+        ensures { IsAnswered own request.now (Call.Lookup parent.0 name.now) reply.id result }
     {
         defaults::lookup(reply)
     }
@@ -45,7 +45,7 @@ pub(crate) trait Probe {
         fh: Option<FileHandle>,
         reply: ReplyAttr,
     ) -> Replied
-        ensures { IsAnswered own request.now (Call.GetAttr ino.0 (handle_number fh)) reply result }
+        ensures { IsAnswered own request.now (Call.GetAttr ino.0 (handle_number fh)) reply.id result }
     {
         defaults::getattr(reply)
     }
@@ -58,7 +58,7 @@ pub(crate) trait Probe {
         newname: &[u8],
         reply: ReplyEntry,
     ) -> Replied
-        ensures { IsAnswered own request.now (Call.Link ino.0 newparent.0 newname.now) reply result }
+        ensures { IsAnswered own request.now (Call.Link ino.0 newparent.0 newname.now) reply.id result }
     {
         defaults::link(reply)
     }
@@ -75,7 +75,7 @@ pub(crate) trait Probe {
         reply: ReplyData,
     ) -> Replied
         ensures { IsAnswered own request.now
-            (Call.Read ino.0 fh.0 offset size flags.0 (owner_number lock_owner)) reply result }
+            (Call.Read ino.0 fh.0 offset size flags.0 (owner_number lock_owner)) reply.id result }
     {
         defaults::read(reply)
     }
@@ -90,7 +90,7 @@ pub(crate) trait Probe {
         flags: PollFlags,
         reply: ReplyPoll,
     ) -> Replied
-        ensures { IsAnswered own request.now (Call.Poll ino.0 fh.0 ph.handle events.0 flags.0) reply result }
+        ensures { IsAnswered own request.now (Call.Poll ino.0 fh.0 ph.handle events.0 flags.0) reply.id result }
     {
         defaults::poll(reply)
     }

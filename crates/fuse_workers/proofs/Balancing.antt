@@ -11,7 +11,7 @@ use Rattle.std.proofs.lemmas.Option.{get_or_from_slice_get, slice_get_within}
 use Rattle.fuse_reply.specs.declared.out.Out.{Out}
 use Rattle.fuse_reply.specs.declared.out.Out.TheVariants.{Frame, Note, Deferred}
 use Rattle.fuse_reply.specs.declared.parcel.Parcel.{Parcel}
-use Rattle.fuse_reply.specs.declared.parcel.Parcel.TheVariants.{Prompt, Notice}
+use Rattle.fuse_reply.specs.declared.parcel.Parcel.TheVariants.{Prompt, Notice, Late}
 use Rattle.fuse_workers.specs.declared.event.Event.{Event}
 use Rattle.fuse_workers.specs.declared.event.Event.TheVariants.{Receive, Take, Answer, Push, Send, Own, Notify}
 use Rattle.fuse_workers.specs.declared.state.Hand.TheVariants.{Empty, Asked, Answered}
@@ -173,6 +173,11 @@ balanced_send s (Notice f) rest is b = record {
   each_once = λ number. omega (arith, b.each_once number, sum_first (on_parcel number) s.line rest (Notice f) is);
   hands = b.hands;
   line = All-rest ParcelKeepsNumber (Notice f) rest s.line is b.line;
+}
+balanced_send s (Late f) rest is b = record {
+  each_once = λ number. omega (arith, b.each_once number, sum_first (on_parcel number) s.line rest (Late f) is);
+  hands = b.hands;
+  line = All-rest ParcelKeepsNumber (Late f) rest s.line is b.line;
 }
 
 pub Happens-balanced : (s : State) (event : Event) (t : State) → Happens s event t → Balanced s → Balanced t

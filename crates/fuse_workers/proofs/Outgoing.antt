@@ -7,7 +7,7 @@ use Rattle.std.proofs.lemmas.Option.{none-some}
 use Rattle.fuse_reply.specs.declared.out.Out.{Out}
 use Rattle.fuse_reply.specs.declared.out.Out.TheVariants.{Frame, Note, Deferred}
 use Rattle.fuse_reply.specs.declared.parcel.Parcel.{Parcel}
-use Rattle.fuse_reply.specs.declared.parcel.Parcel.TheVariants.{Prompt, Notice}
+use Rattle.fuse_reply.specs.declared.parcel.Parcel.TheVariants.{Prompt, Notice, Late}
 use Rattle.fuse_workers.specs.declared.event.Event.{Event}
 use Rattle.fuse_workers.specs.declared.event.Event.TheVariants.{Receive, Take, Answer, Push, Send, Own, Notify}
 use Rattle.fuse_workers.specs.declared.state.Hand.{Hand}
@@ -50,6 +50,7 @@ module _ (owed : Owing) where
   abbrev ParcelOwed : (messages : List (List ℕ)) → Parcel → Type 0
   ParcelOwed messages (Prompt seq out) = IsOwed owed messages seq out
   ParcelOwed messages (Notice f) = Unit {0}
+  ParcelOwed messages (Late f) = Unit {0}
 
   abbrev SentOwed : (messages : List (List ℕ)) → SentOut → Type 0
   SentOwed messages o = IsOwed owed messages o.seq o.out
@@ -76,6 +77,7 @@ module _ (owed : Owing) where
   parcel_grown : (messages : List (List ℕ)) (m : List ℕ) (parcel : Parcel) → ParcelOwed messages parcel → ParcelOwed (messages ++ m ∷ []) parcel
   parcel_grown messages m (Prompt seq out) h = owed_grown messages m seq out h
   parcel_grown messages m (Notice f) h = tt
+  parcel_grown messages m (Late f) h = tt
 
   -- one message more was received
   faithful_grown : (s : State) (m : List ℕ) → Faithful s → Faithful (record s { received = s.received ++ m ∷ [] })
@@ -182,6 +184,7 @@ module _ (owed : Owing) where
     marks_owed = f.marks_owed;
   }
   faithful_went s (Notice frame) is_owed keeps f = f
+  faithful_went s (Late frame) is_owed keeps f = f
 
   faithful_send : (s : State) (first : Parcel) (rest : List Parcel) → s.line ≡ first ∷ rest → Balanced s → Faithful s
       → Faithful (went first (record s { line = rest }))

@@ -13,7 +13,7 @@ use Rattle.fuse_reply.specs.Parcel.{is_prompt}
 use Rattle.fuse_reply.specs.declared.out.Out.{Out}
 use Rattle.fuse_reply.specs.declared.out.Out.TheVariants.{Frame, Note, Deferred}
 use Rattle.fuse_reply.specs.declared.parcel.Parcel.{Parcel}
-use Rattle.fuse_reply.specs.declared.parcel.Parcel.TheVariants.{Prompt, Notice}
+use Rattle.fuse_reply.specs.declared.parcel.Parcel.TheVariants.{Prompt, Notice, Late}
 use Rattle.fuse_workers.specs.OneEach.{OneEach, Owing, number_of}
 use Rattle.fuse_workers.specs.Pairing.{InTurn, Pairs, Parts, numbered, outs_of}
 use Rattle.fuse_workers.specs.Progress.{IsPrompt}
@@ -113,17 +113,20 @@ pub outs_of-append : (parcels more : List Parcel) → outs_of (parcels ++ more) 
 outs_of-append [] more = refl
 outs_of-append (Prompt seq out ∷ parcels) more = ap (λ (l : List Out). out ∷ l) (outs_of-append parcels more)
 outs_of-append (Notice frame ∷ parcels) more = outs_of-append parcels more
+outs_of-append (Late frame ∷ parcels) more = outs_of-append parcels more
 
--- notices hold no outs
+-- notices hold no outs, nor do frames that come later
 pub outs_of-filtered : (parcels : List Parcel) → outs_of (filter is_prompt parcels) ≡ outs_of parcels
 outs_of-filtered [] = refl
 outs_of-filtered (Prompt seq out ∷ parcels) = ap (λ (l : List Out). out ∷ l) (outs_of-filtered parcels)
 outs_of-filtered (Notice frame ∷ parcels) = outs_of-filtered parcels
+outs_of-filtered (Late frame ∷ parcels) = outs_of-filtered parcels
 
 -- what answers is a prompt
 pub Answers-prompt : (owed : Owing) (asked : ℕ × List ℕ) (parcel : Parcel) → Answers owed asked parcel → is_prompt parcel ≡ true
 Answers-prompt owed asked (Prompt seq out) h = refl
 Answers-prompt owed asked (Notice frame) h = absurd h
+Answers-prompt owed asked (Late frame) h = absurd h
 
 -- what prompts answer is owed what they hold
 module _ (owed : Owing) where
@@ -134,6 +137,7 @@ module _ (owed : Owing) where
   out_owed : (asked : ℕ × List ℕ) (b a : List Parcel) (parcel : Parcel) → Answers owed asked parcel → OutOwed asked b a parcel
   out_owed asked b a (Prompt seq out) h = (out, outs_of-append b (Prompt seq out ∷ a), h.1)
   out_owed asked b a (Notice frame) h = absurd h
+  out_owed asked b a (Late frame) h = absurd h
 
   pub Pairs-outs : (asked : List (ℕ × List ℕ)) (parcels : List Parcel) → Pairs (Answers owed) asked parcels
       → Pairs (λ (p : ℕ × List ℕ) (o : Out). owed p.0 p.1 o) asked (outs_of parcels)

@@ -11,7 +11,7 @@ use Rattle.fuse_reply.specs.declared.out.OutEnd.{OutEnd}
 use Rattle.fuse_reply.specs.declared.out.OutEnd.TheVariants.{Written, Noted, Lost, Marked}
 use Rattle.fuse_reply.specs.Deliver.{Delivers, NoNotice}
 use Rattle.fuse_reply.specs.declared.parcel.Parcel.{Parcel}
-use Rattle.fuse_reply.specs.declared.parcel.Parcel.TheVariants.{Prompt, Notice}
+use Rattle.fuse_reply.specs.declared.parcel.Parcel.TheVariants.{Prompt, Notice, Late}
 use Rattle.fuse_workers.specs.Lines.{notices_in}
 use Rattle.fuse_workers.specs.Pairing.{Parts, outs_of}
 use Rattle.fuse_workers.specs.Progress.{Moves, OutletState, counting, progress}
@@ -118,6 +118,18 @@ Relays-one (Notice frame) a b sends = record {
   lost = [];
   parts = (refl, refl, refl, refl);
   moved = λ source unasked. Moves-notice sends.sending frame _ _ sends.in_range sends.aside sends.sent sends.counts refl;
+}
+Relays-one (Late frame) a b same = record {
+  sent = [];
+  notes = [];
+  marks = [];
+  lost = [];
+  parts = (refl, refl, refl, refl);
+  moved = λ source unasked. same-notices source unasked a b (Moves-none (record {
+    sink = ap (λ (o : OutletState). o.sink) same;
+    counts = ap (λ (o : OutletState). o.counts) same;
+    unasked = refl;
+  }));
 }
 
 -- the sender's pass, with one parcel more

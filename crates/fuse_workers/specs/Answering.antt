@@ -3,7 +3,7 @@ use Rattle.std.specs.Prelude.{◌≡◌, ◌==◌, ◌↔◌, ℕ, List, Bool, f
 use Rattle.fuse_request.specs.Header.{header}
 use Rattle.fuse_request.specs.Opcode.{FUSE_DESTROY}
 use Rattle.fuse_request.specs.declared.any_request.Header.{Header}
-use Rattle.fuse_reply.specs.declared.door.Door.{Door}
+use Rattle.fuse_reply.specs.Door.{DoorSeen}
 use Rattle.fuse_reply.specs.declared.door.NoDoor.{NoDoor}
 use Rattle.fuse_reply.specs.declared.door.NoDoor.TheVariants.{Shut}
 use Rattle.fuse_reply.specs.declared.out.Out.{Out}
@@ -15,11 +15,11 @@ abbrev pub IsRequest : List ℕ → Type 0
 IsRequest m = (h : Header) × (header m ≡ Ok h) × ((h.opcode == FUSE_DESTROY) ≡ false)
 
 -- there is no door, since no reply comes later, exactly where none may
-abbrev pub DoorFits : (defers : Bool) → Result Door NoDoor → Type 0
+abbrev pub DoorFits : (defers : Bool) → Result DoorSeen NoDoor → Type 0
 DoorFits defers door = (door ≡ Err Shut) ↔ (defers ≡ false)
 
 -- a mark comes only where there is a door, and stands for the message
-abbrev pub MayComeLater : Result Door NoDoor → (seq : ℕ) → (m : List ℕ) → Out → Type 0
+abbrev pub MayComeLater : Result DoorSeen NoDoor → (seq : ℕ) → (m : List ℕ) → Out → Type 0
 MayComeLater door seq m (Deferred number id) = IsOk door × StandsFor seq m (Deferred number id)
 MayComeLater door seq m (Frame f) = Unit {0}
 MayComeLater door seq m (Note id mark) = Unit {0}

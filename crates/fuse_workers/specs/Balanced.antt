@@ -4,7 +4,7 @@ use Rattle.std.specs.List.{All, sum_by}
 use Rattle.fuse_reply.specs.declared.out.Out.{Out}
 use Rattle.fuse_reply.specs.declared.out.Out.TheVariants.{Frame, Note, Deferred}
 use Rattle.fuse_reply.specs.declared.parcel.Parcel.{Parcel}
-use Rattle.fuse_reply.specs.declared.parcel.Parcel.TheVariants.{Prompt, Notice}
+use Rattle.fuse_reply.specs.declared.parcel.Parcel.TheVariants.{Prompt, Notice, Late}
 use Rattle.fuse_workers.specs.declared.state.Hand.{Hand}
 use Rattle.fuse_workers.specs.declared.state.Hand.TheVariants.{Empty, Asked, Answered}
 use Rattle.fuse_workers.specs.declared.state.State.{State}
@@ -23,6 +23,7 @@ in_hand number (Answered seq out) = once_if number seq
 abbrev pub on_parcel : (number : ℕ) → Parcel → ℕ
 on_parcel number (Prompt seq out) = once_if number seq
 on_parcel number (Notice f) = 0
+on_parcel number (Late f) = 0
 
 -- how often a number stands among what was sent and what comes later
 abbrev pub settled : (number : ℕ) → State → ℕ
@@ -47,6 +48,7 @@ HandKeepsNumber (Answered seq out) = KeepsNumber seq out
 abbrev pub ParcelKeepsNumber : Parcel → Type 0
 ParcelKeepsNumber (Prompt seq out) = KeepsNumber seq out
 ParcelKeepsNumber (Notice f) = Unit {0}
+ParcelKeepsNumber (Late f) = Unit {0}
 
 -- The numbers below the count of the messages received are, each once, those of jobs, hands, prompts on the line, what was sent and
 -- what comes later; and there is no other number. Each mark in a hand or on the line has its prompt's number.

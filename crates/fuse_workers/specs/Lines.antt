@@ -8,13 +8,14 @@ use Rattle.fuse_line.specs.declared.hand.Kind.TheVariants.{First}
 use Rattle.fuse_notify.specs.Queueing.{fresh_door}
 use Rattle.fuse_reply.specs.Parcel.{is_prompt}
 use Rattle.fuse_reply.specs.declared.parcel.Parcel.{Parcel}
-use Rattle.fuse_reply.specs.declared.parcel.Parcel.TheVariants.{Prompt, Notice}
+use Rattle.fuse_reply.specs.declared.parcel.Parcel.TheVariants.{Prompt, Notice, Late}
 use Rattle.fuse_workers.specs.declared.state.Job.{Job}
 
 -- the notices among these, in order
 abbrev pub notice_in : Parcel → List (List ℕ)
 notice_in (Notice frame) = frame ∷ []
 notice_in (Prompt seq out) = []
+notice_in (Late frame) = []
 
 abbrev pub notices_in : List Parcel → List (List ℕ)
 notices_in parcels = flat_map notice_in parcels

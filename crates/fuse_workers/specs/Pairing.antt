@@ -5,7 +5,7 @@ use Rattle.fuse_wire.specs.Sink.{Note as Noted}
 use Rattle.fuse_reply.specs.declared.out.Out.{Out}
 use Rattle.fuse_reply.specs.declared.out.Out.TheVariants.{Frame, Note, Deferred}
 use Rattle.fuse_reply.specs.declared.parcel.Parcel.{Parcel}
-use Rattle.fuse_reply.specs.declared.parcel.Parcel.TheVariants.{Prompt, Notice}
+use Rattle.fuse_reply.specs.declared.parcel.Parcel.TheVariants.{Prompt, Notice, Late}
 use Rattle.fuse_workers.specs.OneEach.{number_of}
 
 -- each item stands in it to the item at its own place of the other list, and there are no more
@@ -28,6 +28,7 @@ abbrev pub outs_of : List Parcel → List Out
 outs_of [] = []
 outs_of (Prompt seq out ∷ parcels) = out ∷ outs_of parcels
 outs_of (Notice frame ∷ parcels) = outs_of parcels
+outs_of (Late frame ∷ parcels) = outs_of parcels
 
 -- each out, in order, is the first frame that is left, or the first note, or the first mark, or the first of what was lost
 abbrev pub Parts : (outs : List Out) → (frames : List (List ℕ)) → (notes marks : List Noted) → (lost : List Out) → Type 0

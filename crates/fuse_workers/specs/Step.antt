@@ -6,7 +6,7 @@ use Rattle.fuse_request.specs.declared.any_request.Header.{Header}
 use Rattle.fuse_reply.specs.declared.out.Out.{Out}
 use Rattle.fuse_reply.specs.declared.out.Out.TheVariants.{Frame, Note, Deferred}
 use Rattle.fuse_reply.specs.declared.parcel.Parcel.{Parcel}
-use Rattle.fuse_reply.specs.declared.parcel.Parcel.TheVariants.{Prompt, Notice}
+use Rattle.fuse_reply.specs.declared.parcel.Parcel.TheVariants.{Prompt, Notice, Late}
 use Rattle.fuse_workers.specs.declared.event.Event.{Event}
 use Rattle.fuse_workers.specs.declared.event.Event.TheVariants.{Receive, Take, Answer, Push, Send, Own, Notify}
 use Rattle.fuse_workers.specs.declared.state.TheConstants.{LINE_PLACES}
@@ -38,12 +38,14 @@ job seq m = record { seq = seq; message = m }
 abbrev pub with_hand : State → (worker : ℕ) → Hand → State
 with_hand s worker hand = record s { hands = slice_set s.hands worker hand }
 
--- what sending a parcel makes of a state: what goes out for a message was sent, or marks that the reply comes later
+-- what sending a parcel makes of a state: what goes out for a message was sent, or marks that the reply comes later; a frame that
+-- comes later is dropped
 abbrev pub went : Parcel → State → State
 went (Prompt seq (Deferred number id)) s = record s { marks = s.marks ++ record { seq = number; id = id } ∷ [] }
 went (Prompt seq (Frame f)) s = record s { sent = s.sent ++ record { seq = seq; out = Frame f } ∷ [] }
 went (Prompt seq (Note id mark)) s = record s { sent = s.sent ++ record { seq = seq; out = Note id mark } ∷ [] }
 went (Notice f) s = s
+went (Late f) s = s
 
 -- The event may happen in the first state, and makes the other of it.
 abbrev pub Happens : State → Event → State → Type 0

@@ -5,7 +5,7 @@ use Rattle.std.specs.List.Sorted.{IsPermutation}
 use Rattle.fuse_line.specs.declared.hand.Hand.{Hand}
 use Rattle.fuse_line.specs.declared.hand.Kind.TheVariants.{First, Inner}
 use Rattle.fuse_reply.specs.declared.parcel.Parcel.{Parcel}
-use Rattle.fuse_reply.specs.declared.parcel.Parcel.TheVariants.{Prompt, Notice}
+use Rattle.fuse_reply.specs.declared.parcel.Parcel.TheVariants.{Prompt, Notice, Late}
 use Rattle.fuse_workers.specs.declared.state.Job.{Job}
 use Rattle.fuse_workers.specs.Incoming.{IsBroken}
 use Rattle.fuse_workers.specs.OneEach.{Owing}
@@ -24,10 +24,11 @@ at_once owed seq m out = owed seq m out × IsPrompt out × ¬ (IsBroken m)
 abbrev pub pair_of : Job → ℕ × List ℕ
 pair_of job = (job.seq, job.message)
 
--- a prompt of that number with what is owed to that message; a notice answers nothing
+-- a prompt of that number with what is owed to that message; a notice answers nothing, nor does a frame that comes later
 abbrev pub Answers : Owing → ℕ × List ℕ → Parcel → Type 0
 Answers owed asked (Prompt seq out) = (seq ≡ asked.0) × owed asked.0 asked.1 out
 Answers owed asked (Notice frame) = ⊥
+Answers owed asked (Late frame) = ⊥
 
 -- a worker's passes: the prompts that it pushed answer, in turn, the jobs that it took, and it pushed nothing else
 pub record IsServed (owed : Owing) (jobs : Hand Job) (frames : Hand Parcel) : Type 0 where

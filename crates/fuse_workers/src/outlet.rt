@@ -51,13 +51,15 @@ impl<K: Sink> Outlet<K> {
         let _ = notice.send(&mut self.sink);
     }
 
-    /// Hands a parcel to the sink.
+    /// Hands a parcel to the sink, but for a frame that comes later. In a run that has no replies which come later no
+    /// mark was sent that such a frame could stand for, so that it is one of another run, and is dropped.
     pub(crate) fn deliver_parcel(&mut self, parcel: Parcel)
         ensures { SendsParcel parcel self.old self.new }
     {
         match parcel {
             Parcel::Prompt(_, out) => self.deliver(out),
             Parcel::Notice(notice) => self.pass_on(notice),
+            Parcel::Late(_) => {}
         }
     }
 
@@ -72,7 +74,7 @@ impl<K: Sink> Outlet<K> {
     {
         for _ in rt.forever() {
             match frames.next(rt) {
-                Some(notice) => self.pass_on(notice),
+                Some(parcel) => self.deliver_parcel(parcel),
                 None => return,
             }
         }

@@ -1,14 +1,14 @@
 // A line of a run, with its first pass.
-ghost use Rattle.std.specs.Prelude.{◌≡◌, [], IfOk, MatchOption};
+ghost use Rattle.std.specs.Prelude.{◌≡◌, [], false, IfOk, MatchOption};
 ghost use Rattle.fuse_line.specs.Hand.{hand, with_taken};
 ghost use Rattle.fuse_line.specs.declared.hand.Kind.TheVariants.{First};
 ghost use Rattle.fuse_notify.specs.Queueing.{fresh_door};
-ghost use Rattle.fuse_reply.specs.declared.parcel.Parcel.TheVariants.{Notice};
+ghost use Rattle.fuse_reply.specs.Parcel.{is_prompt};
 
 use crate::LINE_PLACES;
 use fuse_line::{Class, Line, Pass};
 use fuse_notify::Notifier;
-use fuse_reply::{NoticeFrame, Parcel};
+use fuse_reply::Parcel;
 use fuse_wire::NoMemory;
 use std::alloc::Global;
 use std::marker::Model;
@@ -66,17 +66,14 @@ impl RunLine<Parcel> {
         self.line.is_empty(&mut self.pass)
     }
 
-    /// Takes the notice that waits longest, or nothing where none waits.
-    pub(crate) fn next<R: Wait>(&mut self, rt: &R) -> Option<NoticeFrame>
+    /// Takes the parcel that waits longest, or nothing where none waits. It is no prompt, since nobody has a pass that
+    /// could push one.
+    pub(crate) fn next<R: Wait>(&mut self, rt: &R) -> Option<Parcel>
         ensures { MatchOption result
             (self.new ≡ self.old)
-            (λ notice. self.new ≡ record self.old { hand = with_taken self.old.hand (Notice notice) }) }
+            (λ parcel. (self.new ≡ record self.old { hand = with_taken self.old.hand parcel })
+            × (is_prompt parcel ≡ false)) }
     {
-        match self.line.pop(rt, &mut self.pass) {
-            Some(Parcel::Notice(notice)) => Some(notice),
-            // Nobody has a pass that could push one.
-            Some(Parcel::Prompt(_, _)) => unreachable!(),
-            None => None,
-        }
+        self.line.pop(rt, &mut self.pass)
     }
 }

@@ -186,7 +186,7 @@ fn leave(state: State, parcel: Parcel) -> Result<State, NoMemory>
 {
     match parcel {
         Parcel::Prompt(seq, out) => settle(state, seq, out),
-        Parcel::Notice(_) => Ok(state),
+        Parcel::Notice(_) | Parcel::Late(_) => Ok(state),
     }
 }
 

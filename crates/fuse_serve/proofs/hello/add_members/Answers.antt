@@ -1,6 +1,7 @@
 use Rattle.std.proofs.Common.{◌≡◌, ◌+◌, ◌≤◌, ◌++◌, ◌∙◌, ℕ, Bool, true, false, List, Ok, ap, sym, subst, refl, arith, length, drop}
 use Rattle.fuse_wire.specs.declared.no_memory.NoMemory.{NoMemory}
-use Rattle.fuse_reply.specs.Listing.{Adds, Fits, Listing, dirent, listing}
+use Rattle.fuse_reply.specs.Adding.{Adds, Listing}
+use Rattle.fuse_reply.specs.Listing.{Fits, dirent, listing}
 use Rattle.fuse_serve.specs.Tree.{fitting, member, members}
 use Rattle.fuse_serve.proofs.Members.{joined-full, joined-next, joined-start, short-from, short-next}
 use Rattle.fuse_serve.proofs.hello.add_members.Goals as goal

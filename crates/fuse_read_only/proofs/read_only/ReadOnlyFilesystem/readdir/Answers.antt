@@ -4,7 +4,8 @@ use Rattle.fuse_wire.specs.declared.file_attr.FileAttr.{FileAttr}
 use Rattle.fuse_request.specs.Call.Call.{ReadDir}
 use Rattle.fuse_reply.specs.Answer.Answer.{Directory, Error}
 use Rattle.fuse_reply.specs.Frame.{reply}
-use Rattle.fuse_reply.specs.Listing.{DirEntry, Listing, listing}
+use Rattle.fuse_reply.specs.Adding.{Listing}
+use Rattle.fuse_reply.specs.Listing.{DirEntry, listing}
 use Rattle.fuse_reply.specs.declared.out.Out.TheVariants.{Frame}
 use Rattle.fuse_session.proofs.Answering.{Answered-error, Answered-frame}
 use Rattle.fuse_read_only.specs.ReadOnly.{IsLongListing, MayHave, listed, listing_of}

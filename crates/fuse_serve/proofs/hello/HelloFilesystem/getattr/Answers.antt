@@ -11,7 +11,7 @@ pub returns : goal.returns
 returns c =
     Answered-frame (Attr 1000000000 c.in-Some.found) tt (lit< tt, c.attr.ensures.answer.1)
     (ap (λ (found : Option FileAttr). attributes found) (sym c.node_attr.ensures ∙ c.in-Some.is))
-    (c.attr.ensures.reply ∙ ap (λ (valid : ℕ). Frame (reply c.args.reply (Attr valid c.in-Some.found))) c.a_second.ensures)
+    (c.attr.ensures.reply ∙ ap (λ (valid : ℕ). Frame (reply c.args.reply.id (Attr valid c.in-Some.found))) c.a_second.ensures)
 
 pub returns-in_default : goal.returns-in_default
 returns-in_default c =

@@ -27,7 +27,7 @@ returns c =
     Answered-frame (Entry 1000000000 1000000000 0 c.in-Some.found) tt (lit< tt, lit< tt, lit< tt, c.entry.ensures.answer.3)
     (ap (λ (b : Bool). entry (if b then named c.args.name.now else None)) (is-true (c.args.parent.0 == 1) c.if-ne.ensures)
     ∙ ap (λ (found : Option FileAttr). entry found) (sym c.named.ensures ∙ c.in-Some.is))
-    (c.entry.ensures.reply ∙ ap (λ (valid : ℕ). Frame (reply c.args.reply (Entry valid valid 0 c.in-Some.found))) c.a_second.ensures)
+    (c.entry.ensures.reply ∙ ap (λ (valid : ℕ). Frame (reply c.args.reply.id (Entry valid valid 0 c.in-Some.found))) c.a_second.ensures)
 
 pub returns-in_default : goal.returns-in_default
 returns-in_default c =

@@ -3,7 +3,8 @@ use Rattle.std.specs.Prelude.{◌==◌, if◌then◌else◌}
 use Rattle.fuse_wire.specs.ErrorNumbers.{ENOENT}
 use Rattle.fuse_reply.specs.Answer.Answer.{Directory, Error}
 use Rattle.fuse_reply.specs.Frame.{reply}
-use Rattle.fuse_reply.specs.Listing.{DirEntry, Listing, listing}
+use Rattle.fuse_reply.specs.Adding.{Listing}
+use Rattle.fuse_reply.specs.Listing.{DirEntry, listing}
 use Rattle.fuse_reply.specs.declared.out.Out.TheVariants.{Frame}
 use Rattle.fuse_session.proofs.Answering.{Answered-frame}
 use Rattle.fuse_serve.specs.Tree.{fitting, members}

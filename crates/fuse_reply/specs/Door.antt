@@ -1,0 +1,24 @@
+-- What contracts see of a door, and what goes through it.
+use Rattle.std.specs.Prelude.{◌≡◌, ℕ, List, Result, Ok, Err}
+use Rattle.fuse_line.specs.Seen.{Seen}
+use Rattle.fuse_reply.specs.EndMark.{MarkSeen}
+use Rattle.fuse_reply.specs.Late.{late}
+use Rattle.fuse_reply.specs.Queueing.{with_parcel, FoundFull}
+use Rattle.fuse_reply.specs.declared.parcel.Parcel.{Parcel}
+use Rattle.fuse_reply.specs.declared.parcel.Parcel.TheVariants.{Late}
+
+-- a door: the number of the message, a pass of the line, and a share of the run's end mark
+pub record DoorSeen : Type 0 where
+  pub seq : ℕ
+  pub pass : Seen Parcel
+  pub mark : MarkSeen
+
+-- just this frame was queued, with the door's number; or it came back, and nothing was, since the line was full
+abbrev pub PushesLate : Result (Unit {0}) (List ℕ) → (id : ℕ) → (frame : List ℕ) → (before after : DoorSeen) → Type 0
+PushesLate (Ok done) id frame before after = after ≡ record before { pass = with_parcel before.pass (Late (late before.seq id frame)) }
+PushesLate (Err back) id frame before after = (back ≡ frame) × (after ≡ before) × FoundFull before.pass
+
+-- what has read the mark keeps all else
+abbrev pub LooksAt : (before after : DoorSeen) → Type 0
+LooksAt before after =
+    (after.seq ≡ before.seq) × (after.pass ≡ before.pass) × (after.mark.name ≡ before.mark.name) × (after.mark.set ≡ before.mark.set)

@@ -1,0 +1,76 @@
+// What is done with the token of a reply that comes later.
+ghost use Rattle.std.specs.Prelude.{◌≡◌, false, IfErr};
+ghost use Rattle.fuse_reply.specs.Late.{IsFrameFor};
+ghost use Rattle.fuse_reply.specs.Refusing.{GivesBack};
+
+use crate::later::{Held, LateRefusal, Later};
+use crate::{EndNote, Out, Replied};
+use std::sync::Wait;
+
+impl<R: Held> Later<R> {
+    /// The reply, which can't be put off once more, and the token to send it by.
+    pub fn reply(self) -> (R, Later<()>)
+        ensures reply { result.0 ≡ self.reply }
+        ensures id { R.id_or result.0 result.1.id.0 ≡ result.1.id.0 }
+        ensures prompt { R.may_wait result.0 ≡ false }
+        ensures token { (result.1.id ≡ self.id) × (result.1.door ≡ self.door) }
+    {
+        let Later { id, reply, door } = self;
+        let token = Later {
+            id,
+            reply: (),
+            door,
+        };
+        (reply, token)
+    }
+}
+
+impl Later<()> {
+    /// Queues the frame that the reply was spent into, for whoever sends. Where its own push finds the line full, and
+    /// where the run has ended, all comes back.
+    pub fn send<R: Wait>(self, rt: &R, replied: Replied) -> Result<(), LateRefusal>
+        requires { IsFrameFor self.id.0 replied }
+        ensures { IfErr result (λ refusal. GivesBack self.id.0 self.door replied refusal) }
+    {
+        let Later {
+            id,
+            reply: (),
+            mut door,
+        } = self;
+        if let Some(note) = door.note() {
+            let token = Later {
+                id,
+                reply: (),
+                door,
+            };
+            return Err(LateRefusal::Closed(token, replied, note));
+        }
+        let Out::Frame(frame) = replied.into_out() else {
+            unreachable!()
+        };
+        match door.push(rt, id, frame.into_packed()) {
+            Ok(()) => Ok(()),
+            Err(packed) => {
+                let token = Later {
+                    id,
+                    reply: (),
+                    door,
+                };
+                Err(LateRefusal::Full(token, Replied::by(packed)))
+            }
+        }
+    }
+
+    /// Spends the token and what its reply was spent into, once the run has ended: nothing is sent.
+    pub fn retire(self, replied: Replied, note: &EndNote)
+        requires reply { IsFrameFor self.id.0 replied }
+        requires ended { note.now.name ≡ self.door.mark.name }
+    {
+        let Later {
+            id: _,
+            reply: (),
+            door: _,
+        } = self;
+        let _out = replied.into_out();
+    }
+}
