@@ -7,9 +7,10 @@ ghost use Rattle.fuse_reply.specs.Late.{IsFrameFor};
 use crate::tests::ID;
 use fuse_line::{Class, Line, Pass};
 use fuse_reply::{
-    Door, EndMark, LateRefusal, Later, NoDoor, Out, Parcel, Replied, ReplyDirectory, ReplyEmpty, Seal,
+    Door, EndMark, LateRefusal, Later, NoDoor, Out, Parcel, Replied, ReplyDirectory, ReplyEmpty,
+    Seal,
 };
-use fuse_wire::{FileType, INodeNo, NoMemory};
+use fuse_wire::{Errno, FileType, INodeNo, NoMemory};
 use std::alloc::Global;
 use std::sync::{Arc, Wait};
 
@@ -126,7 +127,10 @@ fn refuse<R: Wait>(
 fn a_reply_without_a_door_comes_back(rt: HostRuntime) {
     let alloc = rt.alloc();
     let shut = put_off(&rt, ReplyEmpty::new(alloc, ID));
-    let starved = put_off(&rt, ReplyEmpty::new(alloc, ID).with_door(Err(NoDoor::Starved)));
+    let starved = put_off(
+        &rt,
+        ReplyEmpty::new(alloc, ID).with_door(Err(NoDoor::Starved)),
+    );
     assert!(rt; matches!(&shut, Err(NoDoor::Shut)) && matches!(&starved, Err(NoDoor::Starved)));
 }
 
@@ -141,12 +145,19 @@ fn a_late_frame_is_queued_under_its_number(rt: HostRuntime) {
         door,
     } = desk_of(alloc, 2).expect(&rt, "there is memory");
     let out = put_off(&rt, ReplyEmpty::new(alloc, ID).with_door(Ok(door)));
-    assert!(rt; matches!(&out, Ok(Out::Deferred(SEQ, ID))));
+    let told = match out {
+        Ok(Out::Deferred(seq, id)) => Some((seq, id)),
+        _ => None,
+    };
+    assert_eq!(rt; told, Some((SEQ, ID)));
     let Some(Parcel::Late(frame)) = line.pop(&rt, &mut first) else {
         panic!(rt; "a late frame waits")
     };
     frame.is_reply();
-    assert_eq!(rt; (frame.seq(), frame.id(), Parcel::Late(frame).inner()), (SEQ, ID, false));
+    assert_eq!(rt;
+        (frame.seq(), frame.id(), Parcel::Late(frame).inner()),
+        (SEQ, ID, false)
+    );
 }
 
 #[test]
@@ -167,7 +178,7 @@ fn a_full_line_and_the_end_of_a_run_refuse_it(rt: HostRuntime) {
 }
 
 #[test]
-fn a_listing_keeps_its_entries_while_it_is_put_off(rt: HostRuntime) {
+fn a_listing_is_put_off_with_its_entries(rt: HostRuntime) {
     let alloc = rt.alloc();
     let Desk {
         line,
@@ -182,7 +193,7 @@ fn a_listing_keeps_its_entries_while_it_is_put_off(rt: HostRuntime) {
         Ok((replied, later)) => {
             let _out = replied.into_out();
             let (reply, token) = later.reply();
-            let _ = settle(&rt, token, reply.ok());
+            let _ = settle(&rt, token, reply.error(Errno::EINTR));
         }
         Err((reply, _)) => {
             let _out = reply.ok().into_out();
