@@ -28,14 +28,14 @@ use Rattle.fuse_serve.specs.declared.hello.Hello.{Hello}
 use Rattle.fuse_serve.proofs.Conversing.{AcceptsAll-tree}
 
 -- the field of the length
-size_field : (opcode id node : ℕ) (rest : List ℕ) → length rest ≤ 64 → number (message opcode id node rest) 0 4 ≡ 40 + length rest
+pub size_field : (opcode id node : ℕ) (rest : List ℕ) → length rest ≤ 64 → number (message opcode id node rest) 0 4 ≡ 40 + length rest
 unfolding message
 size_field opcode id node rest short =
     number-to_le_bytes_4 (40 + length rest)
     (to_le_bytes w32 opcode ++ to_le_bytes w64 id ++ to_le_bytes w64 node ++ replicate 16 0 ++ rest) (omega arith)
 
 -- the field of the opcode
-opcode_field : (opcode id node : ℕ) (rest : List ℕ) → opcode < 2 ^ 32 → number (message opcode id node rest) 4 4 ≡ opcode
+pub opcode_field : (opcode id node : ℕ) (rest : List ℕ) → opcode < 2 ^ 32 → number (message opcode id node rest) 4 4 ≡ opcode
 unfolding message
 opcode_field opcode id node rest fits =
     number-append_right (to_le_bytes w32 (40 + length rest))
@@ -61,7 +61,7 @@ good_header m itself there =
     (ShortReadHeader (length m)) (ShortRead (length m) (number m 0 4)) InsufficientData (header_fields m)
     (le-ltb (length m) 40 (omega (arith, itself, there))) (le-ltb (length m) (number m 0 4) there) (le-ltb (number m 0 4) 40 itself)
 
-good_message : (opcode id node : ℕ) (rest : List ℕ) → length rest ≤ 64
+pub good_message : (opcode id node : ℕ) (rest : List ℕ) → length rest ≤ 64
     → header (message opcode id node rest) ≡ Ok (header_fields (message opcode id node rest))
 good_message opcode id node rest short =
     good_header (message opcode id node rest) (omega (arith, size_field opcode id node rest short))
@@ -83,11 +83,11 @@ goes : (opcode id node : ℕ) (rest : List ℕ) → length rest ≤ 64 → opcod
 goes opcode id node rest short fits other =
     (incoming_message opcode id node rest short fits ∙ other, omega (arith, whole_length opcode id node rest))
 
-read_length : (offset size : ℕ) → length (read_body offset size) ≡ 40
+pub read_length : (offset size : ℕ) → length (read_body offset size) ≡ 40
 unfolding read_body
 read_length offset size = refl
 
-write_length : (bytes : List ℕ) → length (write_body bytes) ≡ 40 + length bytes
+pub write_length : (bytes : List ℕ) → length (write_body bytes) ≡ 40 + length bytes
 unfolding write_body
 write_length bytes = omega arith
 
@@ -121,7 +121,7 @@ request-goes id v w = by_tests (v % 8 == 0) (v % 8 == 1) (v % 8 == 2) (v % 8 == 
 pub init-goes : Goes init
 init-goes = goes FUSE_INIT 1 0 (init_body 7 40 131072) (omega (arith, init_length 7 40 131072)) (omega arith) refl
 
-All-map : {A : Type 0} (P : List ℕ → Type 0) (f : A → List ℕ) (xs : List A) → ((x : A) → P (f x)) → AllByRecursion P (map f xs)
+pub All-map : {A : Type 0} (P : List ℕ → Type 0) (f : A → List ℕ) (xs : List A) → ((x : A) → P (f x)) → AllByRecursion P (map f xs)
 All-map P f [] each = tt
 All-map P f (x ∷ xs) each = (each x, All-map P f xs each)
 
@@ -170,7 +170,7 @@ init-decodes : operation (header_fields init).opcode (body init)
 unfolding message init_body number decoding.init_to_bmap
 init-decodes = refl
 
-init-is : IsInit init (record { major = 7; minor = 40; max_readahead = 131072; flags = 0; flags2 = 0 })
+pub init-is : IsInit init (record { major = 7; minor = 40; max_readahead = 131072; flags = 0; flags2 = 0 })
 init-is = record {
   head = header_fields init;
   good = good_message FUSE_INIT 1 0 (init_body 7 40 131072) (omega (arith, init_length 7 40 131072));

@@ -88,6 +88,15 @@ Loads form exit output output' =
     ⊎ ((exit ≡ 9) × (output' ≡ output))
     ⊎ ((exit ≡ 10) × (form.threads ≡ 0) × (output' ≡ output))
 
+-- these forms name the same messages, whatever their numbers of threads
+abbrev pub SameStream : LoadForm → LoadForm → Type 0
+SameStream form other = (form.seed ≡ other.seed) × (form.count ≡ other.count)
+
+-- whichever summary the same messages have, on however many threads they were served, its line was written
+abbrev pub WritesOneLine : LoadForm → (output output' : ByteSinkState) → Type 0
+WritesOneLine form output output' =
+    (other : LoadForm) (summary : Summary) → SameStream form other → Summarizes other summary → WritesAll true (line summary) output output'
+
 -- what a source of these messages, which never fails, tells
 abbrev pub messages_told : List (List ℕ) → SourceState
 messages_told left = record { turns = Some left; faults = 0 }

@@ -14,6 +14,7 @@ mod generator;
 #[cfg(test)]
 mod generator_tests;
 mod hello;
+mod laws;
 mod load;
 #[cfg(test)]
 mod load_tests;

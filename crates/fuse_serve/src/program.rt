@@ -2,7 +2,7 @@
 ghost use Rattle.std.specs.Prelude.{◌≡◌, ◌≢◌, ◌↔◌, ◌⊎◌, ◌<◌, map, IfSome};
 ghost use Rattle.fuse_serve.specs.Form.{IsNoForm, form_of, gen_form_of, load_form_of};
 ghost use Rattle.fuse_serve.specs.Generated.{Generates};
-ghost use Rattle.fuse_serve.specs.Load.{Loads};
+ghost use Rattle.fuse_serve.specs.Load.{Loads, WritesOneLine};
 ghost use Rattle.fuse_serve.specs.Program.{ByteExchange, EachAnswered, InputWell, Still};
 ghost use Rattle.fuse_serve.specs.Status.{IsExit, IsSessionStatus};
 
@@ -149,6 +149,10 @@ pub fn serve<R: Threads + Wait + AllocGlobal + Sync, I: ByteSource, O: ByteSink 
     // For `load`: nothing is read, and what is written is the line of what the stream comes to, or a part: see `Loads`.
     ensures loaded { IfSome (load_form_of (map (λ w. w.now) words.now)) (λ form.
         (result.input ≡ input) × Loads form result.status (O.told output) (O.told result.output)) }
+
+    // With 0 that line is the one that the stream has, on however many threads it is served: see `WritesOneLine`.
+    ensures one_line { result.status ≡ 0 → IfSome (load_form_of (map (λ w. w.now) words.now)) (λ form.
+        WritesOneLine form (O.told output) (O.told result.output)) }
 
     // Where no thread is to serve it, nothing is written.
     ensures unserved { result.status ≡ 10 → IfSome (load_form_of (map (λ w. w.now) words.now)) (λ form.
