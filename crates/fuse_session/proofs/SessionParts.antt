@@ -1,5 +1,5 @@
 -- A session from its two parts, the one that opened it and the one that ran it.
-use Rattle.std.proofs.Common.{◌≡◌, ◌∙◌, ◌++◌, ℕ, List, [], Option, Some, Ok, Err, inl, inr, refl, sym, ap, subst, map, append_assoc}
+use Rattle.std.proofs.Common.{◌≡◌, ◌≢◌, ◌↔◌, ◌∙◌, ◌++◌, ℕ, List, [], Option, Some, Ok, Err, inl, inr, refl, sym, ap, subst, map, append_assoc}
 use Rattle.std.proofs.lemmas.List.{map-append}
 use Rattle.fuse_wire.specs.Source.{SourceState, message}
 use Rattle.fuse_wire.specs.Sink.{SinkState}
@@ -12,8 +12,9 @@ use Rattle.fuse_session.specs.Owed.{Owed}
 use Rattle.fuse_workers.specs.OneEach.{Accounting, InOrder, Owing}
 use Rattle.fuse_workers.specs.Progress.{Progress, nothing_yet, progress}
 use Rattle.fuse_session.specs.Promise.{Promise}
-use Rattle.fuse_session.specs.Session.{Ends, IsOpened, Opened, OpensNone, Ran, setup_for}
+use Rattle.fuse_session.specs.Session.{Ends, EndsRun, IsOpened, Opened, OpensNone, Ran, setup_for}
 use Rattle.fuse_session.specs.SessionEnd.{handshake_error, run_outcome}
+use Rattle.fuse_session.specs.declared.error.SessionError.TheVariants.{Threads}
 use Rattle.fuse_workers.specs.declared.end.End.{End}
 use Rattle.fuse_workers.specs.declared.end.End.TheVariants.{Gone, Destroyed, Broken, Failed}
 use Rattle.fuse_config.specs.declared.session_acl.SessionACL.{SessionACL}
@@ -143,6 +144,40 @@ Ok-from_run promise session fs' outcome source' sink' counts ran well =
     by_end (inr some) =
         some.1.1 ∙ Ok-from_end (Accounted session.threads (Owed promise session.filesystem session.acl session.owner)) some.1.0 session.progress (progress source' sink' counts ran.unasked) well.turns some.1.2 well.told well.good
         well.unfailing
+
+ends_run-outcome : (end : End) → EndsRun (run_outcome end)
+ends_run-outcome Gone = tt
+ends_run-outcome Destroyed = tt
+ends_run-outcome (Broken e) = (e, refl)
+ends_run-outcome Failed = tt
+
+-- the outcome of a run is one of few
+pub EndsRun-ran : {F : Type 0} {promise : Promise F} {session : Opened F} {fs' : F} {outcome : Outcome} {source' : SourceState} {sink' : SinkState}
+    {counts : Transcript} → Ran promise session fs' outcome source' sink' counts → EndsRun outcome
+EndsRun-ran {F} {promise} {session} {fs'} {outcome} {source'} {sink'} {counts} ran =
+    by_end ran.ends
+  where
+    by_end : Ends promise session.filesystem session.acl session.owner session.threads outcome session.progress
+        (progress source' sink' counts ran.unasked) → EndsRun outcome
+    by_end (inl none) = subst (λ (o : Outcome). EndsRun o) (sym none.1) tt
+    by_end (inr some) = subst (λ (o : Outcome). EndsRun o) (sym some.1.1) (ends_run-outcome some.1.0)
+
+not_threads-outcome : (end : End) → run_outcome end ≢ Err Threads
+not_threads-outcome Gone is = cc
+not_threads-outcome Destroyed is = cc
+not_threads-outcome (Broken e) is = cc
+not_threads-outcome Failed is = cc
+
+-- and it is that no thread is to serve exactly where their number is 0
+pub Threads-ran : {F : Type 0} {promise : Promise F} {session : Opened F} {fs' : F} {outcome : Outcome} {source' : SourceState} {sink' : SinkState}
+    {counts : Transcript} → Ran promise session fs' outcome source' sink' counts → (outcome ≡ Err Threads) ↔ (session.threads ≡ Some 0)
+Threads-ran {F} {promise} {session} {fs'} {outcome} {source'} {sink'} {counts} ran =
+    by_end ran.ends
+  where
+    by_end : Ends promise session.filesystem session.acl session.owner session.threads outcome session.progress
+        (progress source' sink' counts ran.unasked) → (outcome ≡ Err Threads) ↔ (session.threads ≡ Some 0)
+    by_end (inl none) = (λ _. none.0, λ _. none.1)
+    by_end (inr some) = (λ is. absurd (not_threads-outcome some.1.0 (sym some.1.1 ∙ is)), λ is. absurd (some.0 is))
 
 -- the outcome of a handshake that a message ended
 pub opens_none-refused : (e : HandshakeError) → OpensNone (Err (handshake_error e))

@@ -1,6 +1,7 @@
 -- Starting sessions in the background.
-use Rattle.std.specs.Prelude.{ℕ}
+use Rattle.std.specs.Prelude.{◌≡◌, ℕ, Result, Err}
 use Rattle.fuse_session.specs.Session.{Opened}
+use Rattle.fuse_session.specs.Spawned.{CountsRefusal, StartsInline}
 use Rattle.fuse_session.specs.declared.ended.Ended.{Ended as End}
 use Rattle.fuse_session.specs.declared.background.SpawnError.{SpawnError}
 use Rattle.fuse_session.specs.declared.background.SpawnError.TheVariants as spawn
@@ -11,6 +12,21 @@ use Rattle.fuse_session.specs.declared.spawner.Spawner.TheVariants as spawner
 abbrev pub refused_by : Spawner → ℕ
 refused_by (spawner.Thread threads) = threads.refused
 refused_by (spawner.Inline inline) = inline.refused
+
+-- a spawner stays of its kind, and one that runs sessions at once refuses exactly the starts that are listed
+abbrev pub StartsByItsKind : {T E : Type 0} → Result T E → (before after : Spawner) → Type 0
+StartsByItsKind result (spawner.Thread before) (spawner.Thread after) = Unit {0}
+StartsByItsKind result (spawner.Inline before) (spawner.Inline after) = StartsInline result before after
+StartsByItsKind result before after = ⊥
+
+-- a spawner was to start a session: it counts that it refused, or else its count is what it was
+abbrev pub StartsOne : {T E : Type 0} → Result T E → (before after : Spawner) → Type 0
+StartsOne result before after = CountsRefusal result (refused_by before) (refused_by after) × StartsByItsKind result before after
+
+-- a session that was opened was to be started; where none was, the spawner is as it was
+abbrev pub StartsOpened : {B F S K : Type 0} → Result B (SpawnError F S K) → (before after : Spawner) → Type 0
+StartsOpened (Err (spawn.Ended e)) before after = after ≡ before
+StartsOpened result before after = StartsOne result before after
 
 -- this holds of the end of a session that was not opened
 abbrev pub HasEnded : {F S K : Type 0} → (End F S K → Type 0) → SpawnError F S K → Type 0

@@ -6,7 +6,7 @@ ghost use Rattle.fuse_session.specs.Exchange.{Closed, Mounted, setup};
 ghost use Rattle.fuse_session.specs.Headline.{Headline, Lossless};
 ghost use Rattle.fuse_session.specs.Refused.{IsUntouched, OfOptions, OptionsWell, RefusedAs, Untouched};
 ghost use Rattle.fuse_session.specs.Session.{EndsRun, IsOpened, OpensNone, Ran, Serves, setup_for};
-ghost use Rattle.fuse_session.specs.Spawning.{HasEnded, IfEnded, IfRefused, refused_by};
+ghost use Rattle.fuse_session.specs.Spawning.{HasEnded, IfEnded, IfRefused, StartsOpened, refused_by};
 ghost use Rattle.fuse_wire.specs.Faults.{Rose};
 ghost use Rattle.fuse_wire.specs.Sink.{SinkState};
 ghost use Rattle.fuse_wire.specs.Source.{SourceState};
@@ -24,20 +24,15 @@ use std::thread::Threads;
 /// started.
 pub struct BackgroundSession<FS: Filesystem, S: Source, K: Sink> {
     pub(crate) running: Running<FS, S, K>,
-    pub(crate) notifier: Option<Notifier>,
 }
 
 impl<FS: Filesystem, S: Source, K: Sink> Model for BackgroundSession<FS, S, K> {
-    ghost use Rattle.std.specs.Prelude.{◌≡◌, IfSome};
-    ghost use Rattle.fuse_notify.specs.Queueing.{fresh_door};
     ghost use Rattle.fuse_session.specs.Session.{Opened};
     ghost use Rattle.fuse_session.specs.Spawned.{started};
 
     ghost Value = { Opened FS };
 
     ghost view = { λ b. started b.running };
-
-    ghost invariant = { λ b. IfSome b.notifier (λ n. n ≡ fresh_door (started b.running).line) };
 }
 
 impl<FS: Filesystem, S: Source, K: Sink + Send> BackgroundSession<FS, S, K> {
@@ -61,11 +56,14 @@ impl<FS: Filesystem, S: Source, K: Sink + Send> BackgroundSession<FS, S, K> {
 
         // It ends well where nothing is amiss.
         ensures complete { RunWell self (S.told result.source) → result.outcome ≡ Ok tt }
+
+        // No thread served exactly where their number was 0.
+        ensures threads { (result.outcome ≡ Err SessionError.Threads) ↔ (self.threads ≡ Some 0) }
+
+        // It has no other outcome but Ok, a header that is not good, and a fault of the source.
+        ensures causes { EndsRun result.outcome }
     {
-        let BackgroundSession {
-            running,
-            notifier: _,
-        } = self;
+        let BackgroundSession { running } = self;
         running.join(rt)
     }
 
@@ -75,10 +73,7 @@ impl<FS: Filesystem, S: Source, K: Sink + Send> BackgroundSession<FS, S, K> {
         ensures same { self.new ≡ self.old }
         ensures fresh { IfOk result (λ n. n ≡ fresh_door self.old.line) }
     {
-        match &mut self.notifier {
-            Some(notifier) => notifier.again(),
-            None => Err(NoMemory),
-        }
+        self.running.notifier()
     }
 }
 
@@ -118,6 +113,9 @@ pub fn spawn_mount<
     ensures refused { IfErr result (IfRefused (λ s.
         IsOpened FS.promise page_size filesystem (S.told source) (K.told sink) s
         × Serves config.now.acl owner config.now.n_threads s × Rose (refused_by spawner.old) (refused_by spawner.new))) }
+
+    // The spawner is as it was where none was opened, and else it counted that it refused to start one, or that it did not.
+    ensures counted { StartsOpened result spawner.old spawner.new }
 
     // What was taken, sent, lost and counted where it was not opened, why it ended so, and that `destroy` was called once.
     ensures ended { IfErr result (IfEnded (λ e. ¬ (Untouched e.outcome) →

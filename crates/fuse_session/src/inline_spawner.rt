@@ -1,7 +1,7 @@
 // Sessions that run at once.
-ghost use Rattle.std.specs.Prelude.{◌≡◌, ◌≤◌, MatchResult, false};
+ghost use Rattle.std.specs.Prelude.{◌≡◌, MatchResult, false};
 ghost use Rattle.fuse_wire.specs.Faults.{Rose};
-ghost use Rattle.fuse_session.specs.Spawned.{StartsInline, started};
+ghost use Rattle.fuse_session.specs.Spawned.{CountsRefusal, StartsInline, started};
 
 use crate::running::AtEnd;
 use crate::{Filesystem, Running, Session};
@@ -40,9 +40,7 @@ impl InlineSpawner {
             refused: 0,
         }
     }
-}
 
-impl InlineSpawner {
     /// Runs the session, or refuses it where the start is listed.
     pub fn start<
         R: Threads + Wait + AllocGlobal + Send + Sync + Copy + 'static,
@@ -52,7 +50,7 @@ impl InlineSpawner {
     >(&mut self, rt: &R, session: Session<FS, S, K>) -> Result<Running<FS, S, K>, Session<FS, S, K>>
         // No reply comes after its method has returned.
         requires prompt { FS.DEFERS ≡ false }
-        ensures counted { self.old.refused ≤ self.new.refused }
+        ensures counted { CountsRefusal result self.old.refused self.new.refused }
         ensures started { MatchResult result (λ running. started running ≡ session)
             (λ back. (back ≡ session) × Rose self.old.refused self.new.refused) }
         ensures exactly { StartsInline result self.old self.new }
@@ -62,11 +60,13 @@ impl InlineSpawner {
             self.refused = self.refused.saturating_add(1);
             return Err(session);
         }
-        let seen = Snapshot::of(&session);
-        let ended = session.run(rt);
+        let Session { runnable, notifier } = session;
+        let seen = Snapshot::of(&runnable);
+        let ended = runnable.run(rt);
         Ok(Running::AtEnd(AtEnd {
             session: seen,
             ended,
+            notifier,
         }))
     }
 }

@@ -21,6 +21,7 @@ mod judge;
 pub mod laws;
 mod options;
 mod refusal;
+mod runnable;
 mod running;
 mod session;
 mod spawner;

@@ -1,5 +1,5 @@
 // What a session looks at before anything is taken.
-ghost use Rattle.std.specs.Prelude.{◌≡◌, ◌↔◌, ◌⊎◌, IfErr, IfOk, IsTrue, MatchResult};
+ghost use Rattle.std.specs.Prelude.{◌≡◌, ◌↔◌, ◌⊎◌, IfErr, IfOk, IsTrue, MatchOption, MatchResult, Some};
 ghost use Rattle.std.specs.List.{list_any};
 ghost use Rattle.fuse_session.specs.Accounted.{ManyThreads};
 ghost use Rattle.fuse_session.specs.Refused.{ClonesDevice, IsTaken, NotBegun, OptionsWell, RefusedAs, is_auto_unmount};
@@ -76,7 +76,7 @@ fn check_options(config: &Config) -> Result<(), SessionError>
 fn clones_device(config: &Config) -> bool
     ensures { IsTrue result ↔ ClonesDevice config.now }
 {
-    config.clone_fd && are_many(config.n_threads)
+    config.clone_fd && several(config.n_threads).is_some()
 }
 
 /// Whether `AutoUnmount` is among the options.
@@ -88,12 +88,13 @@ fn lists_auto_unmount(options: &[MountOption]) -> bool
         .any(|option| matches!(option, MountOption::AutoUnmount))
 }
 
-/// Whether more than one thread is to serve.
-pub(crate) fn are_many(threads: Option<usize>) -> bool
-    ensures { IsTrue result ↔ ManyThreads threads }
+/// How many threads are to serve, where these are more than one.
+pub(crate) fn several(threads: Option<usize>) -> Option<usize>
+    ensures { MatchOption result (¬ (ManyThreads threads))
+        (λ count. (threads ≡ Some count) × ManyThreads threads) }
 {
     match threads {
-        Some(threads) => threads > 1,
-        None => false,
+        Some(count) if count > 1 => Some(count),
+        _ => None,
     }
 }

@@ -1,10 +1,13 @@
 // Sessions that were started.
-ghost use Rattle.std.specs.Prelude.{◌≡◌, false};
+ghost use Rattle.std.specs.Prelude.{◌≡◌, IfOk, false};
+ghost use Rattle.fuse_notify.specs.Queueing.{fresh_door};
 ghost use Rattle.fuse_session.specs.Session.{Ran};
 ghost use Rattle.fuse_session.specs.Spawned.{CameOf, started};
 
-use crate::{Ended, Filesystem, Session};
-use fuse_wire::{Sink, Source};
+use crate::runnable::Runnable;
+use crate::{Ended, Filesystem};
+use fuse_notify::Notifier;
+use fuse_wire::{NoMemory, Sink, Source};
 use std::alloc::AllocGlobal;
 use std::marker::Model;
 use std::snapshot::Snapshot;
@@ -13,29 +16,29 @@ use std::thread::{Promise, PromisedHandle, Threads};
 
 /// A session on its way to a thread, or back from one that did not run it.
 pub(crate) struct Carried<FS, S: Source, K: Sink> {
-    session: Session<FS, S, K>,
+    runnable: Runnable<FS, S, K>,
 }
 
 impl<FS: Drop, S: Source + Drop, K: Sink + Drop> Drop for Carried<FS, S, K> {
     fn drop(self) {
-        let Carried { session } = self;
-        session.discard();
+        let Carried { runnable } = self;
+        runnable.discard();
     }
 }
 
 impl<FS, S: Source, K: Sink> Carried<FS, S, K> {
-    pub(crate) fn new(session: Session<FS, S, K>) -> Carried<FS, S, K>
-        ensures { result.session ≡ session }
+    pub(crate) fn new(runnable: Runnable<FS, S, K>) -> Carried<FS, S, K>
+        ensures { result.runnable ≡ runnable }
     {
-        Carried { session }
+        Carried { runnable }
     }
 
-    /// The session.
-    pub(crate) fn into_session(self) -> Session<FS, S, K>
-        ensures { result ≡ self.session }
+    /// What was carried.
+    pub(crate) fn into_runnable(self) -> Runnable<FS, S, K>
+        ensures { result ≡ self.runnable }
     {
-        let Carried { session } = self;
-        session
+        let Carried { runnable } = self;
+        runnable
     }
 }
 
@@ -50,7 +53,7 @@ pub(crate) enum Came<FS, S: Source, K: Sink> {
 
 /// That what comes of it comes of this session.
 pub(crate) struct ComesOf<FS, S: Source, K: Sink> {
-    pub(crate) session: Snapshot<Session<FS, S, K>>,
+    pub(crate) session: Snapshot<Runnable<FS, S, K>>,
 }
 
 impl<FS, S: Source, K: Sink> Drop for ComesOf<FS, S, K> {
@@ -63,29 +66,37 @@ impl<FS: Filesystem, S: Source, K: Sink> Promise<Came<FS, S, K>> for ComesOf<FS,
     ghost kept_by = { λ p r. CameOf FS.promise S.told K.told p.session.value r };
 }
 
+/// The handle of a thread that a session was handed to.
+pub(crate) type Handle<FS, S, K> = PromisedHandle<Came<FS, S, K>, ComesOf<FS, S, K>>;
+
 /// A session that a thread runs. A contract sees the session that was started.
 pub struct OnThread<FS: Filesystem, S: Source, K: Sink> {
-    pub(crate) handle: PromisedHandle<Came<FS, S, K>, ComesOf<FS, S, K>>,
+    pub(crate) handle: Handle<FS, S, K>,
+    pub(crate) notifier: Notifier,
 }
 
 impl<FS: Filesystem, S: Source, K: Sink> Model for OnThread<FS, S, K> {
     ghost use Rattle.std.specs.Prelude.{◌≡◌, false};
+    ghost use Rattle.fuse_notify.specs.Queueing.{fresh_door};
     ghost use Rattle.fuse_session.specs.Session.{Opened};
 
     ghost Value = { Opened FS };
 
     ghost view = { λ t. t.handle.promise.session.value };
 
-    ghost invariant = { λ t. FS.DEFERS ≡ false };
+    ghost invariant = { λ t. (FS.DEFERS ≡ false) × (t.notifier ≡ fresh_door t.handle.promise.session.value.line) };
 }
 
 /// A session that ran. A contract sees the session that was started.
 pub struct AtEnd<FS: Filesystem, S: Source, K: Sink> {
-    pub(crate) session: Snapshot<Session<FS, S, K>>,
+    pub(crate) session: Snapshot<Runnable<FS, S, K>>,
     pub(crate) ended: Ended<FS, S, K>,
+    pub(crate) notifier: Notifier,
 }
 
 impl<FS: Filesystem, S: Source, K: Sink> Model for AtEnd<FS, S, K> {
+    ghost use Rattle.std.specs.Prelude.{◌≡◌};
+    ghost use Rattle.fuse_notify.specs.Queueing.{fresh_door};
     ghost use Rattle.fuse_session.specs.Session.{Opened, Ran};
 
     ghost Value = { Opened FS };
@@ -93,10 +104,11 @@ impl<FS: Filesystem, S: Source, K: Sink> Model for AtEnd<FS, S, K> {
     ghost view = { λ o. o.session.value };
 
     ghost invariant = { λ o. Ran FS.promise o.session.value o.ended.filesystem o.ended.outcome
-        (S.told o.ended.source) (K.told o.ended.sink) o.ended.transcript };
+        (S.told o.ended.source) (K.told o.ended.sink) o.ended.transcript
+        × (o.notifier ≡ fresh_door o.session.value.line) };
 }
 
-/// A session that was started.
+/// A session that was started, with the notifier that it had to spare.
 pub enum Running<FS: Filesystem, S: Source, K: Sink> {
     /// A thread runs it.
     OnThread(OnThread<FS, S, K>),
@@ -112,16 +124,34 @@ impl<FS: Filesystem, S: Source, K: Sink + Send> Running<FS, S, K> {
     {
         match self {
             Running::OnThread(thread) => {
-                let OnThread { handle } = thread;
+                let OnThread {
+                    handle,
+                    notifier: _,
+                } = thread;
                 match handle.join(rt) {
                     Came::Ended(ended) => ended,
-                    Came::Held(carried) => carried.into_session().run(rt),
+                    Came::Held(carried) => carried.into_runnable().run(rt),
                 }
             }
             Running::AtEnd(end) => {
-                let AtEnd { session: _, ended } = end;
+                let AtEnd {
+                    session: _,
+                    ended,
+                    notifier: _,
+                } = end;
                 ended
             }
+        }
+    }
+
+    /// What queues notices for the session.
+    pub(crate) fn notifier(&mut self) -> Result<Notifier, NoMemory>
+        ensures same { self.new ≡ self.old }
+        ensures fresh { IfOk result (λ n. n ≡ fresh_door (started self.old).line) }
+    {
+        match self {
+            Running::OnThread(thread) => thread.notifier.again(),
+            Running::AtEnd(end) => end.notifier.again(),
         }
     }
 }

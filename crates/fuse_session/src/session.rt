@@ -1,11 +1,5 @@
 // Sessions: opened by the handshake, and then run.
-ghost use Rattle.std.specs.Prelude.{◌≡◌, ◌≢◌, ◌<◌, ◌⊎◌, ◌↔◌, ℕ, [], Ok, Err, Some, IfErr, IfOk, MatchResult};
-ghost use Rattle.std.specs.Prelude.{IfSome, List, false};
-ghost use Rattle.fuse_workers.specs.EventLoop.{Run};
-ghost use Rattle.fuse_workers.specs.Lines.{IsUnused, unasked_of};
-ghost use Rattle.fuse_workers.specs.Progress.{nothing_yet, progress};
-ghost use Rattle.fuse_session.specs.Accounted.{Accounted};
-ghost use Rattle.fuse_session.specs.Owed.{Owed};
+ghost use Rattle.std.specs.Prelude.{◌≡◌, ◌≢◌, ◌<◌, ◌⊎◌, ◌↔◌, ℕ, Ok, Err, Some, IfErr, IfOk, MatchResult, false};
 ghost use Rattle.fuse_config.specs.declared.session_acl.SessionACL.{SessionACL as ACL};
 ghost use Rattle.fuse_notify.specs.Queueing.{fresh_door};
 ghost use Rattle.fuse_session.specs.Complete.{AcceptsAll, HandshakeWell, RunWell, SessionWell};
@@ -13,8 +7,8 @@ ghost use Rattle.fuse_session.specs.Exchange.{Closed, Mounted, Unopened, setup, 
 ghost use Rattle.fuse_session.specs.Headline.{Headline, Lossless};
 ghost use Rattle.fuse_session.specs.HandshakeStep.{HandshakeRun};
 ghost use Rattle.fuse_session.specs.Refused.{ClonesDevice, IsTaken, IsUntouched, OfOptions, OptionsWell, RefusedAs, Untouched};
-ghost use Rattle.fuse_session.specs.Spawning.{refused_by};
-ghost use Rattle.fuse_session.specs.Session.{Ends, EndsRun, IsOpened, OpensNone, Ran, Serves, setup_for};
+ghost use Rattle.fuse_session.specs.Spawning.{StartsOne, refused_by};
+ghost use Rattle.fuse_session.specs.Session.{EndsRun, IsOpened, OpensNone, Ran, Serves, setup_for};
 ghost use Rattle.fuse_session.specs.declared.handshake.HandshakeOutcome.TheVariants.{Accepted};
 ghost use Rattle.fuse_wire.specs.Faults.{Rose};
 ghost use Rattle.fuse_wire.specs.Source.{SourceState};
@@ -23,14 +17,15 @@ ghost use Rattle.fuse_wire.specs.Sink.{SinkState};
 use crate::access::AccessRule;
 use crate::asking::Asking;
 use crate::dispatch::Service;
-use crate::ended::{destroyed, run_outcome, untouched};
+use crate::ended::{destroyed, untouched};
 use crate::handshake::{HandshakeOutcome, handshake};
 use crate::options::{SessionMemory, prepare, prepare_device};
-use crate::{BackgroundSession, Ended, Filesystem, SessionError, Spawner, Transcript};
+use crate::runnable::Runnable;
+use crate::{BackgroundSession, Ended, Filesystem, SessionError, Spawner};
 use fuse_config::{Config, SessionACL};
 use fuse_notify::Notifier;
 use fuse_wire::{NoMemory, Sink, Source};
-use fuse_workers::{Buffers, Channel, Lines, RunEnd, run_inline, run_workers};
+use fuse_workers::Channel;
 use std::marker::Model;
 use std::sync::Wait;
 use std::thread::Threads;
@@ -38,32 +33,21 @@ use std::thread::Threads;
 /// A session whose handshake was accepted. It must be spent: `run` serves it to its end. A contract sees what it was
 /// opened with, and how far it is.
 pub struct Session<FS, S: Source, K: Sink> {
-    service: Service<Asking<FS>>,
-    n_threads: Option<usize>,
-    channel: Channel<S, K>,
-    lines: Lines,
+    pub(crate) runnable: Runnable<FS, S, K>,
     /// What makes the notifiers of a session in the background, taken before.
-    notifier: Option<Notifier>,
+    pub(crate) notifier: Notifier,
 }
 
 impl<FS, S: Source, K: Sink> Model for Session<FS, S, K> {
-    ghost use Rattle.std.specs.Prelude.{◌≡◌, IfSome};
+    ghost use Rattle.std.specs.Prelude.{◌≡◌};
     ghost use Rattle.fuse_notify.specs.Queueing.{fresh_door};
-    ghost use Rattle.fuse_workers.specs.Lines.{IsUnused};
     ghost use Rattle.fuse_session.specs.Session.{Opened};
 
     ghost Value = { Opened FS };
 
-    ghost view = { λ s. record {
-      filesystem = s.service.handler.filesystem;
-      acl = s.service.rule.acl;
-      owner = s.service.rule.owner;
-      threads = s.n_threads;
-      progress = s.channel.progress;
-      line = s.lines.frames.line;
-    } };
+    ghost view = { λ s. s.runnable };
 
-    ghost invariant = { λ s. IsUnused s.lines × IfSome s.notifier (λ n. n ≡ fresh_door s.lines.frames.line) };
+    ghost invariant = { λ s. s.notifier ≡ fresh_door s.runnable.line };
 }
 
 /// The handshake, whose refusal is the outcome of a session.
@@ -113,85 +97,18 @@ fn open<R: Wait + AllocGlobal, FS: Filesystem, S: Source, K: Sink>(
     match shake(rt, &mut filesystem, page_size, &mut channel) {
         Ok(()) => {
             let handler = Asking { filesystem };
-            Ok(Session {
+            let runnable = Runnable {
                 service: Service { handler, rule },
                 n_threads,
                 channel,
                 lines,
-                notifier: Some(notifier),
-            })
+            };
+            Ok(Session { runnable, notifier })
         }
         Err(error) => {
             let (source, sink, _, transcript) = channel.close(lines);
             Err(destroyed(filesystem, source, sink, transcript, Err(error)))
         }
-    }
-}
-
-/// How the later messages were served.
-struct Served<S, K> {
-    outcome: Result<(), SessionError>,
-    transcript: Transcript,
-    source: S,
-    sink: K,
-}
-
-/// Answers the later messages: on this thread, or on so many others where more than one is asked for.
-fn answer_all<R: Threads + Wait + AllocGlobal + Sync, FS: Filesystem, S: Source, K: Sink + Send>(
-    rt: &R,
-    service: &Service<Asking<FS>>,
-    n_threads: Option<usize>,
-    source: S,
-    sink: K,
-    buffers: Buffers,
-) -> RunEnd<S, K>
-    requires unused { IsUnused buffers }
-    ensures { Run (Accounted n_threads (Owed FS.promise service.now.handler.filesystem service.now.rule.acl
-        service.now.rule.owner)) result.end (progress (S.told source) (K.told sink) nothing_yet [])
-        (progress (S.told result.source) (K.told result.sink) result.transcript (unasked_of result.buffers)) }
-{
-    match n_threads {
-        Some(count) if count > 1 => run_workers(rt, service, source, sink, buffers, count),
-        _ => run_inline(rt, service, source, sink, buffers),
-    }
-}
-
-/// Serves a session that was opened, after a handshake with these counts. No thread is to serve where their number is 0.
-fn serve<R: Threads + Wait + AllocGlobal + Sync, FS: Filesystem, S: Source, K: Sink + Send>(
-    rt: &R,
-    service: &Service<Asking<FS>>,
-    n_threads: Option<usize>,
-    shaken: Transcript,
-    source: S,
-    sink: K,
-    buffers: Buffers,
-) -> Served<S, K>
-    requires unused { IsUnused buffers }
-    ensures { (unasked : List (List ℕ)) × Ends FS.promise service.now.handler.filesystem
-        service.now.rule.acl service.now.rule.owner n_threads result.outcome
-        (progress (S.told source) (K.told sink) shaken [])
-        (progress (S.told result.source) (K.told result.sink) result.transcript unasked) }
-{
-    if n_threads == Some(0) {
-        return Served {
-            outcome: Err(SessionError::Threads),
-            transcript: shaken,
-            source,
-            sink,
-        };
-    }
-    let RunEnd {
-        end,
-        transcript,
-        source,
-        sink,
-        buffers: _,
-    } = answer_all(rt, service, n_threads, source, sink, buffers);
-    Served {
-        outcome: run_outcome(end),
-        transcript: shaken.and(transcript),
-        source,
-        sink,
     }
 }
 
@@ -354,24 +271,10 @@ impl<FS: Filesystem, S: Source, K: Sink + Send> Session<FS, S, K> {
         ensures causes { EndsRun result.outcome }
     {
         let Session {
-            service,
-            n_threads,
-            channel,
-            lines,
+            runnable,
             notifier: _,
         } = self;
-        let (source, sink, buffers, shaken) = channel.close(lines);
-        let Served {
-            outcome,
-            transcript,
-            source,
-            sink,
-        } = serve(rt, &service, n_threads, shaken, source, sink, buffers);
-        let Service {
-            handler: Asking { filesystem },
-            rule: _,
-        } = service;
-        destroyed(filesystem, source, sink, transcript, outcome)
+        runnable.run(rt)
     }
 
     /// What queues notices, which the session sends after the reply that follows.
@@ -379,7 +282,7 @@ impl<FS: Filesystem, S: Source, K: Sink + Send> Session<FS, S, K> {
         ensures same { self.new ≡ self.old }
         ensures fresh { IfOk result (λ n. n ≡ fresh_door self.old.line) }
     {
-        self.lines.notifier()
+        self.runnable.lines.notifier()
     }
 }
 
@@ -396,72 +299,14 @@ impl<
     ) -> Result<BackgroundSession<FS, S, K>, Session<FS, S, K>>
         // No reply comes after its method has returned.
         requires prompt { FS.DEFERS ≡ false }
-        ensures { MatchResult result (λ background. background ≡ self)
+        ensures started { MatchResult result (λ background. background ≡ self)
             (λ back. (back ≡ self) × Rose (refused_by spawner.old) (refused_by spawner.new)) }
+        ensures counted { StartsOne result spawner.old spawner.new }
     {
-        let (session, notifier) = self.part();
-        match spawner.start(rt, session) {
-            Ok(running) => Ok(BackgroundSession { running, notifier }),
-            Err(session) => Err(session.with_notifier(notifier)),
+        match spawner.start(rt, self) {
+            Ok(running) => Ok(BackgroundSession { running }),
+            Err(session) => Err(session),
         }
-    }
-}
-
-impl<FS, S: Source, K: Sink> Session<FS, S, K> {
-    /// The session without what makes the notifiers of one in the background, and that.
-    fn part(self) -> (Session<FS, S, K>, Option<Notifier>)
-        ensures session { result.0 ≡ self }
-        ensures notifier { IfSome result.1 (λ n. n ≡ fresh_door self.line) }
-    {
-        let Session {
-            service,
-            n_threads,
-            channel,
-            lines,
-            notifier,
-        } = self;
-        let session = Session {
-            service,
-            n_threads,
-            channel,
-            lines,
-            notifier: None,
-        };
-        (session, notifier)
-    }
-
-    /// The session with that.
-    fn with_notifier(self, notifier: Option<Notifier>) -> Session<FS, S, K>
-        requires { IfSome notifier (λ n. n ≡ fresh_door self.line) }
-        ensures { result ≡ self }
-    {
-        let Session {
-            service,
-            n_threads,
-            channel,
-            lines,
-            notifier: _,
-        } = self;
-        Session {
-            service,
-            n_threads,
-            channel,
-            lines,
-            notifier,
-        }
-    }
-}
-
-impl<FS: Drop, S: Source + Drop, K: Sink + Drop> Session<FS, S, K> {
-    /// Gives it up, unserved: a closure that a thread never ran is dropped with what it holds.
-    pub(crate) fn discard(self) {
-        let Session {
-            service: _,
-            n_threads: _,
-            channel: _,
-            lines: _,
-            notifier: _,
-        } = self;
     }
 }
 

@@ -1,9 +1,10 @@
 // Sessions on threads of their own.
-ghost use Rattle.std.specs.Prelude.{◌≡◌, ◌≤◌, MatchResult, false};
+ghost use Rattle.std.specs.Prelude.{◌≡◌, MatchResult, false};
 ghost use Rattle.fuse_wire.specs.Faults.{Rose};
-ghost use Rattle.fuse_session.specs.Spawned.{CameOf, started};
+ghost use Rattle.fuse_session.specs.Spawned.{CameOf, CountsRefusal, started};
 
-use crate::running::{AtEnd, Came, Carried, ComesOf, OnThread};
+use crate::runnable::Runnable;
+use crate::running::{AtEnd, Came, Carried, ComesOf, Handle, OnThread};
 use crate::{Filesystem, Running, Session};
 use fuse_wire::{Sink, Source};
 use std::alloc::{AllocGlobal, Global};
@@ -19,13 +20,6 @@ pub struct ThreadSpawner {
     refused: u64,
 }
 
-impl ThreadSpawner {
-    /// It has refused none yet.
-    pub fn new() -> ThreadSpawner {
-        ThreadSpawner { refused: 0 }
-    }
-}
-
 /// Runs the session, or gives it back where it is held.
 fn run_unless_held<
     R: Threads + Wait + AllocGlobal + Sync + Copy,
@@ -34,12 +28,12 @@ fn run_unless_held<
     K: Sink + Send,
 >(rt: R, carried: Carried<FS, S, K>, is_held: Arc<AtomicBool, Global>) -> Came<FS, S, K>
     requires prompt { FS.DEFERS ≡ false }
-    ensures { CameOf FS.promise S.told K.told carried.session result }
+    ensures { CameOf FS.promise S.told K.told carried.runnable result }
 {
     if is_held.load(Ordering::SeqCst) {
         Came::Held(carried)
     } else {
-        Came::Ended(carried.into_session().run(&rt))
+        Came::Ended(carried.into_runnable().run(&rt))
     }
 }
 
@@ -58,24 +52,25 @@ fn start_thread<
     K: Sink + Send + Drop + 'static,
 >(
     rt: &R,
-    session: Session<FS, S, K>,
+    runnable: Runnable<FS, S, K>,
     is_held: Arc<AtomicBool, Global>,
     share: Arc<AtomicBool, Global>,
-) -> Result<OnThread<FS, S, K>, Came<FS, S, K>>
+) -> Result<Handle<FS, S, K>, Came<FS, S, K>>
     requires prompt { FS.DEFERS ≡ false }
-    ensures { MatchResult result (λ thread. thread ≡ session) (CameOf FS.promise S.told K.told session) }
+    ensures { MatchResult result (λ handle. handle.promise.session.value ≡ runnable)
+        (CameOf FS.promise S.told K.told runnable) }
 {
     let promise = ComesOf {
-        session: Snapshot::of(&session),
+        session: Snapshot::of(&runnable),
     };
-    let carried = Carried::new(session);
+    let carried = Carried::new(runnable);
     let runtime = *rt;
     let task = move || -> Came<FS, S, K>
         requires prompt { FS.DEFERS ≡ false }
-        ensures { CameOf FS.promise S.told K.told carried.session result }
+        ensures { CameOf FS.promise S.told K.told carried.runnable result }
     { run_unless_held(runtime, carried, share) };
     match thread::spawn_with(rt, promise, task) {
-        Ok(handle) => Ok(OnThread { handle }),
+        Ok(handle) => Ok(handle),
         Err(refused) => {
             is_held.store(true, Ordering::SeqCst);
             Err((refused.value)())
@@ -84,6 +79,13 @@ fn start_thread<
 }
 
 impl ThreadSpawner {
+    /// It has refused none yet.
+    pub fn new() -> ThreadSpawner
+        ensures { result.refused ≡ 0 }
+    {
+        ThreadSpawner { refused: 0 }
+    }
+
     /// Starts a thread for the session. Where there is none, or no memory, it comes back as it was.
     pub fn start<
         R: Threads + Wait + AllocGlobal + Send + Sync + Copy + 'static,
@@ -93,7 +95,7 @@ impl ThreadSpawner {
     >(&mut self, rt: &R, session: Session<FS, S, K>) -> Result<Running<FS, S, K>, Session<FS, S, K>>
         // No reply comes after its method has returned.
         requires prompt { FS.DEFERS ≡ false }
-        ensures counted { self.old.refused ≤ self.new.refused }
+        ensures counted { CountsRefusal result self.old.refused self.new.refused }
         ensures started { MatchResult result (λ running. started running ≡ session)
             (λ back. (back ≡ session) × Rose self.old.refused self.new.refused) }
     {
@@ -101,16 +103,19 @@ impl ThreadSpawner {
             self.refused = self.refused.saturating_add(1);
             return Err(session);
         };
-        let seen = Snapshot::of(&session);
-        match start_thread(rt, session, is_held, share) {
-            Ok(thread) => Ok(Running::OnThread(thread)),
+        let Session { runnable, notifier } = session;
+        let seen = Snapshot::of(&runnable);
+        match start_thread(rt, runnable, is_held, share) {
+            Ok(handle) => Ok(Running::OnThread(OnThread { handle, notifier })),
             Err(Came::Ended(ended)) => Ok(Running::AtEnd(AtEnd {
                 session: seen,
                 ended,
+                notifier,
             })),
             Err(Came::Held(carried)) => {
                 self.refused = self.refused.saturating_add(1);
-                Err(carried.into_session())
+                let runnable = carried.into_runnable();
+                Err(Session { runnable, notifier })
             }
         }
     }

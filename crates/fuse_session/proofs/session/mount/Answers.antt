@@ -1,9 +1,23 @@
 -- A session that is opened and run ends well where nothing is amiss.
 use Rattle.std.proofs.Common.{ℕ, Option, inl, inr, sym, subst}
+use Rattle.fuse_config.specs.declared.session_acl.SessionACL.{SessionACL}
 use Rattle.fuse_session.specs.Complete.{SessionWell}
+use Rattle.fuse_session.specs.Headline.{Headline}
 use Rattle.fuse_session.specs.Session.{setup_for}
 use Rattle.fuse_session.proofs.Completing.{HandshakeWell-session, Ok-from_exchange}
 use Rattle.fuse_session.proofs.session.mount.Goals as goal
+
+pub returns-in-Ok-clause-headline : goal.returns-in-Ok-clause-headline
+returns-in-Ok-clause-headline g c ok lossless =
+    let promise = g.FS.Filesystem.promise in
+    let before = g.S.Source.told c.args.source in
+    let after = g.S.Source.told c.run.result.source in
+    let sink = g.K.Sink.told c.args.sink in
+    let sink' = g.K.Sink.told c.run.result.sink in
+    let serves = c.in-Ok.ensures.opened.1 in
+    subst (λ (acl : SessionACL). Headline promise c.args.page_size acl c.args.owner c.args.filesystem before after sink sink') serves.acl_is
+    (subst (λ (owner : ℕ). Headline promise c.args.page_size c.in-Ok.session.acl owner c.args.filesystem before after sink sink') serves.owner_is
+    (c.run.ensures.headline c.args.page_size c.args.filesystem before sink c.in-Ok.ensures.opened.0 ok lossless))
 
 pub returns-in-Ok-clause-complete : goal.returns-in-Ok-clause-complete
 returns-in-Ok-clause-complete g c options well =

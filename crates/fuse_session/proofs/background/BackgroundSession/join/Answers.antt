@@ -1,6 +1,6 @@
 -- The end of a session in the background, which is one of a run.
 use Rattle.std.proofs.Common.{rules}
-use Rattle.fuse_session.proofs.SessionParts.{Headline-ran, Mounted-ran, Ok-from_run}
+use Rattle.fuse_session.proofs.SessionParts.{EndsRun-ran, Headline-ran, Mounted-ran, Ok-from_run, Threads-ran}
 use Rattle.fuse_session.proofs.background.BackgroundSession.join.Goals as goal
 
 pub returns-clause-ran : goal.returns-clause-ran
@@ -16,3 +16,9 @@ returns-clause-headline g c page fs source sink opened ok lossless =
 
 pub returns-clause-complete : goal.returns-clause-complete
 returns-clause-complete g c well = Ok-from_run g.FS.Filesystem.promise c.args.self _ _ _ _ _ (returns-clause-ran g c) well
+
+pub returns-clause-threads : goal.returns-clause-threads
+returns-clause-threads g c = Threads-ran (returns-clause-ran g c)
+
+pub returns-clause-causes : goal.returns-clause-causes
+returns-clause-causes g c = EndsRun-ran (returns-clause-ran g c)

@@ -1,13 +1,10 @@
 -- A run, and the session that it ends.
-use Rattle.std.proofs.Common.{ap, sym}
-use Rattle.fuse_session.proofs.SessionParts.{Headline-ran, Mounted-ran, Ok-from_run, Ran-ends}
+use Rattle.std.proofs.Common.{rules}
+use Rattle.fuse_session.proofs.SessionParts.{EndsRun-ran, Headline-ran, Mounted-ran, Ok-from_run, Threads-ran}
 use Rattle.fuse_session.proofs.session.Session.run.Goals as goal
 
 pub returns-clause-ran : goal.returns-clause-ran
-returns-clause-ran g c =
-    Ran-ends g.FS.Filesystem.promise c.args.self _ _ _ _ _ _ _ _ _ _ _ _ _ (sym c.self.view_is) c.close-source.ensures.channel c.serve-outcome.ensures
-    c.destroyed.ensures.told (ap g.S.Source.told c.destroyed.ensures.handed_back.0, ap g.K.Sink.told c.destroyed.ensures.handed_back.1)
-    c.destroyed.ensures.destroyed
+returns-clause-ran g c = search rules
 
 pub returns-clause-session : goal.returns-clause-session
 returns-clause-session g c page fs source sink opened =
@@ -19,3 +16,9 @@ returns-clause-headline g c page fs source sink opened ok lossless =
 
 pub returns-clause-complete : goal.returns-clause-complete
 returns-clause-complete g c well = Ok-from_run g.FS.Filesystem.promise c.args.self _ _ _ _ _ (returns-clause-ran g c) well
+
+pub returns-clause-threads : goal.returns-clause-threads
+returns-clause-threads g c = Threads-ran (returns-clause-ran g c)
+
+pub returns-clause-causes : goal.returns-clause-causes
+returns-clause-causes g c = EndsRun-ran (returns-clause-ran g c)

@@ -2,10 +2,10 @@
 use Rattle.fuse_session.specs.Owed.{Owed}
 use Rattle.fuse_session.proofs.SessionParts.{Accounted-one}
 use Rattle.fuse_session.proofs.Serving.{Owed-broken}
-use Rattle.fuse_session.proofs.session.answer_all.Goals as goal
+use Rattle.fuse_session.proofs.runnable.answer_all.Goals as goal
 
-pub returns-in_default : goal.returns-in_default
-returns-in_default g c =
+pub returns-in-None : goal.returns-in-None
+returns-in-None g c =
     let fs = c.args.service.now.handler.filesystem in
     let rule = c.args.service.now.rule in
     let promise = g.FS.Filesystem.promise in

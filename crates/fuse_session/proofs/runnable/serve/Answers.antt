@@ -8,7 +8,7 @@ use Rattle.fuse_workers.specs.OneEach.{Accounting}
 use Rattle.fuse_workers.specs.Progress.{progress}
 use Rattle.fuse_workers.specs.declared.transcript.Transcript.{Transcript}
 use Rattle.fuse_workers.proofs.Adding.{Run-added}
-use Rattle.fuse_session.proofs.session.serve.Goals as goal
+use Rattle.fuse_session.proofs.runnable.serve.Goals as goal
 
 pub returns : goal.returns
 returns g c =

@@ -1,0 +1,155 @@
+// What runs of a session.
+ghost use Rattle.std.specs.Prelude.{◌≡◌, ℕ, List, [], Some, false};
+ghost use Rattle.fuse_session.specs.Accounted.{Accounted};
+ghost use Rattle.fuse_session.specs.Owed.{Owed};
+ghost use Rattle.fuse_session.specs.Session.{Ends, Ran};
+ghost use Rattle.fuse_workers.specs.EventLoop.{Run};
+ghost use Rattle.fuse_workers.specs.Lines.{IsUnused, unasked_of};
+ghost use Rattle.fuse_workers.specs.Progress.{nothing_yet, progress};
+
+use crate::asking::Asking;
+use crate::dispatch::Service;
+use crate::ended::{destroyed, run_outcome};
+use crate::options::several;
+use crate::{Ended, Filesystem, SessionError, Transcript};
+use fuse_wire::{Sink, Source};
+use fuse_workers::{Buffers, Channel, Lines, RunEnd, run_inline, run_workers};
+use std::alloc::AllocGlobal;
+use std::marker::Model;
+use std::sync::Wait;
+use std::thread::Threads;
+
+/// What runs of a session: all of it but its notifier to spare, which stays with whoever starts it. It must be spent. A
+/// contract sees the session.
+pub(crate) struct Runnable<FS, S: Source, K: Sink> {
+    pub(crate) service: Service<Asking<FS>>,
+    pub(crate) n_threads: Option<usize>,
+    pub(crate) channel: Channel<S, K>,
+    pub(crate) lines: Lines,
+}
+
+impl<FS, S: Source, K: Sink> Model for Runnable<FS, S, K> {
+    ghost use Rattle.fuse_workers.specs.Lines.{IsUnused};
+    ghost use Rattle.fuse_session.specs.Session.{Opened};
+
+    ghost Value = { Opened FS };
+
+    ghost view = { λ s. record {
+      filesystem = s.service.handler.filesystem;
+      acl = s.service.rule.acl;
+      owner = s.service.rule.owner;
+      threads = s.n_threads;
+      progress = s.channel.progress;
+      line = s.lines.frames.line;
+    } };
+
+    ghost invariant = { λ s. IsUnused s.lines };
+}
+
+/// How the later messages were served.
+struct Served<S, K> {
+    outcome: Result<(), SessionError>,
+    transcript: Transcript,
+    source: S,
+    sink: K,
+}
+
+/// Answers the later messages: on this thread, or on so many others where more than one is asked for.
+fn answer_all<R: Threads + Wait + AllocGlobal + Sync, FS: Filesystem, S: Source, K: Sink + Send>(
+    rt: &R,
+    service: &Service<Asking<FS>>,
+    n_threads: Option<usize>,
+    source: S,
+    sink: K,
+    buffers: Buffers,
+) -> RunEnd<S, K>
+    requires unused { IsUnused buffers }
+    ensures { Run (Accounted n_threads (Owed FS.promise service.now.handler.filesystem service.now.rule.acl
+        service.now.rule.owner)) result.end (progress (S.told source) (K.told sink) nothing_yet [])
+        (progress (S.told result.source) (K.told result.sink) result.transcript (unasked_of result.buffers)) }
+{
+    match several(n_threads) {
+        Some(count) => run_workers(rt, service, source, sink, buffers, count),
+        None => run_inline(rt, service, source, sink, buffers),
+    }
+}
+
+/// Serves a session that was opened, after a handshake with these counts. No thread is to serve where their number is 0.
+fn serve<R: Threads + Wait + AllocGlobal + Sync, FS: Filesystem, S: Source, K: Sink + Send>(
+    rt: &R,
+    service: &Service<Asking<FS>>,
+    n_threads: Option<usize>,
+    shaken: Transcript,
+    source: S,
+    sink: K,
+    buffers: Buffers,
+) -> Served<S, K>
+    requires unused { IsUnused buffers }
+    ensures { (unasked : List (List ℕ)) × Ends FS.promise service.now.handler.filesystem
+        service.now.rule.acl service.now.rule.owner n_threads result.outcome
+        (progress (S.told source) (K.told sink) shaken [])
+        (progress (S.told result.source) (K.told result.sink) result.transcript unasked) }
+{
+    if n_threads == Some(0) {
+        return Served {
+            outcome: Err(SessionError::Threads),
+            transcript: shaken,
+            source,
+            sink,
+        };
+    }
+    let RunEnd {
+        end,
+        transcript,
+        source,
+        sink,
+        buffers: _,
+    } = answer_all(rt, service, n_threads, source, sink, buffers);
+    Served {
+        outcome: run_outcome(end),
+        transcript: shaken.and(transcript),
+        source,
+        sink,
+    }
+}
+
+impl<FS: Filesystem, S: Source, K: Sink + Send> Runnable<FS, S, K> {
+    /// Serves the session to its end, as `Session::run` says.
+    pub(crate) fn run<R: Threads + Wait + AllocGlobal + Sync>(self, rt: &R) -> Ended<FS, S, K>
+        // No reply comes after its method has returned.
+        requires prompt { FS.DEFERS ≡ false }
+        ensures { Ran FS.promise self result.filesystem result.outcome
+            (S.told result.source) (K.told result.sink) result.transcript }
+    {
+        let Runnable {
+            service,
+            n_threads,
+            channel,
+            lines,
+        } = self;
+        let (source, sink, buffers, shaken) = channel.close(lines);
+        let Served {
+            outcome,
+            transcript,
+            source,
+            sink,
+        } = serve(rt, &service, n_threads, shaken, source, sink, buffers);
+        let Service {
+            handler: Asking { filesystem },
+            rule: _,
+        } = service;
+        destroyed(filesystem, source, sink, transcript, outcome)
+    }
+}
+
+impl<FS: Drop, S: Source + Drop, K: Sink + Drop> Runnable<FS, S, K> {
+    /// Gives it up, unserved: a closure that a thread never ran is dropped with what it holds.
+    pub(crate) fn discard(self) {
+        let Runnable {
+            service: _,
+            n_threads: _,
+            channel: _,
+            lines: _,
+        } = self;
+    }
+}
