@@ -32,6 +32,7 @@ impl<I> StreamSource<I> {
 }
 
 /// Reads until the piece is full or no byte is left, and says how many bytes came. None is a fault.
+#[inline(always)]
 fn fill<I: ByteSource>(inner: &mut I, piece: &mut [u8]) -> Option<usize>
     ensures { Fills result (length piece.old) (I.told inner.old) (I.told inner.new) piece.new }
 {
