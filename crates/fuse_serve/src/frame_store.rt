@@ -84,6 +84,7 @@ impl FrameStore {
 }
 
 /// Puts a frame at the end of the bytes.
+#[inline(always)]
 fn append(bytes: &mut Vec<u8>, header: &[u8; 16], payload: &[u8]) -> Result<(), AllocError>
     ensures ok { OnOk result (bytes.new.items ≡ bytes.old.items ++ (header.now ++ payload.now)) }
     ensures err { OnErr result (bytes.new.items ≡ bytes.old.items) }
@@ -111,6 +112,7 @@ impl Sink for FrameStore {
     ghost told = { stored_told };
 
     /// Keeps the frame, and counts it where it is a reply. It fails where it finds no memory.
+    #[inline(always)]
     fn send(&mut self, header: &[u8; 16], payload: &[u8]) -> Sending
         requires { number header.now 0 4 ≡ 16 + length payload.now }
         ensures sends { Sends result (header.now ++ payload.now) (stored_told self.old) (stored_told self.new) }
