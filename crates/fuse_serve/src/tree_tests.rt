@@ -110,18 +110,41 @@ fn after_init(alloc: Global, requests: &[&[u8]]) -> Result<MemorySource, AllocEr
     Ok(MemorySource::new(turns))
 }
 
-/// Behind its first frame the sink took these, and these notes, and no other.
-fn took<R: Abort>(rt: &R, sink: &MemorySink, frames: &[&[u8]], notes: &[(RequestId, u64)]) {
+/// Behind its first frame the sink took these, and these notes, and no other: in this order where one thread served, and
+/// in any order where several did.
+fn took<R: Abort>(
+    rt: &R,
+    n_threads: Option<usize>,
+    sink: &MemorySink,
+    frames: &[&[u8]],
+    notes: &[(RequestId, u64)],
+) {
     assert_eq!(rt; sink.frames().len(), frames.len().saturating_add(1));
-    for (at, (sent, expected)) in sink.frames().iter().skip(1).zip(frames).enumerate() {
-        assert_eq!(rt; sent.as_slice(), *expected, "frame {at}");
+    assert_eq!(rt; sink.notes().len(), notes.len());
+    if n_threads.is_none() {
+        for (at, (sent, expected)) in sink.frames().iter().skip(1).zip(frames).enumerate() {
+            assert_eq!(rt; sent.as_slice(), *expected, "frame {at}");
+        }
+        assert_eq!(rt; sink.notes(), notes);
     }
-    assert_eq!(rt; sink.notes(), notes);
+    for (at, frame) in frames.iter().enumerate() {
+        let wanted = frames.iter().filter(|other| *other == frame);
+        let sent = sink.frames().iter().skip(1);
+        let found = sent.filter(|other| other.as_slice() == *frame);
+        assert_eq!(rt; found.count(), wanted.count(), "frame {at}");
+    }
+    for (at, note) in notes.iter().enumerate() {
+        let wanted = notes.iter().filter(|other| *other == note);
+        let found = sink.notes().iter().filter(|other| *other == note);
+        assert_eq!(rt; found.count(), wanted.count(), "note {at}");
+    }
 }
 
-/// Serves these requests after an INIT, in one session of the user 7, which sends these frames and notes.
-fn serves<R: Threads + Wait + AllocGlobal + Abort + Sync>(
+/// Serves these requests after an INIT, in one session of the user 7 on so many threads, which sends these frames and
+/// notes.
+fn serves_on<R: Threads + Wait + AllocGlobal + Abort + Sync>(
     rt: &R,
+    n_threads: Option<usize>,
     acl: SessionACL,
     requests: &[&[u8]],
     frames: &[&[u8]],
@@ -130,6 +153,7 @@ fn serves<R: Threads + Wait + AllocGlobal + Abort + Sync>(
     let alloc = rt.alloc();
     let mut config = Config::new(rt.alloc());
     config.acl = acl;
+    config.n_threads = n_threads;
     let source = after_init(alloc, requests)?;
     let sink = MemorySink::new(alloc, Vec::new(alloc));
     let Ended {
@@ -145,8 +169,20 @@ fn serves<R: Threads + Wait + AllocGlobal + Abort + Sync>(
         (requests.len() as u64).saturating_add(1)
     );
     assert_eq!(rt; transcript.lost, 0);
-    took(rt, &sink, frames, notes);
+    took(rt, n_threads, &sink, frames, notes);
     Ok(())
+}
+
+/// The same on one thread, and once more on two.
+fn serves<R: Threads + Wait + AllocGlobal + Abort + Sync>(
+    rt: &R,
+    acl: SessionACL,
+    requests: &[&[u8]],
+    frames: &[&[u8]],
+    notes: &[(RequestId, u64)],
+) -> Result<(), AllocError> {
+    serves_on(rt, None, acl, requests, frames, notes)?;
+    serves_on(rt, Some(2), acl, requests, frames, notes)
 }
 
 /// Whether a request passes whoever sends it: INIT, DESTROY, forgets, and those that go by an open file.

@@ -34,9 +34,7 @@ impl Holding {
         }
         false
     }
-}
 
-impl Holding {
     /// What a lookup of this name is answered by.
     fn answer_to(&self, name: &[u8]) -> Errno {
         if name == b"b".as_slice() {
