@@ -1,7 +1,7 @@
 -- That each event leaves each message in one place.
 use Rattle.std.proofs.Common.{◌≡◌, ◌+◌, ◌≤◌, ℕ, List, [], ◌∷◌, ◌++◌, Some, None, Option, set, length, nat_lt, if◌then◌else◌}
 use Rattle.std.proofs.Common.{Result, Ok, Err, IfOk, IfSome}
-use Rattle.std.proofs.Common.{sym, ap, ◌∙◌, subst, arith}
+use Rattle.std.proofs.Common.{Bool, true, false, sym, ap, ◌∙◌, refl, subst, arith}
 use Rattle.std.specs.List.{All, sum_by, slice_get}
 use Rattle.std.proofs.lemmas.List.{length_push}
 use Rattle.std.proofs.lemmas.List.Elements.{All-get_or, All-head, All-nil, All-push, All-replicate, All-rest, All-set}
@@ -10,17 +10,20 @@ use Rattle.std.proofs.lemmas.List.Sums.{sum_by-cons, sum_by-set, sum_by_push}
 use Rattle.std.proofs.lemmas.Option.{get_or_from_slice_get, slice_get_within}
 use Rattle.fuse_reply.specs.declared.out.Out.{Out}
 use Rattle.fuse_reply.specs.declared.out.Out.TheVariants.{Frame, Note, Deferred}
+use Rattle.fuse_reply.specs.Late.{LateSeen}
 use Rattle.fuse_reply.specs.declared.parcel.Parcel.{Parcel}
-use Rattle.fuse_reply.specs.declared.parcel.Parcel.TheVariants.{Prompt, Notice, Late}
+use Rattle.fuse_reply.specs.declared.parcel.Parcel.TheVariants.{Prompt, Notice, Late as Later}
+use Rattle.fuse_workers.specs.Marks.{is_unused, late_tag}
 use Rattle.fuse_workers.specs.declared.event.Event.{Event}
-use Rattle.fuse_workers.specs.declared.event.Event.TheVariants.{Receive, Take, Answer, Push, Send, Own, Notify}
+use Rattle.fuse_workers.specs.declared.event.Event.TheVariants.{Receive, Take, Answer, Defer, Push, Send, Own, Late, Notify}
 use Rattle.fuse_workers.specs.declared.state.Hand.TheVariants.{Empty, Asked, Answered}
 use Rattle.fuse_workers.specs.declared.state.Job.{Job}
 use Rattle.fuse_workers.specs.declared.state.Mark.{Mark}
 use Rattle.fuse_workers.specs.declared.state.SentOut.{SentOut}
 use Rattle.fuse_workers.specs.declared.state.State.{State}
-use Rattle.fuse_workers.specs.Step.{Happens, Follows, Runs, StandsFor, empty, job, with_hand, went}
+use Rattle.fuse_workers.specs.Step.{Happens, Follows, HandAnswers, Runs, StandsFor, empty, job, with_hand, went}
 use Rattle.fuse_workers.specs.Balanced.{Balanced, KeepsNumber, HandKeepsNumber, ParcelKeepsNumber, once_if, in_hand, on_parcel, settled}
+use Rattle.fuse_workers.proofs.LateFrames.{Matched-late, Matched-marked}
 
 -- once where the number is below the count, and else not at all
 abbrev once_below : (number count : ℕ) → ℕ
@@ -75,6 +78,7 @@ balanced_receive s m b = record {
   );
   hands = b.hands;
   line = b.line;
+  matched = b.matched;
 }
 
 balanced_take : (s : State) (worker : ℕ) (first : Job) (rest : List Job) → s.jobs ≡ first ∷ rest → slice_get s.hands worker ≡ Some Empty
@@ -88,6 +92,7 @@ balanced_take s worker first rest jobs free b = record {
   );
   hands = All-set HandKeepsNumber s.hands worker (Asked first) tt b.hands;
   line = b.line;
+  matched = b.matched;
 }
 
 balanced_answer : (s : State) (worker : ℕ) (asked : Job) (out : Out) → slice_get s.hands worker ≡ Some (Asked asked)
@@ -96,6 +101,7 @@ balanced_answer s worker asked out at stands_for b = record {
   each_once = λ number. omega (arith, b.each_once number, sum_set (in_hand number) s.hands worker (Asked asked) (Answered asked.seq out) at);
   hands = All-set HandKeepsNumber s.hands worker (Answered asked.seq out) (StandsFor-keeps asked.seq asked.message out stands_for) b.hands;
   line = b.line;
+  matched = b.matched;
 }
 
 balanced_push : (s : State) (worker seq : ℕ) (out : Out) → slice_get s.hands worker ≡ Some (Answered seq out)
@@ -109,6 +115,7 @@ balanced_push s worker seq out at b = record {
   );
   hands = All-set HandKeepsNumber s.hands worker Empty tt b.hands;
   line = All-push ParcelKeepsNumber s.line (Prompt seq out) b.line (all_at HandKeepsNumber s.hands worker (Answered seq out) at b.hands);
+  matched = b.matched;
 }
 
 balanced_own : (s : State) (m : List ℕ) (out : Out) → StandsFor (length s.received) m out → Balanced s
@@ -123,6 +130,7 @@ balanced_own s m out stands_for b = record {
   );
   hands = b.hands;
   line = All-push ParcelKeepsNumber s.line (Prompt (length s.received) out) b.line (StandsFor-keeps (length s.received) m out stands_for);
+  matched = b.matched;
 }
 
 balanced_notify : (s : State) (f : List ℕ) → Balanced s → Balanced (record s { line = s.line ++ Notice f ∷ [] })
@@ -130,6 +138,7 @@ balanced_notify s f b = record {
   each_once = λ number. omega (arith, b.each_once number, sum_by_push (on_parcel number) s.line (Notice f));
   hands = b.hands;
   line = All-push ParcelKeepsNumber s.line (Notice f) b.line tt;
+  matched = b.matched;
 }
 
 -- the first parcel has its message's number
@@ -148,6 +157,7 @@ balanced_send s (Prompt seq (Deferred n id)) rest is b = record {
   );
   hands = b.hands;
   line = All-rest ParcelKeepsNumber (Prompt seq (Deferred n id)) rest s.line is b.line;
+  matched = Matched-marked s.marks s.late s.held (record { seq = n; id = id }) b.matched;
 }
 balanced_send s (Prompt seq (Frame f)) rest is b = record {
   each_once = λ number. omega (
@@ -158,6 +168,7 @@ balanced_send s (Prompt seq (Frame f)) rest is b = record {
   );
   hands = b.hands;
   line = All-rest ParcelKeepsNumber (Prompt seq (Frame f)) rest s.line is b.line;
+  matched = b.matched;
 }
 balanced_send s (Prompt seq (Note id mark)) rest is b = record {
   each_once = λ number. omega (
@@ -168,25 +179,50 @@ balanced_send s (Prompt seq (Note id mark)) rest is b = record {
   );
   hands = b.hands;
   line = All-rest ParcelKeepsNumber (Prompt seq (Note id mark)) rest s.line is b.line;
+  matched = b.matched;
 }
+balanced_send s (Later late) rest is b = by_test (is_unused (late_tag late) s.marks s.late) refl where
+  by_test : (unused : Bool) → is_unused (late_tag late) s.marks s.late ≡ unused
+      → Balanced (if unused then record s { line = rest; late = s.late ++ late ∷ [] } else record s { line = rest; held = s.held ++ late ∷ [] })
+  by_test true is_so = record {
+    each_once = λ number. omega (arith, b.each_once number, sum_first (on_parcel number) s.line rest (Later late) is);
+    hands = b.hands;
+    line = All-rest ParcelKeepsNumber (Later late) rest s.line is b.line;
+    matched = Matched-late s.marks s.late late is_so b.matched;
+  }
+  by_test false is_so = record {
+    each_once = λ number. omega (arith, b.each_once number, sum_first (on_parcel number) s.line rest (Later late) is);
+    hands = b.hands;
+    line = All-rest ParcelKeepsNumber (Later late) rest s.line is b.line;
+    matched = b.matched;
+  }
 balanced_send s (Notice f) rest is b = record {
   each_once = λ number. omega (arith, b.each_once number, sum_first (on_parcel number) s.line rest (Notice f) is);
   hands = b.hands;
   line = All-rest ParcelKeepsNumber (Notice f) rest s.line is b.line;
+  matched = b.matched;
 }
-balanced_send s (Late f) rest is b = record {
-  each_once = λ number. omega (arith, b.each_once number, sum_first (on_parcel number) s.line rest (Late f) is);
+
+balanced_late : (s : State) (late : LateSeen) → Balanced s → Balanced (record s { line = s.line ++ Later late ∷ [] })
+balanced_late s late b = record {
+  each_once = λ number. omega (arith, b.each_once number, sum_by_push (on_parcel number) s.line (Later late));
   hands = b.hands;
-  line = All-rest ParcelKeepsNumber (Late f) rest s.line is b.line;
+  line = All-push ParcelKeepsNumber s.line (Later late) b.line tt;
+  matched = b.matched;
 }
+
+balanced_hand : (s : State) (worker : ℕ) (out : Out) (t : State) → HandAnswers s worker out t → Balanced s → Balanced t
+balanced_hand s worker out t h b = subst Balanced (sym h.3) (balanced_answer s worker h.0 out h.1 h.2 b)
 
 pub Happens-balanced : (s : State) (event : Event) (t : State) → Happens s event t → Balanced s → Balanced t
 Happens-balanced s (Receive m) t h b = subst Balanced (sym h.1) (balanced_receive s m b)
 Happens-balanced s (Take worker) t h b = subst Balanced (sym h.4) (balanced_take s worker h.0 h.1 h.2 h.3 b)
-Happens-balanced s (Answer worker out) t h b = subst Balanced (sym h.3) (balanced_answer s worker h.0 out h.1 h.2 b)
+Happens-balanced s (Answer worker out) t h b = balanced_hand s worker out t h b
+Happens-balanced s (Defer worker seq id) t h b = balanced_hand s worker (Deferred seq id) t h b
 Happens-balanced s (Push worker) t h b = subst Balanced (sym h.4) (balanced_push s worker h.0 h.1 h.2 b)
 Happens-balanced s Send t h b = subst Balanced (sym h.3) (balanced_send s h.0 h.1 h.2 b)
 Happens-balanced s (Own m out) t h b = subst Balanced (sym h.2) (balanced_own s m out h.1 b)
+Happens-balanced s (Late late) t h b = subst Balanced (sym h.1) (balanced_late s late b)
 Happens-balanced s (Notify f) t h b = subst Balanced (sym h.1) (balanced_notify s f b)
 
 pub Follows-balanced : {E : Type 0} (s : State) (event : Event) (result : Result (Option State) E) → IfOk result (Follows s event) → Balanced s
@@ -204,6 +240,7 @@ empty-balanced workers = record {
   each_once = λ number. omega (arith, sum_by-replicate (in_hand number) workers Empty, once_below-zero number);
   hands = All-replicate HandKeepsNumber workers Empty tt;
   line = All-nil ParcelKeepsNumber;
+  matched = tt;
 }
 
 -- no number stands twice among what was sent and what comes later

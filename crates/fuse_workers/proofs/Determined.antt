@@ -1,15 +1,17 @@
 -- That an event makes one state of a state, and what that says of several events.
-use Rattle.std.proofs.Common.{◌≡◌, ◌<◌, ◌+◌, ◌≤◌, ℕ, List, [], ◌∷◌, ◌++◌, drop, get_or, length, sym, ◌∙◌, ap, subst, refl}
+use Rattle.std.proofs.Common.{◌≡◌, ◌<◌, ◌+◌, ◌≤◌, ℕ, Option, Some, None, List, [], ◌∷◌, ◌++◌, drop, get_or, length, sym, ◌∙◌, ap, subst, refl}
 use Rattle.std.proofs.lemmas.List.{drop_all, drop_more}
 use Rattle.std.proofs.lemmas.Option.{same_Some}
+use Rattle.fuse_wire.specs.declared.newtypes.RequestId.{RequestId}
 use Rattle.fuse_reply.specs.declared.out.Out.{Out}
+use Rattle.fuse_reply.specs.declared.out.Out.TheVariants.{Deferred}
 use Rattle.fuse_reply.specs.declared.parcel.Parcel.TheVariants.{Prompt}
 use Rattle.fuse_workers.specs.declared.event.Event.{Event}
-use Rattle.fuse_workers.specs.declared.event.Event.TheVariants.{Receive, Take, Answer, Push, Send, Own, Notify}
+use Rattle.fuse_workers.specs.declared.event.Event.TheVariants.{Receive, Take, Answer, Defer, Push, Send, Own, Late, Notify}
 use Rattle.fuse_workers.specs.declared.state.Hand.TheVariants.{Empty, Asked, Answered}
 use Rattle.fuse_workers.specs.declared.state.Job.{Job}
 use Rattle.fuse_workers.specs.declared.state.State.{State}
-use Rattle.fuse_workers.specs.Step.{Happens, Runs, with_hand, went}
+use Rattle.fuse_workers.specs.Step.{Follows, HandAnswers, Happens, Runs, with_hand, went}
 
 same_first : {X : Type 0} (xs us vs : List X) (x y : X) → xs ≡ x ∷ us → xs ≡ y ∷ vs → x ≡ y
 same_first xs us vs x y a b = let both : x ∷ us ≡ y ∷ vs = sym a ∙ b in cc
@@ -23,15 +25,19 @@ same_asked j k same = cc
 same_answered : (seq n : ℕ) (out o : Out) → Answered seq out ≡ Answered n o → (seq ≡ n) × (out ≡ o)
 same_answered seq n out o same = (cc, cc)
 
+same_answer : (s : State) (worker : ℕ) (out : Out) (t u : State) → HandAnswers s worker out t → HandAnswers s worker out u → t ≡ u
+same_answer s worker out t u h k =
+    let asked : h.0 ≡ k.0 = same_asked h.0 k.0 (same_Some (Asked h.0) (Asked k.0) (sym h.1 ∙ k.1)) in
+    h.3 ∙ ap (λ (j : Job). with_hand s worker (Answered j.seq out)) asked ∙ sym k.3
+
 pub Happens-one : (s : State) (event : Event) (t u : State) → Happens s event t → Happens s event u → t ≡ u
 Happens-one s (Receive m) t u h k = h.1 ∙ sym k.1
 Happens-one s (Take worker) t u h k =
     let first : h.0 ≡ k.0 = same_first s.jobs h.1 k.1 h.0 k.0 h.2 k.2 in
     let rest : h.1 ≡ k.1 = same_rest s.jobs h.1 k.1 h.0 k.0 h.2 k.2 in
     h.4 ∙ (λ i. with_hand (record s { jobs = rest i }) worker (Asked (first i))) ∙ sym k.4
-Happens-one s (Answer worker out) t u h k =
-    let asked : h.0 ≡ k.0 = same_asked h.0 k.0 (same_Some (Asked h.0) (Asked k.0) (sym h.1 ∙ k.1)) in
-    h.3 ∙ ap (λ (j : Job). with_hand s worker (Answered j.seq out)) asked ∙ sym k.3
+Happens-one s (Answer worker out) t u h k = same_answer s worker out t u h k
+Happens-one s (Defer worker seq id) t u h k = same_answer s worker (Deferred seq id) t u h k
 Happens-one s (Push worker) t u h k =
     let same = same_answered h.0 k.0 h.1 k.1 (same_Some (Answered h.0 h.1) (Answered k.0 k.1) (sym h.2 ∙ k.2)) in
     h.4 ∙ (λ i. with_hand (record s { line = s.line ++ Prompt (same.0 i) (same.1 i) ∷ [] }) worker Empty) ∙ sym k.4
@@ -40,7 +46,14 @@ Happens-one s Send t u h k =
     let rest : h.1 ≡ k.1 = same_rest s.line h.1 k.1 h.0 k.0 h.2 k.2 in
     h.3 ∙ (λ i. went (first i) (record s { line = rest i })) ∙ sym k.3
 Happens-one s (Own m out) t u h k = h.2 ∙ sym k.2
+Happens-one s (Late late) t u h k = h.1 ∙ sym k.1
 Happens-one s (Notify f) t u h k = h.1 ∙ sym k.1
+
+-- a worker that leaves its answer for later has answered by a mark
+pub Follows-deferred : (s : State) (worker seq : ℕ) (id : RequestId) (after : Option State) → Follows s (Answer worker (Deferred seq id)) after
+    → Follows s (Defer worker seq id) after
+Follows-deferred s worker seq id (Some t) h = h
+Follows-deferred s worker seq id None h = h
 
 -- what comes after the first of several events
 pub Runs-after : (s next t : State) (event : Event) (events : List Event) → Happens s event next → Runs s (event ∷ events) t → Runs next events t

@@ -1,4 +1,6 @@
 pub mod Determined
+pub mod Matching
+pub mod LateFrames
 pub mod Balancing
 pub mod Outgoing
 pub mod ItemLists
@@ -16,5 +18,4 @@ mod Relaying
 mod Hearing
 mod Conducting
 mod Assembling
-pub mod Matching
 mod Bookkeeping

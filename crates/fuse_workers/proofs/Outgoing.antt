@@ -1,25 +1,27 @@
 -- That what is sent is owed to the message of its number.
 use Rattle.std.proofs.Common.{◌≡◌, ℕ, zero, suc, List, [], ◌∷◌, ◌++◌, Some, length}
-use Rattle.std.proofs.Common.{sym, subst, refl}
+use Rattle.std.proofs.Common.{Bool, true, false, if◌then◌else◌, sym, subst, refl}
 use Rattle.std.specs.List.{All, slice_get}
 use Rattle.std.proofs.lemmas.List.Elements.{All-head, All-nil, All-push, All-replicate, All-rest, All-set}
 use Rattle.std.proofs.lemmas.Option.{none-some}
 use Rattle.fuse_reply.specs.declared.out.Out.{Out}
 use Rattle.fuse_reply.specs.declared.out.Out.TheVariants.{Frame, Note, Deferred}
+use Rattle.fuse_reply.specs.Late.{LateSeen}
 use Rattle.fuse_reply.specs.declared.parcel.Parcel.{Parcel}
-use Rattle.fuse_reply.specs.declared.parcel.Parcel.TheVariants.{Prompt, Notice, Late}
+use Rattle.fuse_reply.specs.declared.parcel.Parcel.TheVariants.{Prompt, Notice, Late as Later}
+use Rattle.fuse_workers.specs.Marks.{is_unused, late_tag}
 use Rattle.fuse_workers.specs.declared.event.Event.{Event}
-use Rattle.fuse_workers.specs.declared.event.Event.TheVariants.{Receive, Take, Answer, Push, Send, Own, Notify}
+use Rattle.fuse_workers.specs.declared.event.Event.TheVariants.{Receive, Take, Answer, Defer, Push, Send, Own, Late, Notify}
 use Rattle.fuse_workers.specs.declared.state.Hand.{Hand}
 use Rattle.fuse_workers.specs.declared.state.Hand.TheVariants.{Empty, Asked, Answered}
 use Rattle.fuse_workers.specs.declared.state.Job.{Job}
 use Rattle.fuse_workers.specs.declared.state.Mark.{Mark}
 use Rattle.fuse_workers.specs.declared.state.SentOut.{SentOut}
 use Rattle.fuse_workers.specs.declared.state.State.{State}
-use Rattle.fuse_workers.specs.Step.{Happens, Runs, empty, job, with_hand, went}
+use Rattle.fuse_workers.specs.Step.{HandAnswers, Happens, Runs, empty, job, with_hand, went}
 use Rattle.fuse_workers.specs.Balanced.{Balanced, ParcelKeepsNumber}
 use Rattle.fuse_workers.specs.OneEach.{Owing}
-use Rattle.fuse_workers.specs.Owing.{OwedAt, EachOwed, IsOwed, OwedApart, SendsOwed}
+use Rattle.fuse_workers.specs.Owing.{OwedAt, OwedInHand, EachOwed, IsOwed, OwedApart, SendsOwed}
 use Rattle.fuse_workers.proofs.Balancing.{Balanced-apart, Happens-balanced, all_at, empty-balanced, first_keeps}
 
 -- a message stays where it was received, whatever comes after it
@@ -49,8 +51,8 @@ module _ (owed : Owing) where
 
   abbrev ParcelOwed : (messages : List (List ℕ)) → Parcel → Type 0
   ParcelOwed messages (Prompt seq out) = IsOwed owed messages seq out
+  ParcelOwed messages (Later late) = Unit {0}
   ParcelOwed messages (Notice f) = Unit {0}
-  ParcelOwed messages (Late f) = Unit {0}
 
   abbrev SentOwed : (messages : List (List ℕ)) → SentOut → Type 0
   SentOwed messages o = IsOwed owed messages o.seq o.out
@@ -76,8 +78,8 @@ module _ (owed : Owing) where
 
   parcel_grown : (messages : List (List ℕ)) (m : List ℕ) (parcel : Parcel) → ParcelOwed messages parcel → ParcelOwed (messages ++ m ∷ []) parcel
   parcel_grown messages m (Prompt seq out) h = owed_grown messages m seq out h
+  parcel_grown messages m (Later late) h = tt
   parcel_grown messages m (Notice f) h = tt
-  parcel_grown messages m (Late f) h = tt
 
   -- one message more was received
   faithful_grown : (s : State) (m : List ℕ) → Faithful s → Faithful (record s { received = s.received ++ m ∷ [] })
@@ -183,8 +185,23 @@ module _ (owed : Owing) where
     sent_owed = All-push (SentOwed s.received) s.sent (record { seq = seq; out = Note id mark }) f.sent_owed is_owed;
     marks_owed = f.marks_owed;
   }
+  faithful_went s (Later late) is_owed keeps f = by_test (is_unused (late_tag late) s.marks s.late) where
+    by_test : (unused : Bool) → Faithful (if unused then record s { late = s.late ++ late ∷ [] } else record s { held = s.held ++ late ∷ [] })
+    by_test true = record {
+      jobs_are = f.jobs_are;
+      hands_owed = f.hands_owed;
+      line_owed = f.line_owed;
+      sent_owed = f.sent_owed;
+      marks_owed = f.marks_owed;
+    }
+    by_test false = record {
+      jobs_are = f.jobs_are;
+      hands_owed = f.hands_owed;
+      line_owed = f.line_owed;
+      sent_owed = f.sent_owed;
+      marks_owed = f.marks_owed;
+    }
   faithful_went s (Notice frame) is_owed keeps f = f
-  faithful_went s (Late frame) is_owed keeps f = f
 
   faithful_send : (s : State) (first : Parcel) (rest : List Parcel) → s.line ≡ first ∷ rest → Balanced s → Faithful s
       → Faithful (went first (record s { line = rest }))
@@ -197,13 +214,27 @@ module _ (owed : Owing) where
         marks_owed = f.marks_owed;
       })
 
+  faithful_late : (s : State) (late : LateSeen) → Faithful s → Faithful (record s { line = s.line ++ Later late ∷ [] })
+  faithful_late s late f = record {
+    jobs_are = f.jobs_are;
+    hands_owed = f.hands_owed;
+    line_owed = All-push (ParcelOwed s.received) s.line (Later late) f.line_owed tt;
+    sent_owed = f.sent_owed;
+    marks_owed = f.marks_owed;
+  }
+
+  faithful_hand : (s : State) (worker : ℕ) (out : Out) (t : State) → HandAnswers s worker out t → OwedInHand owed s worker out → Faithful s → Faithful t
+  faithful_hand s worker out t h o f = subst Faithful (sym h.3) (faithful_answer s worker h.0 out h.1 (o h.0 h.1) f)
+
   Happens-faithful : (s : State) (event : Event) (t : State) → Happens s event t → OwedAt owed s event → Balanced s → Faithful s → Faithful t
   Happens-faithful s (Receive m) t h o b f = subst Faithful (sym h.1) (faithful_receive s m f)
   Happens-faithful s (Take worker) t h o b f = subst Faithful (sym h.4) (faithful_take s worker h.0 h.1 h.2 f)
-  Happens-faithful s (Answer worker out) t h o b f = subst Faithful (sym h.3) (faithful_answer s worker h.0 out h.1 (o h.0 h.1) f)
+  Happens-faithful s (Answer worker out) t h o b f = faithful_hand s worker out t h o f
+  Happens-faithful s (Defer worker seq id) t h o b f = faithful_hand s worker (Deferred seq id) t h o f
   Happens-faithful s (Push worker) t h o b f = subst Faithful (sym h.4) (faithful_push s worker h.0 h.1 h.2 f)
   Happens-faithful s Send t h o b f = subst Faithful (sym h.3) (faithful_send s h.0 h.1 h.2 b f)
   Happens-faithful s (Own m out) t h o b f = subst Faithful (sym h.2) (faithful_own s m out o f)
+  Happens-faithful s (Late late) t h o b f = subst Faithful (sym h.1) (faithful_late s late f)
   Happens-faithful s (Notify frame) t h o b f = subst Faithful (sym h.1) (faithful_notify s frame f)
 
   faithful_empty : (workers : ℕ) → Faithful (empty workers)

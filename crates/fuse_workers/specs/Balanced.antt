@@ -1,10 +1,12 @@
--- Each message that was received is in one place.
-use Rattle.std.specs.Prelude.{◌≡◌, ◌+◌, ◌==◌, ℕ, if◌then◌else◌, length, nat_lt}
+-- Each message that was received is in one place, and each late frame that was sent has a mark.
+use Rattle.std.specs.Prelude.{◌≡◌, ◌+◌, ◌==◌, ℕ, if◌then◌else◌, length, nat_lt, map}
 use Rattle.std.specs.List.{All, sum_by}
 use Rattle.fuse_reply.specs.declared.out.Out.{Out}
 use Rattle.fuse_reply.specs.declared.out.Out.TheVariants.{Frame, Note, Deferred}
 use Rattle.fuse_reply.specs.declared.parcel.Parcel.{Parcel}
 use Rattle.fuse_reply.specs.declared.parcel.Parcel.TheVariants.{Prompt, Notice, Late}
+use Rattle.fuse_workers.specs.Marks.{late_tag, tag_of}
+use Rattle.fuse_workers.specs.Matched.{Matched}
 use Rattle.fuse_workers.specs.declared.state.Hand.{Hand}
 use Rattle.fuse_workers.specs.declared.state.Hand.TheVariants.{Empty, Asked, Answered}
 use Rattle.fuse_workers.specs.declared.state.State.{State}
@@ -22,8 +24,8 @@ in_hand number (Answered seq out) = once_if number seq
 -- how often a number stands on a parcel
 abbrev pub on_parcel : (number : ℕ) → Parcel → ℕ
 on_parcel number (Prompt seq out) = once_if number seq
+on_parcel number (Late late) = 0
 on_parcel number (Notice f) = 0
-on_parcel number (Late f) = 0
 
 -- how often a number stands among what was sent and what comes later
 abbrev pub settled : (number : ℕ) → State → ℕ
@@ -47,12 +49,14 @@ HandKeepsNumber (Answered seq out) = KeepsNumber seq out
 
 abbrev pub ParcelKeepsNumber : Parcel → Type 0
 ParcelKeepsNumber (Prompt seq out) = KeepsNumber seq out
+ParcelKeepsNumber (Late late) = Unit {0}
 ParcelKeepsNumber (Notice f) = Unit {0}
-ParcelKeepsNumber (Late f) = Unit {0}
 
 -- The numbers below the count of the messages received are, each once, those of jobs, hands, prompts on the line, what was sent and
--- what comes later; and there is no other number. Each mark in a hand or on the line has its prompt's number.
+-- what comes later; and there is no other number. Each mark in a hand or on the line has its prompt's number. The late frames that were
+-- sent go to different marks.
 pub record Balanced (s : State) : Type 0 where
   pub each_once : (number : ℕ) → stands number s ≡ (if nat_lt number (length s.received) then 1 else 0)
   pub hands : All HandKeepsNumber s.hands
   pub line : All ParcelKeepsNumber s.line
+  pub matched : Matched (map tag_of s.marks) (map late_tag s.late)

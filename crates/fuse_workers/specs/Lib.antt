@@ -1,3 +1,5 @@
+pub mod Matched
+pub mod Marks
 pub mod Step
 pub mod Balanced
 pub mod Incoming
@@ -14,5 +16,4 @@ pub mod Relays
 pub mod Hearing
 pub mod Promises
 pub mod Conducting
-pub mod Matched
 pub mod Book

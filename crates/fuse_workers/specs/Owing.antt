@@ -4,7 +4,7 @@ use Rattle.std.specs.List.{All}
 use Rattle.fuse_reply.specs.declared.out.Out.{Out}
 use Rattle.fuse_reply.specs.declared.out.Out.TheVariants.{Deferred}
 use Rattle.fuse_workers.specs.declared.event.Event.{Event}
-use Rattle.fuse_workers.specs.declared.event.Event.TheVariants.{Receive, Take, Answer, Push, Send, Own, Notify}
+use Rattle.fuse_workers.specs.declared.event.Event.TheVariants.{Receive, Take, Answer, Defer, Push, Send, Own, Late, Notify}
 use Rattle.fuse_workers.specs.declared.state.Hand.TheVariants.{Asked}
 use Rattle.fuse_workers.specs.declared.state.Job.{Job}
 use Rattle.fuse_workers.specs.declared.state.State.{State}
@@ -16,14 +16,20 @@ use Rattle.fuse_workers.specs.Step.{Happens, Runs, empty}
 abbrev pub passes : (ℕ → List ℕ → Out → Bool) → Owing
 passes test seq m out = IsTrue (test seq m out)
 
--- an answer is owed to the message that it answers
+-- what goes out for the job in a hand is owed to its message
+abbrev pub OwedInHand : Owing → State → (worker : ℕ) → Out → Type 0
+OwedInHand owed s worker out = (asked : Job) → slice_get s.hands worker ≡ Some (Asked asked) → owed asked.seq asked.message out
+
+-- an answer is owed to the message that it answers, and so is the mark of one that comes later
 abbrev pub OwedAt : Owing → State → Event → Type 0
-OwedAt owed s (Answer worker out) = (asked : Job) → slice_get s.hands worker ≡ Some (Asked asked) → owed asked.seq asked.message out
+OwedAt owed s (Answer worker out) = OwedInHand owed s worker out
+OwedAt owed s (Defer worker seq id) = OwedInHand owed s worker (Deferred seq id)
 OwedAt owed s (Own m out) = owed (length s.received) m out
 OwedAt owed s (Receive m) = Unit {0}
 OwedAt owed s (Take worker) = Unit {0}
 OwedAt owed s (Push worker) = Unit {0}
 OwedAt owed s Send = Unit {0}
+OwedAt owed s (Late late) = Unit {0}
 OwedAt owed s (Notify f) = Unit {0}
 
 -- each answer among the events is owed, in the state that the events before it lead to

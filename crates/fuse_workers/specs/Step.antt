@@ -1,23 +1,26 @@
 -- What may happen on any number of workers, one step after another, and what each step makes of the state. The lists stand for what
 -- the threads share: a line of jobs, a hand for each worker, and a line of parcels for whoever sends.
-use Rattle.std.specs.Prelude.{◌≡◌, ◌<◌, ◌++◌, ℕ, List, [], ◌∷◌, Option, Some, None, Ok, length, replicate, slice_get, slice_set}
+use Rattle.std.specs.Prelude.{◌≡◌, ◌<◌, ◌++◌, ℕ, List, [], ◌∷◌, Option, Some, None, Ok, length, replicate, slice_get, slice_set, if◌then◌else◌}
 use Rattle.fuse_request.specs.Header.{header}
 use Rattle.fuse_request.specs.declared.any_request.Header.{Header}
 use Rattle.fuse_reply.specs.declared.out.Out.{Out}
 use Rattle.fuse_reply.specs.declared.out.Out.TheVariants.{Frame, Note, Deferred}
+use Rattle.fuse_reply.specs.Late.{LateSeen}
 use Rattle.fuse_reply.specs.declared.parcel.Parcel.{Parcel}
-use Rattle.fuse_reply.specs.declared.parcel.Parcel.TheVariants.{Prompt, Notice, Late}
+use Rattle.fuse_reply.specs.declared.parcel.Parcel.TheVariants.{Prompt, Notice, Late as Later}
+use Rattle.fuse_workers.specs.Marks.{is_unused, late_tag, let_go, still_held, tag_of}
 use Rattle.fuse_workers.specs.declared.event.Event.{Event}
-use Rattle.fuse_workers.specs.declared.event.Event.TheVariants.{Receive, Take, Answer, Push, Send, Own, Notify}
+use Rattle.fuse_workers.specs.declared.event.Event.TheVariants.{Receive, Take, Answer, Defer, Push, Send, Own, Late, Notify}
 use Rattle.fuse_workers.specs.declared.state.TheConstants.{LINE_PLACES}
 use Rattle.fuse_workers.specs.declared.state.Hand.{Hand}
 use Rattle.fuse_workers.specs.declared.state.Hand.TheVariants.{Empty, Asked, Answered}
 use Rattle.fuse_workers.specs.declared.state.Job.{Job}
+use Rattle.fuse_workers.specs.declared.state.Mark.{Mark}
 use Rattle.fuse_workers.specs.declared.state.State.{State}
 
 -- nothing has happened yet, and there are so many workers
 abbrev pub empty : (workers : ℕ) → State
-empty workers = record { received = []; jobs = []; hands = replicate workers Empty; line = []; sent = []; marks = [] }
+empty workers = record { received = []; jobs = []; hands = replicate workers Empty; line = []; sent = []; marks = []; held = []; late = [] }
 
 -- a line has a place for one more
 abbrev pub HasRoom : {X : Type 0} → List X → Type 0
@@ -38,14 +41,29 @@ job seq m = record { seq = seq; message = m }
 abbrev pub with_hand : State → (worker : ℕ) → Hand → State
 with_hand s worker hand = record s { hands = slice_set s.hands worker hand }
 
--- what sending a parcel makes of a state: what goes out for a message was sent, or marks that the reply comes later; a frame that
--- comes later is dropped
+-- the state after a mark came, which lets the first held frame go that goes to it
+abbrev pub marked : Mark → State → State
+marked mark s =
+    record s { marks = s.marks ++ mark ∷ []; held = still_held (tag_of mark) s.held; late = s.late ++ let_go (tag_of mark) s.held }
+
+-- the state after a late frame left the line: it was sent where a mark of its number and id is unused, and else it is held
+abbrev pub late_went : LateSeen → State → State
+late_went late s =
+    if is_unused (late_tag late) s.marks s.late then record s { late = s.late ++ late ∷ [] } else record s { held = s.held ++ late ∷ [] }
+
+-- what sending a parcel makes of a state: what goes out for a message was sent, or marks that the reply comes later
 abbrev pub went : Parcel → State → State
-went (Prompt seq (Deferred number id)) s = record s { marks = s.marks ++ record { seq = number; id = id } ∷ [] }
+went (Prompt seq (Deferred number id)) s = marked (record { seq = number; id = id }) s
 went (Prompt seq (Frame f)) s = record s { sent = s.sent ++ record { seq = seq; out = Frame f } ∷ [] }
 went (Prompt seq (Note id mark)) s = record s { sent = s.sent ++ record { seq = seq; out = Note id mark } ∷ [] }
+went (Later late) s = late_went late s
 went (Notice f) s = s
-went (Late f) s = s
+
+-- a hand with a job comes to hold what goes out for it
+abbrev pub HandAnswers : State → (worker : ℕ) → Out → State → Type 0
+HandAnswers s worker out t =
+    (asked : Job) × (slice_get s.hands worker ≡ Some (Asked asked)) × StandsFor asked.seq asked.message out
+    × (t ≡ with_hand s worker (Answered asked.seq out))
 
 -- The event may happen in the first state, and makes the other of it.
 abbrev pub Happens : State → Event → State → Type 0
@@ -56,10 +74,10 @@ Happens s (Receive m) t =
 Happens s (Take worker) t =
     (first : Job) × (rest : List Job) × (s.jobs ≡ first ∷ rest) × (slice_get s.hands worker ≡ Some Empty)
     × (t ≡ with_hand (record s { jobs = rest }) worker (Asked first))
--- a hand with a job comes to hold what goes out for it
-Happens s (Answer worker out) t =
-    (asked : Job) × (slice_get s.hands worker ≡ Some (Asked asked)) × StandsFor asked.seq asked.message out
-    × (t ≡ with_hand s worker (Answered asked.seq out))
+-- what goes out for a job is in the hand that had the job
+Happens s (Answer worker out) t = HandAnswers s worker out t
+-- and so is the mark of a reply that comes later
+Happens s (Defer worker seq id) t = HandAnswers s worker (Deferred seq id) t
 -- what a hand holds is the last parcel
 Happens s (Push worker) t =
     (seq : ℕ) × (out : Out) × (slice_get s.hands worker ≡ Some (Answered seq out)) × HasRoom s.line
@@ -70,6 +88,8 @@ Happens s Send t = (first : Parcel) × (rest : List Parcel) × (s.line ≡ first
 Happens s (Own m out) t =
     HasRoom s.line × StandsFor (length s.received) m out
     × (t ≡ record s { received = s.received ++ m ∷ []; line = s.line ++ Prompt (length s.received) out ∷ [] })
+-- a reply that comes later is the last parcel
+Happens s (Late late) t = HasRoom s.line × (t ≡ record s { line = s.line ++ Later late ∷ [] })
 -- a notice is the last parcel
 Happens s (Notify f) t = HasRoom s.line × (t ≡ record s { line = s.line ++ Notice f ∷ [] })
 

@@ -2,7 +2,7 @@
 ghost use Rattle.std.specs.Prelude.{◌≡◌, IfOk};
 
 use crate::{Hand, Job, Mark, SentOut, State};
-use fuse_reply::{Out, Parcel};
+use fuse_reply::{LateFrame, Out, Parcel};
 use fuse_wire::{Items, NoMemory};
 use std::alloc::Global;
 
@@ -30,6 +30,12 @@ impl Copied for Job {
 
 impl Copied for Out {
     fn copied(&self, _alloc: Global) -> Result<Out, NoMemory> {
+        Ok(self.clone()?)
+    }
+}
+
+impl Copied for LateFrame {
+    fn copied(&self, _alloc: Global) -> Result<LateFrame, NoMemory> {
         Ok(self.clone()?)
     }
 }
@@ -74,6 +80,8 @@ impl Copied for State {
             line: copies(alloc, &self.line)?,
             sent: copies(alloc, &self.sent)?,
             marks: copies(alloc, &self.marks)?,
+            held: copies(alloc, &self.held)?,
+            late: copies(alloc, &self.late)?,
         })
     }
 }

@@ -17,6 +17,7 @@ mod intake;
 pub mod laws;
 mod lent;
 mod lists;
+mod marks;
 mod outlet;
 mod request_job;
 mod run_line;

@@ -1,6 +1,6 @@
 // Lists that are made from others.
 ghost use Rattle.std.specs.Prelude.{◌≡◌, ◌<◌, ◌∷◌, ◌++◌, [], length, IfOk, MatchOption};
-ghost use Rattle.std.specs.Prelude.{Some, slice_get, slice_set};
+ghost use Rattle.std.specs.Prelude.{Some, remove, slice_get, slice_set};
 
 use fuse_wire::{Items, NoMemory};
 use std::mem;
@@ -26,6 +26,17 @@ pub(crate) fn first<T: Drop>(items: Items<T>) -> Option<(T, Items<T>)>
     }
     let first = items.remove(0);
     Some((first, Items::from_vec(items)))
+}
+
+/// The item at a place, and the list without it.
+pub(crate) fn removed<T: Drop>(items: Items<T>, place: usize) -> (T, Items<T>)
+    requires { place < length items }
+    ensures item { slice_get items place ≡ Some result.0 }
+    ensures rest { result.1 ≡ remove items place }
+{
+    let mut items = items.into_vec();
+    let item = items.remove(place);
+    (item, Items::from_vec(items))
 }
 
 /// The item at a place, and the list with another one there.

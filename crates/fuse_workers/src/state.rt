@@ -3,7 +3,7 @@ ghost use Rattle.std.specs.Prelude.{◌≡◌, IfOk, replicate};
 ghost use Rattle.fuse_workers.specs.Balanced.{Balanced};
 ghost use Rattle.fuse_workers.specs.Step.{empty};
 
-use fuse_reply::{Out, Parcel};
+use fuse_reply::{LateFrame, Out, Parcel};
 use fuse_wire::{Items, NoMemory, RequestId};
 use std::alloc::Global;
 
@@ -63,6 +63,10 @@ pub struct State {
     pub sent: Items<SentOut>,
     /// The messages whose replies come later, in the order in which that was told.
     pub marks: Items<Mark>,
+    /// The replies that came later, but before their mark, in order.
+    pub held: Items<LateFrame>,
+    /// The replies that came later and were sent, in order.
+    pub late: Items<LateFrame>,
 }
 
 impl State {
@@ -78,6 +82,8 @@ impl State {
             line: Items::from_vec(Vec::new(alloc)),
             sent: Items::from_vec(Vec::new(alloc)),
             marks: Items::from_vec(Vec::new(alloc)),
+            held: Items::from_vec(Vec::new(alloc)),
+            late: Items::from_vec(Vec::new(alloc)),
         })
     }
 }

@@ -3,14 +3,15 @@ ghost use Rattle.std.specs.Prelude.{◌≡◌, ◌↔◌, ℕ, List, Bool, IsTru
 ghost use Rattle.fuse_reply.specs.declared.out.Out.{Out as Goes};
 ghost use Rattle.fuse_workers.specs.Balanced.{Balanced};
 ghost use Rattle.fuse_workers.specs.Owing.{EachOwed, OwedApart, passes};
-ghost use Rattle.fuse_workers.specs.Step.{Follows, LeadsTo, StandsFor, empty, went};
+ghost use Rattle.fuse_workers.specs.Step.{Follows, LeadsTo, StandsFor, empty, late_went, marked, went};
 
 use crate::copied::Copied;
-use crate::lists::{exchanged, first, pushed};
+use crate::lists::{exchanged, first, pushed, removed};
+use crate::marks::{first_held, is_unused, tag_of, tag_of_late};
 use crate::{Event, Hand, Job, LINE_PLACES, Mark, SentOut, State};
-use fuse_reply::{NoticeFrame, Out, Parcel};
+use fuse_reply::{LateFrame, NoticeFrame, Out, Parcel};
 use fuse_request::AnyRequest;
-use fuse_wire::{Items, NoMemory};
+use fuse_wire::{Items, NoMemory, RequestId};
 use std::alloc::Global;
 
 /// The state after an event, or None where the event cannot happen.
@@ -52,9 +53,11 @@ fn after(alloc: Global, state: State, event: &Event) -> Result<Option<State>, No
         Event::Receive(message) => received(alloc, state, message),
         Event::Take(worker) => Ok(taken(state, *worker)),
         Event::Answer(worker, out) => Ok(answered(state, *worker, out.copied(alloc)?)),
+        Event::Defer(worker, seq, id) => Ok(deferred(state, *worker, *seq, *id)),
         Event::Push(worker) => put(state, *worker),
         Event::Send => sent(state),
         Event::Own(message, out) => owned(alloc, state, message, out.copied(alloc)?),
+        Event::Late(frame) => came_later(state, frame.clone()?),
         Event::Notify(frame) => notified(state, frame.clone()?),
     }
 }
@@ -138,6 +141,13 @@ fn answered(state: State, worker: usize, out: Out) -> Option<State>
     Some(State { hands, ..state })
 }
 
+/// A worker leaves the answer of its job for later.
+fn deferred(state: State, worker: usize, seq: u64, id: RequestId) -> Option<State>
+    ensures { Follows state (Event.Defer worker seq id) result }
+{
+    answered(state, worker, Out::Deferred(seq, id))
+}
+
 /// A worker puts what it has answered on the line.
 fn put(state: State, worker: usize) -> Result<Option<State>, NoMemory>
     ensures { IfOk result (Follows state (Event.Push worker)) }
@@ -152,6 +162,19 @@ fn put(state: State, worker: usize) -> Result<Option<State>, NoMemory>
     Ok(Some(State {
         hands,
         line: pushed(state.line, Parcel::Prompt(seq, out))?,
+        ..state
+    }))
+}
+
+/// A reply comes later.
+fn came_later(state: State, frame: LateFrame) -> Result<Option<State>, NoMemory>
+    ensures { IfOk result (Follows state (Event.Late frame)) }
+{
+    if state.line.as_slice().len() >= LINE_PLACES {
+        return Ok(None);
+    }
+    Ok(Some(State {
+        line: pushed(state.line, Parcel::Late(frame))?,
         ..state
     }))
 }
@@ -186,8 +209,46 @@ fn leave(state: State, parcel: Parcel) -> Result<State, NoMemory>
 {
     match parcel {
         Parcel::Prompt(seq, out) => settle(state, seq, out),
-        Parcel::Notice(_) | Parcel::Late(_) => Ok(state),
+        Parcel::Late(frame) => match_late(state, frame),
+        Parcel::Notice(_) => Ok(state),
     }
+}
+
+/// A late frame is sent where a mark for it is unused, and else it is held.
+fn match_late(state: State, frame: LateFrame) -> Result<State, NoMemory>
+    ensures { IfOk result (λ after. after ≡ late_went frame state) }
+{
+    if is_unused(
+        tag_of_late(&frame),
+        state.marks.as_slice(),
+        state.late.as_slice(),
+    ) {
+        return Ok(State {
+            late: pushed(state.late, frame)?,
+            ..state
+        });
+    }
+    Ok(State {
+        held: pushed(state.held, frame)?,
+        ..state
+    })
+}
+
+/// A mark comes, and lets the first frame go that is held for it.
+fn mark(state: State, mark: Mark) -> Result<State, NoMemory>
+    ensures { IfOk result (λ after. after ≡ marked mark state) }
+{
+    let marks = pushed(state.marks, mark)?;
+    let Some(place) = first_held(tag_of(mark), state.held.as_slice()) else {
+        return Ok(State { marks, ..state });
+    };
+    let (frame, held) = removed(state.held, place);
+    Ok(State {
+        marks,
+        held,
+        late: pushed(state.late, frame)?,
+        ..state
+    })
 }
 
 /// What goes out for a message is sent, or is a mark of what comes later.
@@ -195,10 +256,7 @@ fn settle(state: State, seq: u64, out: Out) -> Result<State, NoMemory>
     ensures { IfOk result (λ after. after ≡ went (Parcel.Prompt seq out) state) }
 {
     if let Out::Deferred(seq, id) = out {
-        return Ok(State {
-            marks: pushed(state.marks, Mark { seq, id })?,
-            ..state
-        });
+        return mark(state, Mark { seq, id });
     }
     Ok(State {
         sent: pushed(state.sent, SentOut { seq, out })?,

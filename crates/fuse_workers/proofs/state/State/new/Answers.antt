@@ -14,6 +14,8 @@ returns-clause-balanced c =
       line = c.from_vec-3.result;
       sent = c.from_vec-4.result;
       marks = c.from_vec-5.result;
+      held = c.from_vec-6.result;
+      late = c.from_vec-7.result;
     } in
     let is : made ≡ empty c.args.workers = λ i. record {
       received = (c.from_vec.ensures ∙ c.new.ensures.items) i;
@@ -22,5 +24,7 @@ returns-clause-balanced c =
       line = (c.from_vec-3.ensures ∙ c.new-3.ensures.items) i;
       sent = (c.from_vec-4.ensures ∙ c.new-4.ensures.items) i;
       marks = (c.from_vec-5.ensures ∙ c.new-5.ensures.items) i;
+      held = (c.from_vec-6.ensures ∙ c.new-6.ensures.items) i;
+      late = (c.from_vec-7.ensures ∙ c.new-7.ensures.items) i;
     } in
     subst Balanced (sym is) (empty-balanced c.args.workers)
