@@ -1,6 +1,6 @@
 // Marks and late frames in every order, many at once, and where memory is wanting.
-use fuse_workers::Book;
 use fuse_wire::RequestId;
+use fuse_workers::Book;
 use std::alloc::Global;
 use std::test::Fail;
 
