@@ -1,8 +1,9 @@
 // The frame of a reply that comes later.
 ghost use Rattle.std.specs.Prelude.{◌≡◌};
 ghost use Rattle.fuse_reply.specs.Late.{IsReplyTo, late};
+ghost use Rattle.fuse_reply.specs.declared.out.Out.{Out};
 
-use crate::Packed;
+use crate::{Out, Packed, ReplyFrame};
 use fuse_wire::RequestId;
 use std::alloc::AllocError;
 use std::marker::Model;
@@ -70,6 +71,14 @@ impl LateFrame {
         ensures { IsReplyTo self.now.id self.now.frame }
     {
         let _ = &self.packed;
+    }
+
+    /// What goes out: the frame, which is a reply.
+    pub fn into_out(self) -> Out
+        ensures frame { result ≡ Out.Frame self.frame }
+        ensures reply { IsReplyTo self.id self.frame }
+    {
+        Out::Frame(ReplyFrame::new(self.into_packed()))
     }
 
     /// The frame.
