@@ -6,7 +6,7 @@ use Rattle.fuse_wire.specs.Sink.{SinkState, Note}
 use Rattle.fuse_reply.specs.declared.out.Out.{Out}
 use Rattle.fuse_workers.specs.EventLoop.{Run}
 use Rattle.fuse_workers.specs.OneEach.{Accounting}
-use Rattle.fuse_workers.specs.Progress.{Moves, added, nothing_yet, progress, tally}
+use Rattle.fuse_workers.specs.Progress.{Moves, added, but_unrecorded, nothing_yet, progress, tally}
 use Rattle.fuse_workers.specs.declared.end.End.{End}
 use Rattle.fuse_workers.specs.declared.transcript.Transcript.{Transcript}
 
@@ -34,9 +34,9 @@ Moves-added {received} {frames} {notes} {lost} source source' sink sink' before 
   tail = moved.tail;
   cause = moved.cause;
   counts = λ r f n l is.
-      ap (λ (t : Transcript). added t counts) is
-      ∙ (ap (λ (t : Transcript). added (tally r f n l) t) (moved.counts 0 0 0 0 refl)
-      ∙ tally-added r f n l received (length frames) (length notes) (length lost));
+      ap (λ (t : Transcript). but_unrecorded (added t counts)) is
+      ∙ (ap (λ (t : Transcript). but_unrecorded (added (tally r f n l) t)) (moved.counts 0 0 0 0 refl)
+      ∙ ap but_unrecorded (tally-added r f n l received (length frames) (length notes) (length lost)));
 }
 
 pub Run-added : {accounted : Accounting} {end : End} (source source' : SourceState) (sink sink' : SinkState)

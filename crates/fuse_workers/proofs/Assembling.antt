@@ -1,35 +1,38 @@
 -- A run from its parts: up to order, where its parts are on several threads.
-use Rattle.std.proofs.Common.{◌≡◌, ◌∙◌, ◌++◌, ◌+◌, ◌∷◌, [], ℕ, suc, List, None, Some, ap, append-nil, arith, inl, inr}
-use Rattle.std.proofs.Common.{length, min, refl, subst, sym}
+use Rattle.std.proofs.Common.{◌≡◌, ◌⊎◌, ◌∙◌, ◌++◌, ◌+◌, ◌∷◌, [], ℕ, suc, Bool, true, false, List, ap, append-nil, arith, inl, inr}
+use Rattle.std.proofs.Common.{length, map, min, refl, subst, sym}
 use Rattle.std.specs.Prelude.{remove}
-use Rattle.std.specs.List.{AllByRecursion}
 use Rattle.fuse_wire.specs.Faults.{last_count}
-use Rattle.fuse_wire.specs.Source.{SourceState, Takes, NothingLeft, Failed as SourceFailed}
+use Rattle.fuse_wire.specs.Source.{SourceState, NothingLeft, Failed as SourceFailed}
 use Rattle.fuse_wire.specs.Sink.{SinkState, Note}
 use Rattle.fuse_reply.specs.declared.out.Out.{Out}
 use Rattle.fuse_reply.specs.declared.out.Out.TheVariants.{Frame, Note as Noting, Deferred}
 use Rattle.fuse_line.specs.declared.hand.Hand.{Hand}
 use Rattle.fuse_reply.specs.declared.parcel.Parcel.{Parcel}
-use Rattle.fuse_workers.specs.Conducting.{Conducts, answered_last}
+use Rattle.fuse_workers.specs.Conducting.{AnsweredBy, Conducts, answered_last}
 use Rattle.fuse_workers.specs.EventLoop.{Run, RunEnds}
 use Rattle.fuse_workers.specs.Hearing.{Hears, StopsWith, end_of}
-use Rattle.fuse_workers.specs.Incoming.{AllGoOn, Incoming, IsBroken, incoming, incoming_by}
-use Rattle.fuse_workers.specs.Incoming.Incoming.{Request}
-use Rattle.fuse_workers.specs.Lines.{notices_in}
-use Rattle.fuse_workers.specs.OneEach.{Accounting, InOrder, OneEach, Owing, UpToOrder, number_of}
+use Rattle.fuse_workers.specs.Incoming.{AllGoOn, IsBroken}
+use Rattle.fuse_workers.specs.Lines.{lates_in, notices_in}
+use Rattle.fuse_workers.specs.Book.{EachWaiting, IsBookOf, tags_of}
+use Rattle.fuse_workers.specs.Matched.{Matched, Tag}
+use Rattle.fuse_workers.specs.OneEachLater.{EachLetGo, NoneHeldBack, OneEachLater}
+use Rattle.fuse_workers.specs.Relays.{Relays, is_own, late_out, with_tag}
+use Rattle.fuse_reply.specs.Late.{LateSeen}
+use Rattle.fuse_workers.specs.OneEach.{Accounting, OneEach, Owing, UpToOrder, number_of}
 use Rattle.fuse_workers.specs.Pairing.{Parts, numbered, outs_of}
-use Rattle.fuse_workers.specs.Progress.{Begins, IntakeState, IsPrompt, Moves, OutletState, Progress, nothing_yet, progress, tally}
-use Rattle.fuse_workers.specs.Threads.{at_once}
+use Rattle.fuse_workers.specs.Progress.{IntakeState, IsPrompt, LeavesOut, Moves, RelayState, but_unrecorded, nothing_yet, progress, tally}
+use Rattle.fuse_workers.specs.Threads.{answering}
 use Rattle.fuse_workers.specs.declared.caller.Stopped.{Stopped}
 use Rattle.fuse_workers.specs.declared.caller.Stopped.TheVariants.{Gone, Destroy, Broken, Failed}
-use Rattle.fuse_workers.specs.declared.end.End.{End}
 use Rattle.fuse_workers.specs.declared.end.End.TheVariants as end
 use Rattle.fuse_workers.specs.declared.state.Job.{Job}
 use Rattle.fuse_workers.specs.declared.transcript.Transcript.{Transcript}
-use Rattle.fuse_workers.proofs.LoopSteps.{destroy-not-broken}
-use Rattle.fuse_workers.proofs.Moving.{Moves-then}
-use Rattle.fuse_workers.proofs.Order.{OneEach-from_order}
+use Rattle.fuse_workers.proofs.Bookkeeping.{IsBookOf-matches}
+use Rattle.fuse_workers.proofs.LateReplies.{each-let_go, gone-matched, none-gone, none-unused, replies-gone}
 use Rattle.fuse_workers.proofs.Pairing.{OneEach-parts, Pairs-all, Parts-prompt}
+use Rattle.fuse_workers.proofs.Quieting.{LeavesOut-none}
+use Rattle.fuse_workers.proofs.Splitting.{Split, bytes_of, frames_gone, split}
 
 -- what is owed in a stricter sense is owed
 pub OneEach-weaken : (strict owed : Owing) (broken : List ℕ → Type 0) → ((seq : ℕ) (m : List ℕ) (out : Out) → strict seq m out → owed seq m out)
@@ -57,68 +60,13 @@ OneEach-weaken strict owed broken weak place (m ∷ ms) fs ns marks lost (inr (i
 OneEach-weaken strict owed broken weak place (m ∷ ms) fs ns marks lost (inr (inr (inr p))) =
     inr (inr (inr (p.0, p.1, p.2, OneEach-weaken strict owed broken weak (suc place) ms fs ns marks p.0 p.3)))
 
--- no message among these is broken
-abbrev AllWhole : List (List ℕ) → Type 0
-AllWhole ms = AllByRecursion (λ m. IsBroken m → ⊥) ms
-
-goes-whole : (m : List ℕ) → incoming m ≡ Request → IsBroken m → ⊥
-goes-whole m goes broken =
-    let no : Incoming.Broken broken.0 ≡ Request = sym (ap incoming_by broken.1) ∙ goes in
-    absurd (let bad : ⊥ = cc in bad)
-
-all-go-whole : (ms more : List (List ℕ)) → AllGoOn ms → AllWhole more → AllWhole (ms ++ more)
-all-go-whole [] more go rest = rest
-all-go-whole (m ∷ ms) more go rest = (goes-whole m go.0, all-go-whole ms more go.1 rest)
-
--- what is owed to a message that is not broken
-abbrev whole : Owing → Owing
-whole owed seq m out = owed seq m out × (IsBroken m → ⊥)
-
-in-order-whole : (owed : Owing) (place : ℕ) (ms fs : List (List ℕ)) (ns : List Note) (lost : List Out) → AllWhole ms
-    → InOrder owed place ms fs ns lost → InOrder (whole owed) place ms fs ns lost
-in-order-whole owed place [] fs ns lost good h = h
-in-order-whole owed place (m ∷ ms) fs ns lost good (inl p) =
-    inl (p.0, p.1, p.2, (p.3, good.0), in-order-whole owed (suc place) ms p.1 ns lost good.1 p.4)
-in-order-whole owed place (m ∷ ms) fs ns lost good (inr (inl p)) =
-    inr (inl (p.0, p.1, p.2, (p.3, good.0), in-order-whole owed (suc place) ms fs p.1 lost good.1 p.4))
-in-order-whole owed place (m ∷ ms) fs ns lost good (inr (inr p)) =
-    inr (inr (p.0, p.1, p.2, (p.3, good.0), in-order-whole owed (suc place) ms fs ns p.1 good.1 p.4))
-
--- the messages of a run that were answered are not broken
-ends-whole : (found : End) (answered refused : List (List ℕ)) (none_left failed : Type 0) → RunEnds found answered refused none_left failed
-    → AllWhole answered
-ends-whole end.Gone answered refused none_left failed e = subst AllWhole (append-nil answered) (all-go-whole answered [] e.1 tt)
-ends-whole end.Destroyed answered refused none_left failed e =
-    subst AllWhole (sym e.1.2) (all-go-whole e.1.0 (e.1.1 ∷ []) e.1.3 (destroy-not-broken e.1.1 e.1.4, tt))
-ends-whole (end.Broken error) answered refused none_left failed e = subst AllWhole (append-nil answered) (all-go-whole answered [] e.1 tt)
-ends-whole end.Failed answered refused none_left failed e = subst AllWhole (append-nil answered) (all-go-whole answered [] e.1 tt)
-
--- what is in order is so up to order
-pub Run-up_to_order : (owed : Owing) (found : End) (p q : Progress) → Run (InOrder owed 0) found p q → Run (UpToOrder owed IsBroken) found p q
-Run-up_to_order owed found p q run = record {
-  turns = run.turns;
-  answered = run.answered;
-  refused = run.refused;
-  sent = run.sent;
-  notes = run.notes;
-  lost = run.lost;
-  heard = run.heard;
-  order = OneEach-weaken (whole owed) owed IsBroken (λ seq m out pays. pays.0) 0 run.answered run.sent run.notes [] (length run.lost)
-      (OneEach-from_order (whole owed) IsBroken (λ seq m out pays broken. pays.1 broken) 0 run.answered run.sent run.notes run.lost
-      (in-order-whole owed 0 run.answered run.sent run.notes run.lost
-      (ends-whole found run.answered run.refused (NothingLeft q.source) (SourceFailed p.source q.source) run.ended) run.order));
-  moved = run.moved;
-  begins = run.begins;
-  taken = run.taken;
-  ended = run.ended;
-}
-
--- what was counted from nothing, with the messages that were taken
-Moves-counted : {fs : List (List ℕ)} {ns : List Note} {ls : List Out} (turns received : ℕ) (source source' : SourceState) (sink sink' : SinkState)
+-- what was counted from nothing, with the messages that were taken, and with what could not be recorded
+Moves-counted : {fs : List (List ℕ)} {ns : List Note} {ls : List Out} (turns received unrecorded : ℕ) (source source' : SourceState) (sink sink' : SinkState)
     (counts counts' : Transcript) (unasked : List (List ℕ)) → Moves 0 fs ns ls (progress source sink counts []) (progress source sink' counts' unasked)
     → counts ≡ nothing_yet → received ≡ number_of turns
-    → Moves turns fs ns ls (progress source sink nothing_yet []) (progress source' sink' (record counts' { received = received }) unasked)
-Moves-counted {fs} {ns} {ls} turns received source source' sink sink' counts counts' unasked moved none took = record {
+    → Moves turns fs ns ls (progress source sink nothing_yet [])
+    (progress source' sink' (record counts' { received = received; unrecorded = unrecorded }) unasked)
+Moves-counted {fs} {ns} {ls} turns received unrecorded source source' sink sink' counts counts' unasked moved none took = record {
   appended = moved.appended;
   refused = moved.refused;
   written = moved.written;
@@ -133,7 +81,7 @@ Moves-counted {fs} {ns} {ls} turns received source source' sink sink' counts cou
       let f0 : f ≡ 0 = let e : 0 ≡ min f last_count = ap (λ (t : Transcript). t.frames) is in omega (arith, e) in
       let n0 : n ≡ 0 = let e : 0 ≡ min n last_count = ap (λ (t : Transcript). t.notes) is in omega (arith, e) in
       let l0 : l ≡ 0 = let e : 0 ≡ min l last_count = ap (λ (t : Transcript). t.lost) is in omega (arith, e) in
-      ap (λ (t : Transcript). record t { received = received }) (moved.counts 0 0 0 0 none)
+      ap (λ (t : Transcript). record t { received = received }) (moved.counts 0 0 0 0 (ap but_unrecorded none))
       ∙ counted-from r f n l turns received (length fs) (length ns) (length ls) r0 f0 n0 l0 took;
 } where
   counted-from : (r f n l turns received fs ns ls : ℕ) → r ≡ 0 → f ≡ 0 → n ≡ 0 → l ≡ 0 → received ≡ number_of turns
@@ -168,85 +116,144 @@ ends-parts (Destroy seq id) number ms last none_left failed go stops =
 ends-parts (Broken e) number ms last none_left failed go stops = (stops, subst AllGoOn (sym (append-nil ms)) go)
 ends-parts Failed number ms last none_left failed go stops = (refl, subst AllGoOn (sym (append-nil ms)) go, stops.1)
 
--- a run whose messages were taken and answered
-pub Run-conducted : (owed : Owing) (stopped : Stopped) (a a' : IntakeState) (b b' : OutletState) (jobs : Hand Job) (frames : Hand Parcel)
-    → Conducts (at_once owed) (Some stopped) a a' b b' jobs frames → a.received ≡ 0 → b.counts ≡ nothing_yet
-    → Run (UpToOrder owed IsBroken) (end_of stopped) (progress a.source b.sink nothing_yet [])
-    (progress a'.source b'.sink (record b'.counts { received = a'.received }) (notices_in frames.taken))
-Run-conducted owed stopped a a' b b' jobs frames conducts none_taken none_sent = record {
-  turns = hears.turns;
-  answered = answered;
-  refused = refused_last stopped hears.last;
-  sent = conducts.relays.sent;
-  notes = conducts.relays.notes;
-  lost = conducts.relays.lost;
-  heard = hears.heard ∙ heard-parts stopped (number_of (length ms)) ms hears.last (NothingLeft a'.source) (SourceFailed a.source a'.source) hears.stops;
-  order = OneEach-weaken (at_once owed) owed IsBroken (λ seq m out pays. pays.0) 0 answered conducts.relays.sent conducts.relays.notes []
-      (length conducts.relays.lost)
-      (subst (λ (marks : List Note). OneEach (at_once owed) IsBroken 0 answered conducts.relays.sent conducts.relays.notes marks (length conducts.relays.lost))
-      none_marked
-      (OneEach-parts (at_once owed) IsBroken (λ seq m out pays broken. pays.2 broken) 0 answered conducts.relays.sent conducts.relays.notes
-      conducts.relays.marks (outs_of frames.taken) conducts.relays.lost conducts.conducted.2 conducts.relays.parts));
-  moved = Moves-counted (length hears.turns) a'.received a.source a'.source b.sink b'.sink b.counts b'.counts (notices_in frames.taken)
-      (conducts.relays.moved a.source []) none_sent (hears.received 0 none_taken ∙ ap number_of (omega (arith)));
-  begins = hears.begins;
-  taken = λ other. hears.taken (λ is. other (ap end_of is));
-  ended = ends-parts stopped (number_of (length ms)) ms hears.last (NothingLeft a'.source) (SourceFailed a.source a'.source) hears.go_on hears.stops;
-} where
-  ms : List (List ℕ)
-  ms = conducts.conducted.0
+-- what was accounted for in a stricter sense of what is owed, up to order
+module _ (owed : Owing) (defers : Bool) where
+  each-part : (ms fs : List (List ℕ)) (ns marks : List Note) (outs lost : List Out) → AnsweredBy (answering owed defers) ms outs
+      → Parts outs fs ns marks lost → OneEach owed IsBroken 0 ms fs ns marks (length lost)
+  each-part ms fs ns marks outs lost answered parts =
+      OneEach-weaken (answering owed defers) owed IsBroken (λ seq m out pays. pays.0) 0 ms fs ns marks (length lost)
+      (OneEach-parts (answering owed defers) IsBroken (λ seq m out pays broken. pays.2 broken) 0 ms fs ns marks outs lost answered parts)
 
-  hears : Hears stopped ms a a'
-  hears = conducts.conducted.1
+  -- no mark came where no reply comes later
+  none-marked : defers ≡ false → (ms fs : List (List ℕ)) (ns marks : List Note) (outs lost : List Out) → AnsweredBy (answering owed defers) ms outs
+      → Parts outs fs ns marks lost → marks ≡ []
+  none-marked never ms fs ns marks outs lost answered parts =
+      Parts-prompt outs fs ns marks lost
+      (Pairs-all (λ (p : ℕ × List ℕ) (o : Out). answering owed defers p.0 p.1 o) IsPrompt (λ asked out pays. pays.1 never) (numbered 0 ms) outs answered) parts
 
-  answered : List (List ℕ)
+  module _ (ms : List (List ℕ)) (parcels : List Parcel) (b b' : RelayState) (answered : AnsweredBy (answering owed defers) ms (outs_of parcels))
+      (relays : Relays parcels b b') (empty : IsBookOf b.book [] [] []) (fresh : EachWaiting is_own b.book) where
+    abbrev parted : Split relays.gone (outs_of parcels) relays.sent relays.notes relays.marks relays.lost
+    parted = split relays.outs relays.gone (outs_of parcels) relays.sent relays.notes relays.marks relays.lost relays.mixed relays.parts
+
+    each : OneEach owed IsBroken 0 ms parted.at_once relays.notes relays.marks (length parted.lost_at_once)
+    each = each-part ms parted.at_once relays.notes relays.marks (outs_of parcels) parted.lost_at_once answered parted.parts
+
+    book : IsBookOf b'.book relays.marks (map with_tag (lates_in parcels)) relays.gone
+    book = relays.booked [] [] [] empty
+
+    unmarked : defers ≡ false → relays.marks ≡ []
+    unmarked never = none-marked never ms parted.at_once relays.notes relays.marks (outs_of parcels) parted.lost_at_once answered parted.parts
+
+    -- no late frame was let go where no reply comes later
+    none-late : defers ≡ false → relays.gone ≡ []
+    none-late never = none-gone relays.gone (subst (λ (marks : List Tag). Matched marks (tags_of relays.gone)) (unmarked never)
+        (IsBookOf-matches b'.book relays.marks (map with_tag (lates_in parcels)) relays.gone book))
+
+    pub UpToOrder-prompt : defers ≡ false → UpToOrder owed IsBroken ms relays.sent relays.notes relays.lost
+    UpToOrder-prompt never =
+        subst (λ (l : List Note × List (List ℕ) × List Out). OneEach owed IsBroken 0 ms l.1 relays.notes l.0 (length l.2))
+        (λ i. (unmarked never i, sent i, missed i)) each
+      where
+        none : (parted.late ≡ []) × (parted.lost_late ≡ [])
+        none = subst (λ (gone : List (Tag × LateSeen)). LeavesOut parted.lost_late (frames_gone gone) parted.late) (none-late never) parted.parted
+
+        sent : parted.at_once ≡ relays.sent
+        sent = LeavesOut-none relays.sent parted.at_once
+            (subst (λ (late : List LateSeen). LeavesOut (bytes_of late) relays.sent parted.at_once) none.0 parted.sent)
+
+        missed : parted.lost_at_once ≡ relays.lost
+        missed = LeavesOut-none relays.lost parted.lost_at_once
+            (subst (λ (late : List LateSeen). LeavesOut (map late_out late) relays.lost parted.lost_at_once) none.1 parted.missed)
+
+    pub OneEachLater-kept : OneEachLater owed IsBroken ms relays.sent relays.notes relays.lost
+    OneEachLater-kept = record {
+      at_once = parted.at_once;
+      marks = relays.marks;
+      lost_at_once = parted.lost_at_once;
+      gone = frames_gone relays.gone;
+      late = parted.late;
+      lost_late = parted.lost_late;
+      each = each;
+      sent = parted.sent;
+      missed = parted.missed;
+      parted = parted.parted;
+      replies = replies-gone relays.gone relays.replies;
+      matched = gone-matched b'.book relays.marks (map with_tag (lates_in parcels)) relays.gone book (relays.own fresh).1;
+    }
+
+    let-go-by : (came : List LateSeen) → lates_in parcels ≡ came → (b'.book.unrecorded ≡ 0) ⊎ (defers ≡ false)
+        → EachLetGo relays.marks came (frames_gone relays.gone)
+    let-go-by came same (inl whole) =
+        each-let_go b'.book relays.marks came relays.gone
+        (subst (λ (l : List LateSeen). IsBookOf b'.book relays.marks (map with_tag l) relays.gone) same book) (relays.own fresh).1 whole
+    let-go-by came same (inr never) =
+        subst (λ (marks : List Note). EachLetGo marks came (frames_gone relays.gone)) (sym (unmarked never)) (none-unused came (frames_gone relays.gone))
+
+    pub NoneHeldBack-kept : (came : List LateSeen) (recorded : Type 0) → lates_in parcels ≡ came
+        → (recorded → (b'.book.unrecorded ≡ 0) ⊎ (defers ≡ false)) → NoneHeldBack owed IsBroken came recorded ms relays.sent relays.notes relays.lost
+    unfolding OneEachLater-kept
+    NoneHeldBack-kept came recorded same kept = record {
+      one_each = OneEachLater-kept;
+      let_go = λ r. let-go-by came same (kept r);
+    }
+
+-- where replies come later what is counted is the book's
+pub kept-by : (defers : Bool) (counted in_book : ℕ) → (defers ≡ true → counted ≡ in_book) → counted ≡ 0 → (in_book ≡ 0) ⊎ (defers ≡ false)
+kept-by true counted in_book same none = inl (sym (same refl) ∙ none)
+kept-by false counted in_book same none = inr refl
+
+-- a run whose messages were taken and answered, accounted for in this way
+module _ (owed : Owing) (defers : Bool) (stopped : Stopped) (a a' : IntakeState) (b b' : RelayState) (jobs : Hand Job) (frames : Hand Parcel)
+    (conducts : Conducts (answering owed defers) stopped a a' b b' jobs frames) (none_taken : a.received ≡ 0) (none_sent : b.outlet.counts ≡ nothing_yet)
+    (empty : IsBookOf b.book [] [] []) (fresh : EachWaiting is_own b.book) (unrecorded : ℕ) where
+  abbrev relays : Relays conducts.parcels b b'
+  relays = conducts.hands_on.relays
+
+  abbrev ms : List (List ℕ)
+  ms = conducts.hands_on.conducted.0
+
+  abbrev hears : Hears stopped ms a a'
+  hears = conducts.hands_on.conducted.1
+
+  abbrev answered : List (List ℕ)
   answered = ms ++ answered_last stopped hears.last
 
-  none_marked : conducts.relays.marks ≡ []
-  none_marked = Parts-prompt (outs_of frames.taken) conducts.relays.sent conducts.relays.notes conducts.relays.marks conducts.relays.lost
-      (Pairs-all (λ (p : ℕ × List ℕ) (o : Out). at_once owed p.0 p.1 o) IsPrompt (λ asked out pays. pays.1) (numbered 0 answered) (outs_of frames.taken)
-      conducts.conducted.2) conducts.relays.parts
+  moved : Moves (length hears.turns) relays.sent relays.notes relays.lost (progress a.source b.outlet.sink nothing_yet [])
+      (progress a'.source b'.outlet.sink (record b'.outlet.counts { received = a'.received; unrecorded = unrecorded }) (notices_in frames.taken))
+  moved = Moves-counted (length hears.turns) a'.received unrecorded a.source a'.source b.outlet.sink b'.outlet.sink b.outlet.counts b'.outlet.counts
+      (notices_in frames.taken)
+      (subst (λ (l : List (List ℕ)). Moves 0 relays.sent relays.notes relays.lost (progress a.source b.outlet.sink b.outlet.counts [])
+      (progress a.source b'.outlet.sink b'.outlet.counts l)) conducts.same_notices (relays.moved a.source []))
+      none_sent (hears.received 0 none_taken ∙ ap number_of (omega (arith)))
 
--- a run after notices that were sent before its first message
-Run-after : {acc : Accounting} {found : End} (p q r : Progress) → Moves 0 [] [] [] p q → q.source ≡ p.source → Run acc found q r → Run acc found p r
-Run-after {acc} {found} p q r moved same run = record {
-  turns = run.turns;
-  answered = run.answered;
-  refused = run.refused;
-  sent = run.sent;
-  notes = run.notes;
-  lost = run.lost;
-  heard = run.heard;
-  order = run.order;
-  moved = subst (λ (n : ℕ). Moves n run.sent run.notes run.lost p r) (omega arith) (Moves-then moved run.moved);
-  begins = subst (λ (s : SourceState). Begins run.turns s) same run.begins;
-  taken = λ other. subst (λ (s : SourceState). Takes run.turns s r.source) same (run.taken other);
-  ended = subst (λ (s : SourceState). RunEnds found run.answered run.refused (NothingLeft r.source) (SourceFailed s r.source)) same run.ended;
-}
+  run : (accounted : Accounting) → accounted answered relays.sent relays.notes relays.lost
+      → Run accounted (end_of stopped) (progress a.source b.outlet.sink nothing_yet [])
+      (progress a'.source b'.outlet.sink (record b'.outlet.counts { received = a'.received; unrecorded = unrecorded }) (notices_in frames.taken))
+  run accounted order = record {
+    turns = hears.turns;
+    answered = answered;
+    refused = refused_last stopped hears.last;
+    sent = relays.sent;
+    notes = relays.notes;
+    lost = relays.lost;
+    heard = hears.heard ∙ heard-parts stopped (number_of (length ms)) ms hears.last (NothingLeft a'.source) (SourceFailed a.source a'.source) hears.stops;
+    order = order;
+    moved = moved;
+    begins = hears.begins;
+    taken = λ other. hears.taken (λ is. other (ap end_of is));
+    ended = ends-parts stopped (number_of (length ms)) ms hears.last (NothingLeft a'.source) (SourceFailed a.source a'.source) hears.go_on hears.stops;
+  }
 
--- a run on the caller's thread, after what waited was sent
-pub Run-refused : (owed : Owing) (found : End) (a a' : IntakeState) (b b' : OutletState) (jobs : Hand Job) (frames : Hand Parcel) (r : Progress)
-    → Conducts (at_once owed) None a a' b b' jobs frames → a.received ≡ 0 → b.counts ≡ nothing_yet
-    → Run (InOrder owed 0) found (progress a'.source b'.sink (record b'.counts { received = a'.received }) (notices_in frames.taken)) r
-    → Run (UpToOrder owed IsBroken) found (progress a.source b.sink nothing_yet []) r
-Run-refused owed found a a' b b' jobs frames r conducts none_taken none_sent run =
-    Run-after (progress a.source b.sink nothing_yet []) q r moved (ap (λ (i : IntakeState). i.source) conducts.conducted.0) (Run-up_to_order owed found q r run)
-  where
-    q : Progress
-    q = progress a'.source b'.sink (record b'.counts { received = a'.received }) (notices_in frames.taken)
+  pub Run-prompt : defers ≡ false → Run (UpToOrder owed IsBroken) (end_of stopped) (progress a.source b.outlet.sink nothing_yet [])
+      (progress a'.source b'.outlet.sink (record b'.outlet.counts { received = a'.received; unrecorded = unrecorded }) (notices_in frames.taken))
+  Run-prompt never =
+      run (UpToOrder owed IsBroken) (UpToOrder-prompt owed defers answered conducts.parcels b b' conducts.hands_on.conducted.2 relays empty fresh never)
 
-    none : Parts [] conducts.relays.sent conducts.relays.notes conducts.relays.marks conducts.relays.lost
-    none = subst (λ (outs : List Out). Parts outs conducts.relays.sent conducts.relays.notes conducts.relays.marks conducts.relays.lost)
-        conducts.conducted.1 conducts.relays.parts
-
-    sent : Moves 0 [] [] [] (progress a.source b.sink b.counts []) (progress a.source b'.sink b'.counts (notices_in frames.taken))
-    sent =
-        subst (λ (l : List Out). Moves 0 [] [] l (progress a.source b.sink b.counts []) (progress a.source b'.sink b'.counts (notices_in frames.taken))) none.3
-        (subst (λ (n : List Note). Moves 0 [] n conducts.relays.lost (progress a.source b.sink b.counts [])
-        (progress a.source b'.sink b'.counts (notices_in frames.taken))) none.1
-        (subst (λ (f : List (List ℕ)). Moves 0 f conducts.relays.notes conducts.relays.lost (progress a.source b.sink b.counts [])
-        (progress a.source b'.sink b'.counts (notices_in frames.taken))) none.0 (conducts.relays.moved a.source [])))
-
-    moved : Moves 0 [] [] [] (progress a.source b.sink nothing_yet []) q
-    moved = Moves-counted 0 a'.received a.source a'.source b.sink b'.sink b.counts b'.counts (notices_in frames.taken) sent none_sent
-        (ap (λ (i : IntakeState). i.received) conducts.conducted.0 ∙ none_taken)
+  pub Run-later : (recorded : Type 0) → (recorded → (b'.book.unrecorded ≡ 0) ⊎ (defers ≡ false))
+      → Run (NoneHeldBack owed IsBroken (lates_in frames.taken) recorded) (end_of stopped) (progress a.source b.outlet.sink nothing_yet [])
+      (progress a'.source b'.outlet.sink (record b'.outlet.counts { received = a'.received; unrecorded = unrecorded }) (notices_in frames.taken))
+  Run-later recorded kept =
+      run (NoneHeldBack owed IsBroken (lates_in frames.taken) recorded)
+      (NoneHeldBack-kept owed defers answered conducts.parcels b b' conducts.hands_on.conducted.2 relays empty fresh (lates_in frames.taken) recorded
+      conducts.same_late kept)

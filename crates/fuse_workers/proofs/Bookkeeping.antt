@@ -4,14 +4,15 @@ use Rattle.std.proofs.Common.{length, map, slice_index_or, refl, sym, ap, subst,
 use Rattle.std.proofs.Common.{append_assoc, append-nil, length-append}
 use Rattle.std.specs.List.{All, Contains, filter}
 use Rattle.std.specs.Map.{update}
-use Rattle.std.specs.Option.{option_to_list}
+use Rattle.std.specs.Option.{IfSome, option_to_list}
 use Rattle.std.proofs.lemmas.List.{map-append}
-use Rattle.std.proofs.lemmas.List.Elements.{All-contains_itself, All-weaker, Contains-append_left, Contains-append_right, filter-append}
+use Rattle.std.proofs.lemmas.List.Elements.{All-append, All-cons, All-contains_itself, All-head, All-nil, All-tail, All-weaker}
+use Rattle.std.proofs.lemmas.List.Elements.{Contains-append_left, Contains-append_right, filter-append}
 use Rattle.std.proofs.lemmas.Map.{update-update}
 use Rattle.fuse_workers.specs.declared.unmatched.Unmatched.{Unmatched}
 use Rattle.fuse_workers.specs.declared.unmatched.Unmatched.TheVariants.{Marks, Frames}
 use Rattle.fuse_workers.specs.declared.book.Book.{Book}
-use Rattle.fuse_workers.specs.Book.{Accounts, Backs, EachSent, IsBookOf, Meets, frames_of, frames_waiting, marks_waiting, tagged, tags_of, waiting}
+use Rattle.fuse_workers.specs.Book.{Accounts, Backs, EachSent, EachWaiting, IsBookOf, Meets, frames_of, frames_waiting, marks_waiting, tagged, tags_of, waiting}
 use Rattle.fuse_workers.specs.Matched.{HasUnused, Matched, Tag, same, times}
 use Rattle.fuse_workers.proofs.Matching.{Matched-from_times, once_if_same, same_is, same_self, times-cons}
 
@@ -22,15 +23,23 @@ none_more k tag marks = by_test (same tag k) where
   by_test true = omega arith
   by_test false = omega arith
 
+-- where what waits is as it was, and nothing waits under the tag
+pub put_or_none : {X : Type 0} (waits : Tag → Option X) (tag : Tag) (left : Option X) → waits tag ≡ None
+    → (k : Tag) → (waits k ≡ update same waits tag left k) ⊎ (waits k ≡ None)
+put_or_none {X} waits tag left none k = by_test (same tag k) (same_is tag k) where
+  by_test : (b : Bool) → (b ≡ true → tag ≡ k) → (waits k ≡ cond b left (waits k)) ⊎ (waits k ≡ None)
+  by_test true at = inr (ap waits (sym (at refl)) ∙ none)
+  by_test false at = inl refl
+
 -- an item of a list with one more in front
 module _ {X : Type 0} where
-  Contains-first : (x y : X) (xs : List X) → x ≡ y → Contains (x ∷ xs) y
+  pub Contains-first : (x y : X) (xs : List X) → x ≡ y → Contains (x ∷ xs) y
   Contains-first x y xs is = (0, omega arith, is)
 
-  Contains-later : (x y : X) (xs : List X) → Contains xs y → Contains (x ∷ xs) y
+  pub Contains-later : (x y : X) (xs : List X) → Contains xs y → Contains (x ∷ xs) y
   Contains-later x y xs there = Contains-append_right (x ∷ []) xs y there
 
-  first_or_later : (x y : X) (xs : List X) → Contains (x ∷ xs) y → (x ≡ y) ⊎ Contains xs y
+  pub first_or_later : (x y : X) (xs : List X) → Contains (x ∷ xs) y → (x ≡ y) ⊎ Contains xs y
   first_or_later x y xs there = at there.0 there.1 there.2 where
     at : (k : ℕ) → k < length (x ∷ xs) → slice_index_or (x ∷ xs) k y ≡ y → (x ≡ y) ⊎ Contains xs y
     at zero within is = inl is
@@ -126,6 +135,53 @@ module _ {F : Type 0} where
           accounts = λ whole.
               let s = stored whole in still_accounts (waiting old) (waiting new) (met s.0) (λ k. s.2 k ∙ put k) (book.accounts s.1);
         }
+
+  module _ (P : F → Type 0) where
+    All-maybe : (frame : Option F) → IfSome frame P → All P (option_to_list frame)
+    All-maybe None h = All-nil P
+    All-maybe (Some f) h = All-cons P f [] h (All-nil P)
+
+    All-parts : (frame : Option F) (later : List F) → All P (option_to_list frame ++ later) → All P later × IfSome frame P
+    All-parts None later h = (h, tt)
+    All-parts (Some f) later h = (All-tail P f later h, All-head P f later h)
+
+    -- What holds of the frame that comes and of each that waited holds of the one that goes and of each that is left, kept or refused.
+    holds_of_left : (kept : Bool) (more : ℕ) (comes goes : Option F) (waits left : Option (Unmatched F))
+        → (kept ≡ true → Meets waits more comes goes left)
+        → (kept ≡ false → (goes ≡ None) × (frames_waiting left ≡ frames_waiting waits))
+        → IfSome comes P → All P (frames_waiting waits) → All P (frames_waiting left) × IfSome goes P
+    holds_of_left true more comes goes waits left met refused coming before =
+        All-parts goes (frames_waiting left)
+        (subst (All P) (met refl).in_order (All-append P (frames_waiting waits) (option_to_list comes) before (All-maybe comes coming)))
+    holds_of_left false more comes goes waits left met refused coming before =
+        let same_frames = refused refl in
+        (subst (All P) (sym same_frames.1) before, subst (λ f. IfSome f P) (sym same_frames.0) tt)
+
+  -- A mark or a late frame comes: the frame that goes is one of its own tag, and so is each that waits.
+  module _ (test : Tag → F → Bool) (tag : Tag) where
+    abbrev IsOwn : Tag → F → Type 0
+    IsOwn k f = test k f ≡ true
+
+    own_at : (k : Tag) (b : Bool) (left old : Option (Unmatched F)) → (b ≡ true → tag ≡ k)
+        → All (IsOwn tag) (frames_waiting left) → All (IsOwn k) (frames_waiting old) → All (IsOwn k) (frames_waiting (cond b left old))
+    own_at k true left old at here there = subst (λ t. All (IsOwn t) (frames_waiting left)) (at refl) here
+    own_at k false left old at here there = there
+
+    pub EachWaiting-after : (more : ℕ) (comes goes : Option F) (left : Option (Unmatched F)) (old new : Book F) (mid : Tag → Option (Unmatched F))
+        (kept : Bool) → ((k : Tag) → mid k ≡ update same (waiting old) tag None k)
+        → (kept ≡ true → Meets (waiting old tag) more comes goes left)
+        → (kept ≡ false → (goes ≡ None) × (frames_waiting left ≡ frames_waiting (waiting old tag)))
+        → ((k : Tag) → (waiting new k ≡ update same mid tag left k) ⊎ (waiting new k ≡ None))
+        → IfSome comes (IsOwn tag) → EachWaiting test old → EachWaiting test new × IfSome goes (IsOwn tag)
+    EachWaiting-after more comes goes left old new mid kept removed met refused stored coming before =
+        let parts = holds_of_left (IsOwn tag) kept more comes goes (waiting old tag) left met refused coming (before tag) in (
+          λ k.
+              let put = ap (λ w. cond (same tag k) left w) (removed k) ∙ update-update same (waiting old) tag None left k in
+              let here = own_at k (same tag k) left (waiting old k) (same_is tag k) parts.0 (before k) in
+              ⊎_elim (λ is. subst (λ w. All (IsOwn k) (frames_waiting w)) (sym (is ∙ put)) here)
+              (λ none. subst (λ w. All (IsOwn k) (frames_waiting w)) (sym none) (All-nil (IsOwn k))) (stored k),
+          parts.1,
+        )
 
   -- marks and frames never wait both
   either : (waits : Option (Unmatched F)) → (frames_waiting waits ≡ []) ⊎ (marks_waiting waits ≡ 0)

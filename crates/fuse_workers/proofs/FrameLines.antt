@@ -17,8 +17,7 @@ use Rattle.fuse_reply.specs.declared.parcel.Parcel.TheVariants.{Notice, Prompt, 
 use Rattle.fuse_wire.specs.Sink.{SinkState}
 use Rattle.fuse_wire.specs.Source.{SourceState}
 use Rattle.fuse_workers.specs.Lines.{IsAlone, notice_in, notices_in}
-use Rattle.fuse_workers.specs.Progress.{NoticesAlone, OutletState, Progress, progress}
-use Rattle.fuse_workers.specs.Relays.{SendsParcel}
+use Rattle.fuse_workers.specs.Progress.{NoticesAlone, OutletState, PassesOnParcel, Progress, progress}
 use Rattle.fuse_workers.specs.declared.transcript.Transcript.{Transcript}
 use Rattle.fuse_workers.proofs.ItemLists.{filter-both}
 use Rattle.fuse_workers.proofs.Moving.{NoticesAlone-next}
@@ -86,7 +85,7 @@ notices-append (x ∷ xs) ys =
 
 -- what was handed to the sink of a line without prompts is a notice more, or nothing
 handed-parcel : (source : SourceState) (counts : Transcript) (start : Progress) (taken : List Parcel) (parcel : Parcel) (a b : OutletState)
-    → is_prompt parcel ≡ false → SendsParcel parcel a b → NoticesAlone start (progress source a.sink counts (notices_in taken))
+    → is_prompt parcel ≡ false → PassesOnParcel parcel a b → NoticesAlone start (progress source a.sink counts (notices_in taken))
     → NoticesAlone start (progress source b.sink counts (notices_in (taken ++ parcel ∷ [])))
 handed-parcel source counts start taken (Prompt seq out) a b other sends so_far = absurd (let wrong : ⊥ = cc in wrong)
 handed-parcel source counts start taken (Notice frame) a b other sends so_far =
@@ -96,7 +95,7 @@ handed-parcel source counts start taken (Late frame) a b other same so_far =
     (λ i. (ap (λ (o : OutletState). o.sink) (sym same) i, (sym (notices-append taken (Late frame ∷ []) ∙ append-nil (notices_in taken))) i)) so_far
 
 pub NoticesAlone-parcel : (source : SourceState) (counts : Transcript) (start : Progress) (old new : Seen Parcel) (parcel : Parcel) (a b : OutletState)
-    → (new ≡ record old { hand = with_taken old.hand parcel }) × (is_prompt parcel ≡ false) → SendsParcel parcel a b
+    → (new ≡ record old { hand = with_taken old.hand parcel }) × (is_prompt parcel ≡ false) → PassesOnParcel parcel a b
     → NoticesAlone start (progress source a.sink counts (notices_in old.hand.taken))
     → NoticesAlone start (progress source b.sink counts (notices_in new.hand.taken))
 NoticesAlone-parcel source counts start old new parcel a b next sends so_far =
@@ -104,7 +103,7 @@ NoticesAlone-parcel source counts start old new parcel a b next sends so_far =
     (handed-parcel source counts start old.hand.taken parcel a b next.1 sends so_far)
 
 -- and the counts of what was handed in are kept
-pub counts-parcel : (parcel : Parcel) (a b : OutletState) → is_prompt parcel ≡ false → SendsParcel parcel a b → b.counts ≡ a.counts
+pub counts-parcel : (parcel : Parcel) (a b : OutletState) → is_prompt parcel ≡ false → PassesOnParcel parcel a b → b.counts ≡ a.counts
 counts-parcel (Prompt seq out) a b other sends = absurd (let wrong : ⊥ = cc in wrong)
 counts-parcel (Notice frame) a b other sends = sends.counts
 counts-parcel (Late frame) a b other same = ap (λ (o : OutletState). o.counts) same

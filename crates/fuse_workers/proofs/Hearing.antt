@@ -137,3 +137,9 @@ HearsLast-then stopped number ms a b c first stop = record {
   stops = StopsWith-after stopped number stop.last (NothingLeft c.source) (SourceFailed b.source c.source) (SourceFailed a.source c.source)
       (Failed-after a.source b.source c.source first.taken.faults) stop.stops;
 }
+
+-- with the same last message
+pub HearsLast-after : (stopped : Stopped) (number : ℕ) (ms : List (List ℕ)) (a b c : IntakeState) → HearsOn ms a b → (stop : HearsLast stopped number [] b c)
+    → (whole : HearsLast stopped number ms a c) × (whole.last ≡ stop.last)
+unfolding HearsLast-then
+HearsLast-after stopped number ms a b c first stop = (HearsLast-then stopped number ms a b c first stop, refl)

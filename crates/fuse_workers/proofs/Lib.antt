@@ -7,6 +7,7 @@ pub mod ItemLists
 pub mod Taking
 pub mod Moving
 pub mod Quieting
+pub mod Accounts
 mod FrameLines
 pub mod Order
 mod LoopSteps
@@ -19,3 +20,6 @@ mod Hearing
 mod Conducting
 mod Assembling
 mod Bookkeeping
+mod Splitting
+mod LateReplies
+mod ServingAlone

@@ -18,7 +18,7 @@ use Rattle.fuse_reply.specs.declared.out.OutEnd.TheVariants.{Written, Noted, Los
 use Rattle.fuse_reply.specs.Deliver.{Delivers, LeavesTail}
 use Rattle.fuse_reply.proofs.Tails.{LeavesTail-then}
 use Rattle.fuse_workers.specs.Progress.{Progress, ChannelState, Moves, PassesOn, LeavesOut, SinkUntouched, DeliversOnce, NoticeOrReply}
-use Rattle.fuse_workers.specs.Progress.{NoticesAlone, beside, tally, counting, replies, notices, is_notice}
+use Rattle.fuse_workers.specs.Progress.{NoticesAlone, beside, but_unrecorded, tally, counting, replies, notices, is_notice}
 use Rattle.fuse_workers.specs.declared.transcript.Transcript.{Transcript}
 use Rattle.fuse_workers.proofs.ItemLists.{All-append, filter-both}
 
@@ -30,15 +30,15 @@ tally-same r f n l r' f' n' l' a b c d = cc
 none-appended : {s t : SinkState} → t ≡ s → Appends [] [] s t
 none-appended {s} same = subst (λ (x : SinkState). Appends [] [] s x) (sym same) (Appends-none s)
 
--- frames of which some were lost, and then others
-pub LeavesOut-append : (js ks fs gs ws vs : List (List ℕ)) → LeavesOut js fs ws → LeavesOut ks gs vs → LeavesOut (js ++ ks) (fs ++ gs) (ws ++ vs)
-LeavesOut-append js ks [] gs ws vs first second =
-    subst (λ (w : List (List ℕ)). LeavesOut (js ++ ks) gs w) (sym (ap (λ (x : List (List ℕ)). x ++ vs) first.0))
-    (subst (λ (j : List (List ℕ)). LeavesOut j gs vs) (sym (ap (λ (x : List (List ℕ)). x ++ ks) first.1)) second)
-LeavesOut-append js ks (f ∷ fs) gs ws vs (inl p) second =
-    inl (p.0 ++ vs, ap (λ (x : List (List ℕ)). x ++ vs) p.1, LeavesOut-append js ks fs gs p.0 vs p.2 second)
-LeavesOut-append js ks (f ∷ fs) gs ws vs (inr p) second =
-    inr (p.0 ++ ks, ap (λ (x : List (List ℕ)). x ++ ks) p.1, LeavesOut-append p.0 ks fs gs ws vs p.2 second)
+-- items of which some were left out, and then others
+pub LeavesOut-append : {A : Type 0} (js ks fs gs ws vs : List A) → LeavesOut js fs ws → LeavesOut ks gs vs → LeavesOut (js ++ ks) (fs ++ gs) (ws ++ vs)
+LeavesOut-append {A} js ks [] gs ws vs first second =
+    subst (λ (w : List A). LeavesOut (js ++ ks) gs w) (sym (ap (λ (x : List A). x ++ vs) first.0))
+    (subst (λ (j : List A). LeavesOut j gs vs) (sym (ap (λ (x : List A). x ++ ks) first.1)) second)
+LeavesOut-append {A} js ks (f ∷ fs) gs ws vs (inl p) second =
+    inl (p.0 ++ vs, ap (λ (x : List A). x ++ vs) p.1, LeavesOut-append js ks fs gs p.0 vs p.2 second)
+LeavesOut-append {A} js ks (f ∷ fs) gs ws vs (inr p) second =
+    inr (p.0 ++ ks, ap (λ (x : List A). x ++ ks) p.1, LeavesOut-append p.0 ks fs gs ws vs p.2 second)
 
 -- no notice was taken off the line, where those appended and refused are none
 PassesOn-none : (appended : List (List ℕ)) (refused : List Out) {before after : List (List ℕ)} → after ≡ before
@@ -78,7 +78,7 @@ Moves-none {p} {q} same = record {
   tail = ap (λ (s : SinkState). s.tail) same.sink;
   cause = λ below. omega (arith, ap (λ (s : SinkState). s.faults) same.sink);
   counts = λ r f n l is.
-      same.counts ∙ (is ∙ tally-same r f n l (r + 0) (f + 0) (n + 0) (l + 0) (omega arith) (omega arith) (omega arith) (omega arith));
+      ap but_unrecorded same.counts ∙ (is ∙ tally-same r f n l (r + 0) (f + 0) (n + 0) (l + 0) (omega arith) (omega arith) (omega arith) (omega arith));
 }
 
 -- one message was taken
@@ -94,7 +94,7 @@ Moves-received p q same e line = record {
   passed_on = PassesOn-none [] [] line refl refl;
   tail = ap (λ (s : SinkState). s.tail) same;
   cause = λ below. omega (arith, ap (λ (s : SinkState). s.faults) same);
-  counts = λ r f n l is. e ∙ (ap (λ (u : Transcript). record u { received = counted u.received 1 }) is ∙ more r f n l);
+  counts = λ r f n l is. ap but_unrecorded e ∙ (ap (λ (u : Transcript). record u { received = counted u.received 1 }) is ∙ more r f n l);
 } where
   more : (r f n l : ℕ) → record (tally r f n l) { received = counted (tally r f n l).received 1 } ≡ tally (r + 1) (f + 0) (n + 0) (l + 0)
   more r f n l =
@@ -173,7 +173,7 @@ Moves-refused {out} p q reply d ends e line = record {
   passed_on = PassesOn-none [] (out ∷ []) line refl (refused-one is_notice out false reply);
   tail = ends;
   cause = λ below. omega (arith, d.1 below);
-  counts = λ r g n l is. e ∙ (ap (λ (w : Transcript). record w { lost = counted w.lost 1 }) is ∙ one_lost r g n l);
+  counts = λ r g n l is. ap but_unrecorded e ∙ (ap (λ (w : Transcript). record w { lost = counted w.lost 1 }) is ∙ one_lost r g n l);
 }
 
 -- a reply alone is what is not set aside
@@ -193,7 +193,7 @@ Moves-frame {f} p q reply puts e line = record {
   set_aside = ((λ aside. absurd (let no : ⊥ = cc in no)), tt);
   tail = puts.1;
   cause = λ below. omega (arith, puts.0.faults);
-  counts = λ r g n l is. e ∙ (ap (λ (w : Transcript). record w { frames = counted w.frames 1 }) is ∙ one_frame r g n l);
+  counts = λ r g n l is. ap but_unrecorded e ∙ (ap (λ (w : Transcript). record w { frames = counted w.frames 1 }) is ∙ one_frame r g n l);
 }
 
 -- a note was written
@@ -209,7 +209,7 @@ Moves-note p q puts e line = record {
   passed_on = PassesOn-none [] [] line refl refl;
   tail = puts.1;
   cause = λ below. omega (arith, puts.0.faults);
-  counts = λ r g n l is. e ∙ (ap (λ (w : Transcript). record w { notes = counted w.notes 1 }) is ∙ one_note r g n l);
+  counts = λ r g n l is. ap but_unrecorded e ∙ (ap (λ (w : Transcript). record w { notes = counted w.notes 1 }) is ∙ one_note r g n l);
 }
 
 -- a frame was handed to the sink
@@ -243,9 +243,10 @@ moves-then {fs} {gs} {ns} {ms} {js} {ls} {p} {q} {r} xs ys first second =
 notice-alone : (f : List ℕ) → is_set_aside f ≡ true → (replies (f ∷ []) ≡ []) × (notices (f ∷ []) ≡ f ∷ [])
 notice-alone f aside = (ap (λ (b : Bool). cond (not b) (f ∷ []) []) aside, ap (λ (b : Bool). cond b (f ∷ []) []) aside)
 
-unchanged : (p q : Progress) → q.counts ≡ p.counts → (r f n l : ℕ) → p.counts ≡ tally r f n l → q.counts ≡ tally (r + 0) (f + 0) (n + 0) (l + 0)
+unchanged : (p q : Progress) → q.counts ≡ p.counts → (r f n l : ℕ) → but_unrecorded p.counts ≡ tally r f n l
+    → but_unrecorded q.counts ≡ tally (r + 0) (f + 0) (n + 0) (l + 0)
 unchanged p q same r f n l is =
-    same ∙ (is ∙ tally-same r f n l (r + 0) (f + 0) (n + 0) (l + 0) (omega arith) (omega arith) (omega arith) (omega arith))
+    ap but_unrecorded same ∙ (is ∙ tally-same r f n l (r + 0) (f + 0) (n + 0) (l + 0) (omega arith) (omega arith) (omega arith) (omega arith))
 
 -- a notice was taken off the line, and refused
 notice-refused : (f : List ℕ) (p q : Progress) → is_set_aside f ≡ true → Refuses p.sink q.sink × Tears f p.sink.tail q.sink.tail

@@ -100,7 +100,7 @@ pub Pairs-passing : {A B : Type 0} (R : A → B → Type 0) (p : B → Bool) →
 Pairs-passing R p each xs ys h = filter_passing p ys (Pairs-all R (λ y. p y ≡ true) each xs ys h)
 
 -- one message more has the number of its place
-pub numbered-append : (place : ℕ) (ms : List (List ℕ)) (m : List ℕ)
+numbered-append : (place : ℕ) (ms : List (List ℕ)) (m : List ℕ)
     → numbered place (ms ++ m ∷ []) ≡ numbered place ms ++ (number_of (place + length ms), m) ∷ []
 numbered-append place [] m = let same : place ≡ place + 0 = omega arith in ap (λ (n : ℕ). (number_of n, m) ∷ []) same
 numbered-append place (n ∷ ms) m =
@@ -108,6 +108,10 @@ numbered-append place (n ∷ ms) m =
     let rest : List (ℕ × List ℕ) = numbered (suc place) ms in
     ap (λ (l : List (ℕ × List ℕ)). (number_of place, n) ∷ l)
     (numbered-append (suc place) ms m ∙ ap (λ (k : ℕ). rest ++ (number_of k, m) ∷ []) same)
+
+pub numbered-more : (ms : List (List ℕ)) (m : List ℕ) → numbered 0 (ms ++ m ∷ []) ≡ numbered 0 ms ++ (number_of (length ms), m) ∷ []
+numbered-more ms m =
+    let same : 0 + length ms ≡ length ms = omega arith in numbered-append 0 ms m ∙ ap (λ (n : ℕ). numbered 0 ms ++ (number_of n, m) ∷ []) same
 
 pub outs_of-append : (parcels more : List Parcel) → outs_of (parcels ++ more) ≡ outs_of parcels ++ outs_of more
 outs_of-append [] more = refl

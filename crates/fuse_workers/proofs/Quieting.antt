@@ -9,11 +9,11 @@ use Rattle.fuse_reply.specs.declared.out.Out.TheVariants.{Frame}
 use Rattle.fuse_workers.specs.Progress.{Progress, Moves, LeavesOut, Quiet, PassesOnAll, is_notice, notices}
 use Rattle.fuse_workers.proofs.ItemLists.{filter-shorter}
 
--- where nothing was lost, nothing was left out
-pub LeavesOut-none : (frames written : List (List ℕ)) → LeavesOut [] frames written → written ≡ frames
-LeavesOut-none [] written p = p.0
-LeavesOut-none (f ∷ fs) written (inl p) = p.1 ∙ ap (λ (ys : List (List ℕ)). f ∷ ys) (LeavesOut-none fs p.0 p.2)
-LeavesOut-none (f ∷ fs) written (inr p) = absurd (let some = p.1 in let no : ⊥ = cc in no)
+-- where nothing is left out, all is kept
+pub LeavesOut-none : {A : Type 0} (items kept : List A) → LeavesOut [] items kept → kept ≡ items
+LeavesOut-none [] kept p = p.0
+LeavesOut-none {A} (f ∷ fs) kept (inl p) = p.1 ∙ ap (λ (ys : List A). f ∷ ys) (LeavesOut-none fs p.0 p.2)
+LeavesOut-none (f ∷ fs) kept (inr p) = absurd (let some = p.1 in let no : ⊥ = cc in no)
 
 -- nothing was refused where the sink's count did not rise
 pub refused-none : {received : ℕ} {sent : List (List ℕ)} {notes : List Note} {lost : List Out} {p q : Progress}

@@ -17,7 +17,7 @@ use Rattle.fuse_workers.specs.OneEach.{Owing, number_of}
 use Rattle.fuse_workers.specs.Pairing.{InTurn, Pairs, numbered, outs_of}
 use Rattle.fuse_workers.specs.Threads.{Answers, IsCaller, IsServed, pair_of}
 use Rattle.fuse_workers.proofs.Pairing.{Answers-prompt, InTurn-append, InTurn-one, Pairs-append, Pairs-in_turn, Pairs-left, Pairs-one, Pairs-outs}
-use Rattle.fuse_workers.proofs.Pairing.{Pairs-passing, Pairs-right, numbered-append, outs_of-filtered}
+use Rattle.fuse_workers.proofs.Pairing.{Pairs-passing, Pairs-right, numbered-more, outs_of-filtered}
 
 map_more : {X Y : Type 0} (f : X → Y) (xs us : List X) → map f (xs ++ us) ≡ map f xs ++ map f us
 map_more f [] us = refl
@@ -31,10 +31,6 @@ filter_any (x ∷ xs) = ap (λ l. x ∷ l) (filter_any xs)
 last_for_middle : {X : Type 0} (xs ds us : List X) → IsPermutation ((xs ++ ds) ++ us) ((xs ++ us) ++ ds)
 last_for_middle xs ds us =
     rw (append_assoc xs ds us, append_assoc xs us ds) (IsPermutation-append_right xs _ _ (IsPermutation-append_comm ds us))
-
-numbered_more : (ms : List (List ℕ)) (m : List ℕ) → numbered 0 (ms ++ m ∷ []) ≡ numbered 0 ms ++ (number_of (length ms), m) ∷ []
-numbered_more ms m =
-    let same : 0 + length ms ≡ length ms = omega arith in numbered-append 0 ms m ∙ ap (λ (n : ℕ). numbered 0 ms ++ (number_of n, m) ∷ []) same
 
 module _ (owed : Owing) where
   -- a worker that has done nothing yet
@@ -102,7 +98,7 @@ module _ (owed : Owing) where
           frame_kind = s.frame_kind;
           no_taken = s.no_taken;
           direct = s.direct;
-          all = subst (λ (l : List (ℕ × List ℕ)). IsPermutation l (map pair_of (j.put ++ x ∷ []) ++ s.direct)) (sym (numbered_more ms m))
+          all = subst (λ (l : List (ℕ × List ℕ)). IsPermutation l (map pair_of (j.put ++ x ∷ []) ++ s.direct)) (sym (numbered-more ms m))
               (subst (λ (l : List (ℕ × List ℕ)). IsPermutation (numbered 0 ms ++ next) (l ++ s.direct)) put (IsPermutation-trans _ _ _ more turned));
           each = s.each;
         }
@@ -132,7 +128,7 @@ module _ (owed : Owing) where
           frame_kind = s.frame_kind;
           no_taken = s.no_taken;
           direct = s.direct ++ next ∷ [];
-          all = subst (λ (l : List (ℕ × List ℕ)). IsPermutation l (map pair_of j.put ++ (s.direct ++ next ∷ []))) (sym (numbered_more ms m))
+          all = subst (λ (l : List (ℕ × List ℕ)). IsPermutation l (map pair_of j.put ++ (s.direct ++ next ∷ []))) (sym (numbered-more ms m))
               (subst (IsPermutation (numbered 0 ms ++ next ∷ [])) (append_assoc (map pair_of j.put) s.direct (next ∷ [])) more);
           each = subst (λ (l : List (ℕ × List ℕ)). Pairs (Answers owed) l (f.put ++ parcel ∷ []))
               (append_assoc (map pair_of j.taken) s.direct (next ∷ [])) both;
@@ -181,3 +177,16 @@ module _ (owed : Owing) where
         subst (λ (l : List Parcel). IsPermutation l (filter is_prompt v.taken)) whole (prompts first none) in
         subst (Pairs (λ (p : ℕ × List ℕ) (o : Out). owed p.0 p.1 o) (numbered 0 ms)) (outs_of-filtered v.taken)
         (Pairs-outs owed (numbered 0 ms) (filter is_prompt v.taken) (Pairs-right (Answers owed) (numbered 0 ms) f.put (filter is_prompt v.taken) same each))
+
+-- a caller that has done nothing yet, but for the sender's pass
+pub Caller-idle : (owed : Owing) (j : Hand Job) (f : Hand Parcel) → j ≡ hand First 0 [] [] → f ≡ hand First 1 [] [] → IsCaller owed [] j f
+Caller-idle owed j f idle split =
+    subst (λ (v : Hand Job). IsCaller owed [] v f) (sym idle)
+    (subst (λ (v : Hand Parcel). IsCaller owed [] (hand First 0 [] []) v) (sym split) (record {
+      job_kind = refl;
+      frame_kind = refl;
+      no_taken = refl;
+      direct = [];
+      all = IsPermutation-refl [];
+      each = refl;
+    }))

@@ -1,5 +1,6 @@
 -- On which conditions a message is answered, and when its reply may come later.
-use Rattle.std.specs.Prelude.{◌≡◌, ◌==◌, ◌↔◌, ℕ, List, Bool, false, Result, Ok, Err, IsOk}
+use Rattle.std.specs.Prelude.{◌≡◌, ◌==◌, ◌↔◌, ℕ, List, Bool, false, Result, Ok, Err, IsOk, IfOk}
+use Rattle.atomic_table.specs.Seated.{TableId}
 use Rattle.fuse_request.specs.Header.{header}
 use Rattle.fuse_request.specs.Opcode.{FUSE_DESTROY}
 use Rattle.fuse_request.specs.declared.any_request.Header.{Header}
@@ -14,9 +15,9 @@ use Rattle.fuse_workers.specs.Step.{StandsFor}
 abbrev pub IsRequest : List ℕ → Type 0
 IsRequest m = (h : Header) × (header m ≡ Ok h) × ((h.opcode == FUSE_DESTROY) ≡ false)
 
--- there is no door, since no reply comes later, exactly where none may
-abbrev pub DoorFits : (defers : Bool) → Result DoorSeen NoDoor → Type 0
-DoorFits defers door = (door ≡ Err Shut) ↔ (defers ≡ false)
+-- there is no door, since no reply comes later, exactly where none may; and a door is one to this line, for the message of this number
+abbrev pub DoorFits : (defers : Bool) → (line : TableId) → (seq : ℕ) → Result DoorSeen NoDoor → Type 0
+DoorFits defers line seq door = ((door ≡ Err Shut) ↔ (defers ≡ false)) × IfOk door (λ d. (d.seq ≡ seq) × (d.pass.line ≡ line))
 
 -- a mark comes only where there is a door, and stands for the message
 abbrev pub MayComeLater : Result DoorSeen NoDoor → (seq : ℕ) → (m : List ℕ) → Out → Type 0

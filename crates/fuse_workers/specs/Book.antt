@@ -1,5 +1,5 @@
 -- What the sender's book tells of the marks and late frames that came, and of those that were sent.
-use Rattle.std.specs.Prelude.{◌≡◌, ◌≤◌, ◌⊎◌, ◌+◌, ◌++◌, ℕ, List, [], ◌∷◌, Option, None, Some, length, map, min}
+use Rattle.std.specs.Prelude.{◌≡◌, ◌≤◌, ◌⊎◌, ◌+◌, ◌++◌, ℕ, Bool, true, List, [], ◌∷◌, Option, None, Some, length, map, min}
 use Rattle.std.specs.HashMap.{get}
 use Rattle.std.specs.List.{All, Contains, filter}
 use Rattle.std.specs.Option.{option_to_list}
@@ -61,6 +61,10 @@ pub record Accounts {F : Type 0} (waits : Tag → Option (Unmatched F)) (marks :
 pub record IsBookOf {F : Type 0} (book : Book F) (marks : List Tag) (came sent : List (Tag × F)) : Type 0 where
   pub backed : (tag : Tag) → length (frames_of tag sent) + marks_waiting (waiting book tag) ≤ times tag marks
   pub accounts : book.unrecorded ≡ 0 → Accounts (waiting book) marks came sent
+
+-- each frame that waits passes the test with the tag that it waits under
+abbrev pub EachWaiting : {F : Type 0} → (test : Tag → F → Bool) → Book F → Type 0
+EachWaiting test book = (tag : Tag) → All (λ f. test tag f ≡ true) (frames_waiting (waiting book tag))
 
 -- each late frame that came was sent, or no mark of its tag is unused
 abbrev pub EachSent : {F : Type 0} → (marks : List Tag) → (came sent : List (Tag × F)) → Type 0

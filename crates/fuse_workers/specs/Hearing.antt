@@ -4,7 +4,7 @@ use Rattle.fuse_wire.specs.Source.{Takes, message, NothingLeft, Failed as Source
 use Rattle.fuse_workers.specs.Incoming.{AllGoOn, HeaderRefused, id_of, incoming}
 use Rattle.fuse_workers.specs.Incoming.Incoming.{Destroy as IsDestroy}
 use Rattle.fuse_workers.specs.OneEach.{Owing, number_of}
-use Rattle.fuse_workers.specs.Threads.{IsCaller, at_once}
+use Rattle.fuse_workers.specs.Threads.{IsCaller}
 use Rattle.fuse_workers.specs.declared.state.Job.{Job}
 use Rattle.fuse_workers.specs.declared.end.End.{End}
 use Rattle.fuse_workers.specs.declared.end.End.TheVariants as end
@@ -50,8 +50,8 @@ Hears stopped messages before after = HearsLast stopped (number_of (length messa
 -- in; or no more are taken, and its passes are as they were.
 abbrev pub TurnHeard : Owing → (seq : ℕ) → Option Stopped → (before after : IntakeState) → (j : Hand Job) (f : Hand Parcel) (j' : Hand Job) (f' : Hand Parcel)
     → Type 0
-TurnHeard owed seq None before after j f j' f' = (ms : List (List ℕ)) → number_of (length ms) ≡ seq → IsCaller (at_once owed) ms j f
-    → (m : List ℕ) × HearsOn (m ∷ []) before after × IsCaller (at_once owed) (ms ++ m ∷ []) j' f'
+TurnHeard owed seq None before after j f j' f' = (ms : List (List ℕ)) → number_of (length ms) ≡ seq → IsCaller owed ms j f
+    → (m : List ℕ) × HearsOn (m ∷ []) before after × IsCaller owed (ms ++ m ∷ []) j' f'
 TurnHeard owed seq (Some stopped) before after j f j' f' =
     (j' ≡ j) × (f' ≡ f) × HearsLast stopped seq [] before after
 

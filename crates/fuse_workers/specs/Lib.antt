@@ -16,4 +16,6 @@ pub mod Relays
 pub mod Hearing
 pub mod Promises
 pub mod Conducting
+pub mod Alone
+pub mod OneEachLater
 pub mod Book

@@ -1,11 +1,13 @@
 -- The lines of a run: messages on their way to workers, and frames on their way to the sink.
-use Rattle.std.specs.Prelude.{◌≡◌, ℕ, Bool, List, [], ◌∷◌, filter, flat_map}
+use Rattle.std.specs.Prelude.{◌≡◌, ◌-◌, ◌^◌, ℕ, Bool, List, [], ◌∷◌, None, Some, filter, flat_map, min}
 use Rattle.std.specs.List.Sorted.{IsPermutation}
 use Rattle.atomic_table.specs.Seated.{TableId}
 use Rattle.fuse_line.specs.Hand.{hand}
 use Rattle.fuse_line.specs.Seen.{Seen}
 use Rattle.fuse_line.specs.declared.hand.Kind.TheVariants.{First}
 use Rattle.fuse_notify.specs.Queueing.{fresh_door}
+use Rattle.fuse_reply.specs.EndMark.{MarkSeen, mark}
+use Rattle.fuse_reply.specs.Late.{LateSeen}
 use Rattle.fuse_reply.specs.Parcel.{is_prompt}
 use Rattle.fuse_reply.specs.declared.parcel.Parcel.{Parcel}
 use Rattle.fuse_reply.specs.declared.parcel.Parcel.TheVariants.{Prompt, Notice, Late}
@@ -20,6 +22,15 @@ notice_in (Late frame) = []
 abbrev pub notices_in : List Parcel → List (List ℕ)
 notices_in parcels = flat_map notice_in parcels
 
+-- the late frames among these, in order
+abbrev pub late_in : Parcel → List LateSeen
+late_in (Late frame) = frame ∷ []
+late_in (Prompt seq out) = []
+late_in (Notice frame) = []
+
+abbrev pub lates_in : List Parcel → List LateSeen
+lates_in parcels = flat_map late_in parcels
+
 -- the first pass of this line, which counts no other, and took each inner item that it pushed: whoever else pushes has a door, and no
 -- inner item waits
 pub record IsAlone {T : Type 0} (inner : T → Bool) (line : TableId) (pass : Seen T) : Type 0 where
@@ -28,25 +39,49 @@ pub record IsAlone {T : Type 0} (inner : T → Bool) (line : TableId) (pass : Se
   pub alone : pass.hand.others ≡ 0
   pub settled : IsPermutation (filter inner pass.hand.put) (filter inner pass.hand.taken)
 
--- what a contract sees of both lines: their first passes, and the door of what makes notifiers
+-- what makes doors for the replies of a thread: a door to the line of frames, and a share of the mark of the run's end
+pub record DoorsSeen : Type 0 where
+  pub pass : Seen Parcel
+  pub mark : MarkSeen
+
+abbrev pub fresh_doors : (frames : TableId) → (end : TableId) → DoorsSeen
+fresh_doors frames end = record { pass = fresh_door frames; mark = mark end None None }
+
+-- what a contract sees of what a thread answers with: the door of its notifier, and what makes doors for its replies
+pub record AnswererSeen : Type 0 where
+  pub notifier : Seen Parcel
+  pub doors : DoorsSeen
+
+-- what a contract sees of both lines: their first passes, what the caller answers with, and the mark of the run's end
 pub record LinesState : Type 0 where
   pub frames : Seen Parcel
   pub jobs : Seen Job
-  pub notifier : Seen Parcel
+  pub answerer : AnswererSeen
+  pub end : MarkSeen
 
 -- the notices that were taken off the line of frames
 abbrev pub unasked_of : LinesState → List (List ℕ)
 unasked_of lines = notices_in lines.frames.hand.taken
 
--- nothing was pushed or taken yet by a first pass, nor by the notifier's door, which is one to the line of frames
+-- the late frames that were
+abbrev pub late_of : LinesState → List LateSeen
+late_of lines = lates_in lines.frames.hand.taken
+
+-- nothing was pushed or taken yet by a first pass, nor by the doors, which are to the line of frames; and the end is not marked
 pub record IsUnused (lines : LinesState) : Type 0 where
   pub frames : lines.frames.hand ≡ hand First 0 [] []
   pub jobs : lines.jobs.hand ≡ hand First 0 [] []
-  pub notifier : lines.notifier ≡ fresh_door lines.frames.line
+  pub notifier : lines.answerer.notifier ≡ fresh_door lines.frames.line
+  pub doors : lines.answerer.doors ≡ fresh_doors lines.frames.line lines.end.name
+  pub unmarked : lines.end ≡ mark lines.end.name None None
+
+-- the mark of an end, set to the number of messages that were taken, of which the last two values of a u64 count as one
+abbrev pub ended_by : MarkSeen → (taken : ℕ) → MarkSeen
+ended_by end taken = mark end.name end.known (Some (min taken (2 ^ 64 - 2)))
 
 -- the passes are on this line of jobs and on this line of frames, and the notifier's door is one to that line of frames
 abbrev pub IsOn : (jobs frames : TableId) → LinesState → Type 0
-IsOn jobs frames lines = (lines.jobs.line ≡ jobs) × (lines.frames.line ≡ frames) × (lines.notifier.line ≡ frames)
+IsOn jobs frames lines = (lines.jobs.line ≡ jobs) × (lines.frames.line ≡ frames) × (lines.answerer.notifier.line ≡ frames)
 
 -- each first pass counts no other, and took each job and each prompt that was pushed
 pub record IsDrained (lines : LinesState) : Type 0 where

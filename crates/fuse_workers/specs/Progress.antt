@@ -7,11 +7,15 @@ use Rattle.fuse_wire.specs.Sink.{SinkState, Note, Appends, Sends}
 use Rattle.fuse_wire.specs.declared.sink.Sending.{Sending}
 use Rattle.fuse_reply.specs.Deliver.{Delivers, LeavesTail, NoNotice}
 use Rattle.fuse_reply.specs.Frame.{is_set_aside}
+use Rattle.fuse_reply.specs.Late.{LateSeen}
 use Rattle.fuse_reply.specs.Notice.{Notice, IsNotice, IsNoticeFrame, notice}
 use Rattle.fuse_reply.specs.declared.out.Out.{Out}
 use Rattle.fuse_reply.specs.declared.out.Out.TheVariants.{Frame, Note as Noting, Deferred}
+use Rattle.fuse_reply.specs.declared.parcel.Parcel.{Parcel}
+use Rattle.fuse_reply.specs.declared.parcel.Parcel.TheVariants.{Prompt, Notice as Notices, Late}
 use Rattle.fuse_reply.specs.declared.out.OutEnd.{OutEnd}
 use Rattle.fuse_reply.specs.declared.out.OutEnd.TheVariants.{Written, Noted, Lost, Marked}
+use Rattle.fuse_workers.specs.declared.book.Book.{Book}
 use Rattle.fuse_workers.specs.declared.transcript.Transcript.{Transcript}
 use Rattle.fuse_workers.specs.declared.taken.Taken.{Taken}
 use Rattle.fuse_workers.specs.declared.taken.Taken.TheVariants.{Message, Gone, Failed}
@@ -34,6 +38,14 @@ pub record OutletState : Type 0 where
   pub sink : SinkState
   pub counts : Transcript
 
+-- whoever sends: the end that frames go out by, and the book of replies that come later
+pub record RelayState : Type 0 where
+  pub outlet : OutletState
+  pub book : Book LateSeen
+
+abbrev pub relay_of : OutletState → Book LateSeen → RelayState
+relay_of outlet book = record { outlet = outlet; book = book }
+
 -- what a contract sees of a channel: how far the session is, and the receive buffer
 pub record ChannelState : Type 0 where
   pub progress : Progress
@@ -48,6 +60,10 @@ progress source sink counts unasked = record { source = source; sink = sink; cou
 -- the same, with these notices taken off the line
 abbrev pub beside : Progress → (unasked : List (List ℕ)) → Progress
 beside p unasked = record p { unasked = unasked }
+
+-- the counts, but for what could not be recorded
+abbrev pub but_unrecorded : Transcript → Transcript
+but_unrecorded t = record t { unrecorded = 0 }
 
 -- what was done, and then more
 abbrev pub added : Transcript → Transcript → Transcript
@@ -116,6 +132,12 @@ pub record SendsNotice (frame : List ℕ) (before after : OutletState) : Type 0 
   pub in_range : IsNoticeFrame frame
   pub counts : after.counts ≡ before.counts
 
+-- one parcel of a run in which no reply comes later: a late frame is none of this run, and is dropped
+abbrev pub PassesOnParcel : Parcel → (before after : OutletState) → Type 0
+PassesOnParcel (Prompt seq out) before after = SendsOnce out before after
+PassesOnParcel (Notices frame) before after = SendsNotice frame before after
+PassesOnParcel (Late late) before after = after ≡ before
+
 -- the same of a channel, whose source stays as it is
 pub record DeliversOnce (out : Out) (before after : ChannelState) : Type 0 where
   pub end : OutEnd
@@ -125,12 +147,12 @@ pub record DeliversOnce (out : Out) (before after : ChannelState) : Type 0 where
   pub unasked : after.progress.unasked ≡ before.progress.unasked
   pub reply : NoNotice out
 
--- each of the frames, in order, was lost or written
-abbrev pub LeavesOut : (lost frames written : List (List ℕ)) → Type 0
-LeavesOut lost [] written = (written ≡ []) × (lost ≡ [])
-LeavesOut lost (f ∷ fs) written =
-    ((rest : List (List ℕ)) × (written ≡ f ∷ rest) × LeavesOut lost fs rest)
-    ⊎ ((rest : List (List ℕ)) × (lost ≡ f ∷ rest) × LeavesOut rest fs written)
+-- each of the items, in order, is the first that is left out or the first that is kept
+abbrev pub LeavesOut : {A : Type 0} → (out items kept : List A) → Type 0
+LeavesOut out [] kept = (kept ≡ []) × (out ≡ [])
+LeavesOut {A} out (x ∷ xs) kept =
+    ((rest : List A) × (kept ≡ x ∷ rest) × LeavesOut out xs rest)
+    ⊎ ((rest : List A) × (out ≡ x ∷ rest) × LeavesOut rest xs kept)
 
 -- the frames that are notices
 abbrev pub notices : List (List ℕ) → List (List ℕ)
@@ -169,7 +191,7 @@ tally received frames notes lost = record {
 }
 
 -- So many messages were counted; these reply frames, with notices among them, and these notes were appended; and these were lost,
--- with notices among them too. The sink counted all that it refused.
+-- with notices among them too. The sink counted all that it refused. Of what could not be recorded nothing is said here.
 pub record Moves (received : ℕ) (frames : List (List ℕ)) (notes : List Note) (lost : List Out) (before after : Progress) : Type 0 where
   pub appended : List (List ℕ)
   pub refused : List Out
@@ -180,8 +202,8 @@ pub record Moves (received : ℕ) (frames : List (List ℕ)) (notes : List Note)
   pub passed_on : PassesOn appended refused before.unasked after.unasked
   pub tail : LeavesTail refused before.sink.tail after.sink.tail
   pub cause : after.sink.faults < last_count → length refused + before.sink.faults ≤ after.sink.faults
-  pub counts : (r f n l : ℕ) → before.counts ≡ tally r f n l
-      → after.counts ≡ tally (r + received) (f + length frames) (n + length notes) (l + length lost)
+  pub counts : (r f n l : ℕ) → but_unrecorded before.counts ≡ tally r f n l
+      → but_unrecorded after.counts ≡ tally (r + received) (f + length frames) (n + length notes) (l + length lost)
 
 -- notices were taken off the line and handed to the sink, and nothing else
 pub record NoticesAlone (before after : Progress) : Type 0 where

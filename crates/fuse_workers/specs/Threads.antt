@@ -1,6 +1,6 @@
 -- What the threads know of the line of jobs and of the line of frames, by what their passes pushed and took: that a worker answered
 -- each job that it took, and that each message was pushed as a job or answered by the caller itself.
-use Rattle.std.specs.Prelude.{◌≡◌, ◌++◌, ℕ, List, [], map}
+use Rattle.std.specs.Prelude.{◌≡◌, ◌++◌, ℕ, Bool, false, List, [], map}
 use Rattle.std.specs.List.Sorted.{IsPermutation}
 use Rattle.fuse_line.specs.declared.hand.Hand.{Hand}
 use Rattle.fuse_line.specs.declared.hand.Kind.TheVariants.{First, Inner}
@@ -16,9 +16,9 @@ use Rattle.fuse_workers.specs.Pairing.{InTurn, Pairs, numbered}
 abbrev pub job_of : (seq : ℕ) → (m : List ℕ) → Job
 job_of seq m = record { seq = seq; message = m }
 
--- what is owed and goes out at once, to a message whose header is good
-abbrev pub at_once : Owing → Owing
-at_once owed seq m out = owed seq m out × IsPrompt out × ¬ (IsBroken m)
+-- what is owed, to a message whose header is good, and goes out at once where no reply comes later
+abbrev pub answering : Owing → (defers : Bool) → Owing
+answering owed defers seq m out = owed seq m out × (defers ≡ false → IsPrompt out) × ¬ (IsBroken m)
 
 -- a job's number and message
 abbrev pub pair_of : Job → ℕ × List ℕ

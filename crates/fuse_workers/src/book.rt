@@ -1,9 +1,11 @@
 // The marks and late frames that whoever sends keeps.
 ghost use Rattle.std.specs.Prelude.{◌≡◌, ◌==◌, ◌≤◌, ◌⊎◌, ◌++◌, List, [], ◌∷◌, slice_get};
-ghost use Rattle.std.specs.Prelude.{if◌then◌else◌, true, None, Some};
+ghost use Rattle.std.specs.Prelude.{if◌then◌else◌, Bool, true, None, Some};
 ghost use Rattle.std.specs.HashMap.{get};
 ghost use Rattle.std.specs.Map.{update};
-ghost use Rattle.fuse_workers.specs.Book.{IsBookOf, frames_waiting, how_many, marks_waiting, tagged, waiting};
+ghost use Rattle.std.specs.Option.{IfSome};
+ghost use Rattle.fuse_workers.specs.Book.{EachWaiting, IsBookOf};
+ghost use Rattle.fuse_workers.specs.Book.{frames_waiting, how_many, marks_waiting, tagged, waiting};
 ghost use Rattle.fuse_workers.specs.Matched.{Tag, same};
 
 use crate::unmatched::{Unmatched, with_frame, with_mark};
@@ -31,6 +33,7 @@ impl<F: Drop> Book<F> {
     pub fn new(alloc: Global) -> Book<F>
         ensures book { IsBookOf result [] [] [] }
         ensures unrecorded { result.unrecorded ≡ 0 }
+        ensures own { (test : Tag → F → Bool) → EachWaiting test result }
     {
         Book {
             waiting: HashMap::new(alloc),
@@ -44,6 +47,8 @@ impl<F: Drop> Book<F> {
         ensures goes { result ≡ slice_get (frames_waiting (waiting self.old (seq, id.0))) 0 }
         ensures keeps { (marks : List Tag) (came sent : List (Tag × F)) → IsBookOf self.old marks came sent →
             IsBookOf self.new (marks ++ (seq, id.0) ∷ []) came (sent ++ tagged (seq, id.0) result) }
+        ensures own { (test : Tag → F → Bool) → EachWaiting test self.old →
+            EachWaiting test self.new × IfSome result (λ f. test (seq, id.0) f ≡ true) }
     {
         let tag = (seq, id.0);
         let (go, left, kept) = with_mark(self.waiting.remove(&tag));
@@ -56,6 +61,8 @@ impl<F: Drop> Book<F> {
         ensures goes { result ≡ (if marks_waiting (waiting self.old (seq, id.0)) == 0 then None else Some frame) }
         ensures keeps { (marks : List Tag) (came sent : List (Tag × F)) → IsBookOf self.old marks came sent →
             IsBookOf self.new marks (came ++ ((seq, id.0), frame) ∷ []) (sent ++ tagged (seq, id.0) result) }
+        ensures own { (test : Tag → F → Bool) → test (seq, id.0) frame ≡ true → EachWaiting test self.old →
+            EachWaiting test self.new × IfSome result (λ f. test (seq, id.0) f ≡ true) }
     {
         let tag = (seq, id.0);
         let (go, left, kept) = with_frame(self.alloc, self.waiting.remove(&tag), frame);
@@ -75,6 +82,8 @@ impl<F: Drop> Book<F> {
         requires { waiting self.old tag ≡ None }
         ensures backed { (k : Tag) → marks_waiting (waiting self.new k) ≤
             marks_waiting (update same (waiting self.old) tag left k) }
+        ensures left { (k : Tag) → (waiting self.new k ≡ update same (waiting self.old) tag left k) ⊎
+            (waiting self.new k ≡ None) }
         ensures kept { self.new.unrecorded ≡ 0 → (kept ≡ true) × (self.old.unrecorded ≡ 0) ×
             ((k : Tag) → waiting self.new k ≡ update same (waiting self.old) tag left k) }
     {
@@ -89,6 +98,8 @@ fn keep<F: Drop>(waiting: &mut Waiting<F>, tag: Key, left: Option<Unmatched<F>>)
     requires { get same waiting.old tag ≡ None }
     ensures backed { (k : Tag) → marks_waiting (get same waiting.new k) ≤
         marks_waiting (update same (get same waiting.old) tag left k) }
+    ensures left { (k : Tag) → (get same waiting.new k ≡ update same (get same waiting.old) tag left k) ⊎
+        (get same waiting.new k ≡ None) }
     ensures lost { (result ≡ 0) ⊎ (result ≡ how_many left) }
     ensures kept { result ≡ 0 → (k : Tag) → get same waiting.new k ≡ update same (get same waiting.old) tag left k }
 {

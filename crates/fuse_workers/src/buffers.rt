@@ -4,6 +4,8 @@ ghost use Rattle.fuse_notify.specs.Queueing.{fresh_door};
 ghost use Rattle.fuse_workers.specs.Lines.{IsUnused};
 ghost use Rattle.fuse_workers.specs.declared.state.TheConstants.{LINE_PLACES};
 
+use crate::answerer::Answerer;
+use crate::ending::Ending;
 use crate::request_job::RequestJob;
 use crate::run_line::RunLine;
 use fuse_notify::Notifier;
@@ -12,14 +14,16 @@ use fuse_wire::{NoMemory, receive_buffer};
 use std::alloc::Global;
 use std::marker::Model;
 
-/// The lines of a run, with what makes the notifier of each poll.
+/// The lines of a run, with what the caller answers with, and the mark of the run's end.
 #[derive(Drop)]
 pub struct Lines {
     /// The frames that wait to be sent.
     pub(crate) frames: RunLine<Parcel>,
     /// The messages that wait for a worker.
     pub(crate) jobs: RunLine<RequestJob>,
-    pub(crate) notifier: Notifier,
+    /// What the caller answers with.
+    pub(crate) answerer: Answerer,
+    pub(crate) ending: Ending,
 }
 
 impl Model for Lines {
@@ -27,7 +31,7 @@ impl Model for Lines {
 
     ghost Value = { LinesState };
 
-    ghost view = { λ l. record { frames = l.frames; jobs = l.jobs; notifier = l.notifier } };
+    ghost view = { λ l. record { frames = l.frames; jobs = l.jobs; answerer = l.answerer; end = l.ending } };
 }
 
 impl Lines {
@@ -40,8 +44,8 @@ impl Lines {
     }
 }
 
-/// The memory of a session, all of it taken before the first message: where messages are received, and the lines of
-/// its run. A contract sees the lines.
+/// The memory of a session, all of it taken before the first message: where messages are received, the lines of its run,
+/// and the mark of its end. A contract sees the lines.
 #[derive(Drop)]
 pub struct Buffers {
     pub(crate) receive: Vec<u8>,
@@ -70,11 +74,14 @@ impl Buffers {
         let receive = receive_buffer(alloc)?;
         let mut frames = RunLine::new(alloc)?;
         let jobs = RunLine::new(alloc)?;
+        let mut ending = Ending::new(alloc)?;
         let notifier = frames.notifier()?;
+        let doors = frames.doors(ending.share()?)?;
         let lines = Lines {
             frames,
             jobs,
-            notifier,
+            answerer: Answerer { notifier, doors },
+            ending,
         };
         Ok(Buffers { receive, lines })
     }

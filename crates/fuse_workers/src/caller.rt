@@ -1,22 +1,21 @@
 // The caller, which takes messages and hands them to workers.
-ghost use Rattle.std.specs.Prelude.{◌≡◌, ◌++◌, ◌∷◌, ℕ, List, [], false, true, length, MatchBool};
+ghost use Rattle.std.specs.Prelude.{◌≡◌, ◌++◌, ◌∷◌, ℕ, List, [], true, length, MatchBool};
 ghost use Rattle.fuse_line.specs.Hand.{with_put};
 ghost use Rattle.fuse_line.specs.declared.hand.Kind.TheVariants.{First};
 ghost use Rattle.fuse_line.specs.Tells.{IsSettled};
 ghost use Rattle.fuse_workers.specs.Answering.{IsRequest};
 ghost use Rattle.fuse_workers.specs.Hearing.{Hears, TurnHeard, end_of};
-ghost use Rattle.fuse_workers.specs.Lines.{IsOn};
 ghost use Rattle.fuse_workers.specs.OneEach.{number_of};
-ghost use Rattle.fuse_workers.specs.Promises.{lines_of};
-ghost use Rattle.fuse_workers.specs.Threads.{IsCaller, at_once, job_of};
+ghost use Rattle.fuse_workers.specs.Promises.{CallerOn};
+ghost use Rattle.fuse_workers.specs.Threads.{IsCaller, answering, job_of};
 
+use crate::answerer::Answerer;
 use crate::intake::Intake;
 use crate::request_job::RequestJob;
 use crate::worker::answer_job;
 use crate::{End, Incoming, Taken, Work};
 use fuse_line::{Line, Pass};
-use fuse_notify::Notifier;
-use fuse_reply::{NoDoor, Parcel};
+use fuse_reply::Parcel;
 use fuse_request::RequestError;
 use fuse_wire::{NoMemory, RequestId, Source};
 use std::alloc::Global;
@@ -49,12 +48,12 @@ impl Stopped {
     }
 }
 
-/// The first passes of both lines, and what makes the notifier of each poll that the caller answers itself.
+/// The first passes of both lines, and what the caller answers messages with itself.
 #[derive(Drop)]
 pub(crate) struct Caller {
     pub(crate) jobs: Pass<RequestJob>,
     pub(crate) frames: Pass<Parcel>,
-    pub(crate) notifier: Notifier,
+    pub(crate) answerer: Answerer,
 }
 
 /// Pushes a request as a job, and says whether it did: whether there is a worker, and memory and a place for it.
@@ -95,16 +94,15 @@ fn hand_in<R: Wait + AllocGlobal, W: Work>(
     frames: &Line<Parcel>,
     caller: &mut Caller,
 )
-    requires prompt { W.DEFERS ≡ false }
     requires request { IsRequest message.now }
-    requires lines { IsOn jobs.now frames.now (lines_of caller.old) }
+    requires lines { CallerOn jobs.now frames.now caller.old }
     requires first { (caller.old.jobs.hand.kind ≡ First) × (caller.old.frames.hand.kind ≡ First) }
-    ensures lines { IsOn jobs.now frames.now (lines_of caller.new) }
+    ensures lines { CallerOn jobs.now frames.now caller.new }
     ensures others { (caller.new.jobs.hand.others ≡ caller.old.jobs.hand.others)
         × (caller.new.frames.hand.others ≡ caller.old.frames.hand.others) }
     ensures caller { (ms : List (List ℕ)) → number_of (length ms) ≡ seq →
-        IsCaller (at_once (W.owed work.now)) ms caller.old.jobs.hand caller.old.frames.hand →
-        IsCaller (at_once (W.owed work.now)) (ms ++ message.now ∷ []) caller.new.jobs.hand caller.new.frames.hand }
+        IsCaller (answering (W.owed work.now) W.DEFERS) ms caller.old.jobs.hand caller.old.frames.hand →
+        IsCaller (answering (W.owed work.now) W.DEFERS) (ms ++ message.now ∷ []) caller.new.jobs.hand caller.new.frames.hand }
 {
     if push_job(
         rt,
@@ -117,7 +115,7 @@ fn hand_in<R: Wait + AllocGlobal, W: Work>(
     ) {
         return;
     }
-    let out = work.answer(rt, &mut caller.notifier, Err(NoDoor::Shut), seq, message);
+    let out = caller.answerer.answer(rt, work, seq, message);
     frames.push_waiting(rt, &mut caller.frames, Parcel::Prompt(seq, out));
 }
 
@@ -132,13 +130,12 @@ fn take_one<R: Wait + AllocGlobal, W: Work, S: Source>(
     frames: &Line<Parcel>,
     caller: &mut Caller,
 ) -> Option<Stopped>
-    requires prompt { W.DEFERS ≡ false }
-    requires lines { IsOn jobs.now frames.now (lines_of caller.old) }
+    requires lines { CallerOn jobs.now frames.now caller.old }
     requires first { (caller.old.jobs.hand.kind ≡ First) × (caller.old.frames.hand.kind ≡ First) }
-    ensures lines { IsOn jobs.now frames.now (lines_of caller.new) }
+    ensures lines { CallerOn jobs.now frames.now caller.new }
     ensures others { (caller.new.jobs.hand.others ≡ caller.old.jobs.hand.others)
         × (caller.new.frames.hand.others ≡ caller.old.frames.hand.others) }
-    ensures turn { TurnHeard (W.owed work.now) seq result intake.old intake.new
+    ensures turn { TurnHeard (answering (W.owed work.now) W.DEFERS) seq result intake.old intake.new
         caller.old.jobs.hand caller.old.frames.hand caller.new.jobs.hand caller.new.frames.hand }
 {
     let count = match intake.take_message(rt) {
@@ -167,14 +164,13 @@ pub(crate) fn take_messages<R: Wait + AllocGlobal, W: Work, S: Source>(
     frames: &Line<Parcel>,
     caller: &mut Caller,
 ) -> Stopped
-    requires prompt { W.DEFERS ≡ false }
-    requires lines { IsOn jobs.now frames.now (lines_of caller.old) }
-    requires caller { IsCaller (at_once (W.owed work.now)) [] caller.old.jobs.hand caller.old.frames.hand }
-    ensures lines { IsOn jobs.now frames.now (lines_of caller.new) }
+    requires lines { CallerOn jobs.now frames.now caller.old }
+    requires caller { IsCaller (answering (W.owed work.now) W.DEFERS) [] caller.old.jobs.hand caller.old.frames.hand }
+    ensures lines { CallerOn jobs.now frames.now caller.new }
     ensures others { (caller.new.jobs.hand.others ≡ caller.old.jobs.hand.others)
         × (caller.new.frames.hand.others ≡ caller.old.frames.hand.others) }
     ensures heard { (ms : List (List ℕ)) × Hears result ms intake.old intake.new
-        × IsCaller (at_once (W.owed work.now)) ms caller.new.jobs.hand caller.new.frames.hand }
+        × IsCaller (answering (W.owed work.now) W.DEFERS) ms caller.new.jobs.hand caller.new.frames.hand }
 {
     let mut seq: u64 = 0;
     for _ in rt.forever() {
@@ -194,22 +190,21 @@ pub(crate) fn answer_rest<R: Wait + AllocGlobal, W: Work>(
     frames: &Line<Parcel>,
     caller: &mut Caller,
 )
-    requires prompt { W.DEFERS ≡ false }
-    requires lines { IsOn jobs.now frames.now (lines_of caller.old) }
+    requires lines { CallerOn jobs.now frames.now caller.old }
     requires first { (caller.old.jobs.hand.kind ≡ First) × (caller.old.frames.hand.kind ≡ First) }
-    ensures lines { IsOn jobs.now frames.now (lines_of caller.new) }
+    ensures lines { CallerOn jobs.now frames.now caller.new }
     ensures others { (caller.new.jobs.hand.others ≡ caller.old.jobs.hand.others)
         × (caller.new.frames.hand.others ≡ caller.old.frames.hand.others) }
     ensures caller { (ms : List (List ℕ)) →
-        IsCaller (at_once (W.owed work.now)) ms caller.old.jobs.hand caller.old.frames.hand →
-        IsCaller (at_once (W.owed work.now)) ms caller.new.jobs.hand caller.new.frames.hand }
+        IsCaller (answering (W.owed work.now) W.DEFERS) ms caller.old.jobs.hand caller.old.frames.hand →
+        IsCaller (answering (W.owed work.now) W.DEFERS) ms caller.new.jobs.hand caller.new.frames.hand }
     ensures settled { IsSettled (λ _. true) caller.new.jobs.hand }
 {
     for _ in rt.forever() {
         let Some(job) = jobs.pop(rt, &mut caller.jobs) else {
             return;
         };
-        let parcel = answer_job(rt, work, &mut caller.notifier, job);
+        let parcel = answer_job(rt, work, &mut caller.answerer, job);
         frames.push_waiting(rt, &mut caller.frames, parcel);
     }
     unreachable!()

@@ -55,6 +55,7 @@ impl<S: Source, K: Sink> Channel<S, K> {
     /// The source, the sink, the memory, and the counts.
     pub fn close(self, lines: Lines) -> (S, K, Buffers, Transcript)
         ensures channel { self.progress ≡ progress (S.told result.0) (K.told result.1) result.3 [] }
+        ensures recorded { result.3.unrecorded ≡ 0 }
         ensures lines { result.2 ≡ lines }
     {
         let Channel { intake, outlet } = self;

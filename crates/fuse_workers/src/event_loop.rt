@@ -103,6 +103,9 @@ pub fn run_inline<R: Wait + AllocGlobal, W: Work, S: Source, K: Sink>(
         (progress (S.told source) (K.told sink) nothing_yet [])
         (progress (S.told result.source) (K.told result.sink) result.transcript (unasked_of result.buffers)) }
 
+    // All could be recorded, since no reply comes later.
+    ensures recorded { result.transcript.unrecorded ≡ 0 }
+
     // Where the sink refused nothing, the notices that were sent are those that were taken off the line, in order.
     ensures notices { Quiet (K.told sink) (K.told result.sink) → PassesOnAll
         (progress (S.told source) (K.told sink) nothing_yet [])
@@ -115,13 +118,16 @@ pub fn run_inline<R: Wait + AllocGlobal, W: Work, S: Source, K: Sink>(
     let Lines {
         mut frames,
         jobs,
-        mut notifier,
+        mut answerer,
+        ending,
     } = lines;
-    let end = answer_in_turn(rt, work, &mut notifier, &mut channel, &mut frames);
+    let notifier = &mut answerer.notifier;
+    let end = answer_in_turn(rt, work, notifier, &mut channel, &mut frames);
     let lines = Lines {
         frames,
         jobs,
-        notifier,
+        answerer,
+        ending,
     };
     let (source, sink, buffers, transcript) = channel.close(lines);
     RunEnd {

@@ -3,24 +3,26 @@
 ghost use Rattle.std.specs.Prelude.{◌≡◌};
 
 use crate::caller::Caller;
+use crate::ending::Ending;
 use crate::intake::Intake;
-use crate::outlet::Outlet;
+use crate::relay::Relay;
 use fuse_line::Pass;
 use fuse_reply::Parcel;
 use fuse_wire::{Sink, Source};
 
-/// The ends of a run, lent to whoever conducts it, and the first passes of its lines.
+/// The ends of a run, lent to whoever conducts it, the first passes of its lines, and the mark of its end.
 #[derive(Drop)]
 pub(crate) struct LentEnds<'a, S: Source, K: Sink> {
     pub(crate) intake: &'a mut Intake<S>,
-    pub(crate) outlet: &'a mut Outlet<K>,
+    pub(crate) relay: &'a mut Relay<K>,
     pub(crate) caller: Caller,
+    pub(crate) ending: Ending,
 }
 
-/// The end that frames go out by, lent to the sender, and its pass.
+/// The end that frames go out by, with its book, lent to the sender, and its pass.
 #[derive(Drop)]
-pub(crate) struct LentOutlet<'a, K: Sink> {
-    pub(crate) outlet: &'a mut Outlet<K>,
+pub(crate) struct LentRelay<'a, K: Sink> {
+    pub(crate) relay: &'a mut Relay<K>,
     pub(crate) pass: Pass<Parcel>,
 }
 

@@ -4,12 +4,16 @@
 //! note each, on one thread in order.
 #![tactic(auto)]
 
+mod alone;
+mod answerer;
 mod book;
 mod buffers;
 mod caller;
 mod channel;
 mod copied;
+mod doors;
 mod end;
+mod ending;
 mod event;
 mod event_loop;
 mod incoming;
@@ -19,6 +23,7 @@ mod lent;
 mod lists;
 mod marks;
 mod outlet;
+mod relay;
 mod request_job;
 mod run_line;
 mod sender;

@@ -2,8 +2,7 @@
 ghost use Rattle.std.specs.Prelude.{◌≡◌};
 ghost use Rattle.fuse_wire.specs.Source.{SourceState};
 ghost use Rattle.fuse_workers.specs.Lines.{notices_in};
-ghost use Rattle.fuse_workers.specs.Progress.{NoticesAlone, SendsNotice, SendsOnce, progress};
-ghost use Rattle.fuse_workers.specs.Relays.{SendsParcel};
+ghost use Rattle.fuse_workers.specs.Progress.{NoticesAlone, PassesOnParcel, SendsNotice, SendsOnce, progress};
 ghost use Rattle.fuse_workers.specs.declared.transcript.Transcript.{Transcript as Counts};
 
 use crate::Transcript;
@@ -13,7 +12,8 @@ use fuse_wire::Sink;
 use std::marker::Model;
 use std::sync::Wait;
 
-/// The sink of a session, and the counts of what went to it. A contract sees what the sink tells.
+/// The sink of a session, and the counts of what went to it: what can't be recorded is not counted here. A contract sees
+/// what the sink tells.
 #[derive(Drop)]
 pub(crate) struct Outlet<K: Sink> {
     pub(crate) sink: K,
@@ -21,11 +21,14 @@ pub(crate) struct Outlet<K: Sink> {
 }
 
 impl<K: Sink> Model for Outlet<K> {
+    ghost use Rattle.std.specs.Prelude.{◌≡◌};
     ghost use Rattle.fuse_workers.specs.Progress.{OutletState};
 
     ghost Value = { OutletState };
 
     ghost view = { λ o. record { sink = K.told o.sink; counts = o.transcript } };
+
+    ghost invariant = { λ o. o.transcript.unrecorded ≡ 0 };
 }
 
 impl<K: Sink> Outlet<K> {
@@ -54,7 +57,7 @@ impl<K: Sink> Outlet<K> {
     /// Hands a parcel to the sink, but for a frame that comes later. In a run that has no replies which come later no
     /// mark was sent that such a frame could stand for, so that it is one of another run, and is dropped.
     pub(crate) fn deliver_parcel(&mut self, parcel: Parcel)
-        ensures { SendsParcel parcel self.old self.new }
+        ensures { PassesOnParcel parcel self.old self.new }
     {
         match parcel {
             Parcel::Prompt(_, out) => self.deliver(out),

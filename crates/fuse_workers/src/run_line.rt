@@ -6,9 +6,10 @@ ghost use Rattle.fuse_notify.specs.Queueing.{fresh_door};
 ghost use Rattle.fuse_reply.specs.Parcel.{is_prompt};
 
 use crate::LINE_PLACES;
+use crate::doors::Doors;
 use fuse_line::{Class, Line, Pass};
 use fuse_notify::Notifier;
-use fuse_reply::Parcel;
+use fuse_reply::{EndMark, Parcel};
 use fuse_wire::NoMemory;
 use std::alloc::Global;
 use std::marker::Model;
@@ -56,6 +57,16 @@ impl RunLine<Parcel> {
         let share = Arc::try_clone(&self.line)?;
         let door = self.line.split(&mut self.pass, true);
         Ok(Notifier::new(share, door))
+    }
+
+    /// What makes doors to it, each with a share of this mark.
+    pub(crate) fn doors(&mut self, mark: EndMark) -> Result<Doors, NoMemory>
+        ensures same { self.new ≡ self.old }
+        ensures doors { IfOk result (λ doors. doors ≡ record { pass = fresh_door self.old.line; mark = mark }) }
+    {
+        let share = Arc::try_clone(&self.line)?;
+        let pass = self.line.split(&mut self.pass, true);
+        Ok(Doors::new(share, pass, mark))
     }
 
     /// Whether no notice waits.

@@ -1,38 +1,40 @@
-// The sender, which alone has the sink.
+// The sender, which alone has the sink and the book.
 ghost use Rattle.std.specs.Prelude.{◌≡◌, ◌++◌, ℕ, List, []};
 ghost use Rattle.fuse_line.specs.Hand.{hand};
 ghost use Rattle.fuse_line.specs.declared.hand.Kind.TheVariants.{First, Inner};
 ghost use Rattle.fuse_line.specs.Tells.{IsSettled};
 ghost use Rattle.fuse_reply.specs.Parcel.{is_prompt};
 ghost use Rattle.fuse_reply.specs.declared.parcel.Parcel.{Parcel as Goes};
+ghost use Rattle.fuse_workers.specs.Progress.{relay_of};
 ghost use Rattle.fuse_workers.specs.Relays.{IsRelayed, Relays};
 
-use crate::lent::LentOutlet;
-use crate::outlet::Outlet;
+use crate::lent::LentRelay;
+use crate::relay::Relay;
 use fuse_line::{Line, Pass};
 use fuse_reply::Parcel;
 use fuse_wire::Sink;
 use std::sync::Wait;
 use std::sync::atomic::AtomicBool;
 
-/// Hands parcels to the sink, until there is none left once it was told that no more come.
+/// Hands parcels on, until there is none left once it was told that no more come.
 fn send_parcels<R: Wait, K: Sink>(
     rt: &R,
     frames: &Line<Parcel>,
     pass: &mut Pass<Parcel>,
-    outlet: &mut Outlet<K>,
+    relay: &mut Relay<K>,
     no_more: &AtomicBool,
 )
     requires line { pass.old.line ≡ frames.now }
     requires hand { pass.old.hand ≡ hand Inner 0 [] [] }
     ensures line { pass.new.line ≡ frames.now }
-    ensures relayed { IsRelayed pass.new.hand outlet.old outlet.new }
+    ensures relayed { IsRelayed pass.new.hand (relay_of relay.old.outlet relay.old.book)
+        (relay_of relay.new.outlet relay.new.book) }
 {
     for _ in rt.forever() {
         let Some(parcel) = frames.pop_waiting(rt, pass, no_more) else {
             return;
         };
-        outlet.deliver_parcel(parcel);
+        relay.deliver_parcel(parcel);
     }
     unreachable!()
 }
@@ -41,39 +43,41 @@ fn send_parcels<R: Wait, K: Sink>(
 pub(crate) fn serve_sink<'a, R: Wait, K: Sink>(
     rt: &R,
     frames: &Line<Parcel>,
-    lent: LentOutlet<'a, K>,
+    lent: LentRelay<'a, K>,
     no_more: &AtomicBool,
-) -> LentOutlet<'a, K>
+) -> LentRelay<'a, K>
     requires line { lent.pass.line ≡ frames.now }
     requires hand { lent.pass.hand ≡ hand Inner 0 [] [] }
-    ensures same { result.outlet.ghost_name ≡ lent.entry.outlet.ghost_name }
+    ensures same { result.relay.ghost_name ≡ lent.entry.relay.ghost_name }
     ensures line { result.pass.line ≡ frames.now }
-    ensures relayed { IsRelayed result.pass.hand lent.entry.outlet.now result.outlet.now }
+    ensures relayed { IsRelayed result.pass.hand (relay_of lent.entry.relay.now.outlet lent.entry.relay.now.book)
+        (relay_of result.relay.now.outlet result.relay.now.book) }
 {
-    let LentOutlet { outlet, mut pass } = lent;
-    send_parcels(rt, frames, &mut pass, outlet, no_more);
-    LentOutlet { outlet, pass }
+    let LentRelay { relay, mut pass } = lent;
+    send_parcels(rt, frames, &mut pass, relay, no_more);
+    LentRelay { relay, pass }
 }
 
-/// Hands the parcels to the sink that the sender left. Nobody else has an inner pass.
+/// Hands the parcels on that the sender left. Nobody else has an inner pass.
 pub(crate) fn send_rest<R: Wait, K: Sink>(
     rt: &R,
     frames: &Line<Parcel>,
     pass: &mut Pass<Parcel>,
-    outlet: &mut Outlet<K>,
+    relay: &mut Relay<K>,
 )
     requires line { pass.old.line ≡ frames.now }
     requires first { pass.old.hand.kind ≡ First }
     ensures line { pass.new.line ≡ frames.now }
     ensures more { (more : List Goes) × (pass.new.hand ≡ hand First pass.old.hand.others pass.old.hand.put
-        (pass.old.hand.taken ++ more)) × Relays more outlet.old outlet.new }
+        (pass.old.hand.taken ++ more)) × Relays more (relay_of relay.old.outlet relay.old.book)
+        (relay_of relay.new.outlet relay.new.book) }
     ensures settled { IsSettled is_prompt pass.new.hand }
 {
     for _ in rt.forever() {
         let Some(parcel) = frames.pop(rt, pass) else {
             return;
         };
-        outlet.deliver_parcel(parcel);
+        relay.deliver_parcel(parcel);
     }
     unreachable!()
 }

@@ -1,18 +1,17 @@
 // The threads of a run: how they are started, and how they are joined.
-ghost use Rattle.std.specs.Prelude.{◌≡◌, ◌+◌, ◌-◌, ◌≤◌, ℕ, List, [], false, length, MatchOption, MatchResult};
+ghost use Rattle.std.specs.Prelude.{◌≡◌, ◌+◌, ◌-◌, ◌≤◌, ℕ, List, [], length, MatchOption, MatchResult};
 ghost use Rattle.std.specs.List.{All};
 ghost use Rattle.std.specs.Vec.{vec_capacity, vec_len};
 ghost use Rattle.fuse_line.specs.Hand.{hand};
 ghost use Rattle.fuse_line.specs.declared.hand.Kind.TheVariants.{First, Inner};
-ghost use Rattle.fuse_notify.specs.Queueing.{fresh_door};
-ghost use Rattle.fuse_workers.specs.Lines.{IsOn};
-ghost use Rattle.fuse_workers.specs.Promises.{PromisesFor, lines_of};
+ghost use Rattle.fuse_workers.specs.Promises.{CallerOn, PromisesFor};
+ghost use Rattle.fuse_workers.specs.Progress.{relay_of};
 ghost use Rattle.fuse_workers.specs.Relays.{IsRelayed};
-ghost use Rattle.fuse_workers.specs.Threads.{IsCaller, IsServed, at_once};
+ghost use Rattle.fuse_workers.specs.Threads.{IsCaller, IsServed, answering};
 
 use crate::Work;
 use crate::caller::Caller;
-use crate::lent::LentOutlet;
+use crate::lent::LentRelay;
 use crate::request_job::RequestJob;
 use crate::sender::serve_sink;
 use crate::worker::answer_jobs;
@@ -43,12 +42,12 @@ impl<W> Drop for Serves<W> {
 
 impl<W: Work> Promise<(Pass<RequestJob>, Pass<Parcel>)> for Serves<W> {
     ghost kept_by = { λ p r. (r.0.line ≡ p.jobs.value) × (r.1.line ≡ p.frames.value)
-        × IsServed (at_once (W.owed p.work.value)) r.0.hand r.1.hand };
+        × IsServed (answering (W.owed p.work.value) W.DEFERS) r.0.hand r.1.hand };
 }
 
-/// What the sender hands back: the end that it was lent, to which each parcel went that it took.
+/// What the sender hands back: the end that it was lent, with its book, to which each parcel went that it took.
 pub(crate) struct Sends<'a, K: Sink> {
-    lent: Snapshot<LentOutlet<'a, K>>,
+    lent: Snapshot<LentRelay<'a, K>>,
     frames: Snapshot<Line<Parcel>>,
 }
 
@@ -58,18 +57,19 @@ impl<'a, K: Sink> Drop for Sends<'a, K> {
     }
 }
 
-impl<'a, K: Sink> Promise<LentOutlet<'a, K>> for Sends<'a, K> {
-    ghost kept_by = { λ p r. (r.outlet.ghost_name ≡ p.lent.value.outlet.ghost_name) × (r.pass.line ≡ p.frames.value)
-        × IsRelayed r.pass.hand p.lent.value.outlet.now r.outlet.now };
+impl<'a, K: Sink> Promise<LentRelay<'a, K>> for Sends<'a, K> {
+    ghost kept_by = { λ p r. (r.relay.ghost_name ≡ p.lent.value.relay.ghost_name) × (r.pass.line ≡ p.frames.value)
+        × IsRelayed r.pass.hand (relay_of p.lent.value.relay.now.outlet p.lent.value.relay.now.book)
+        (relay_of r.relay.now.outlet r.relay.now.book) };
 }
 
 /// A worker that was started.
 pub(crate) type Worker<W> = PromisedHandle<(Pass<RequestJob>, Pass<Parcel>), Serves<W>>;
 
 /// The sender, where it was started.
-pub(crate) type Sender<'a, K> = PromisedHandle<LentOutlet<'a, K>, Sends<'a, K>>;
+pub(crate) type Sender<'a, K> = PromisedHandle<LentRelay<'a, K>, Sends<'a, K>>;
 
-/// Starts a worker, where there is memory for its notifier. The closure of one that can't be started is run here at
+/// Starts a worker, where there is memory for what it answers with. The closure of one that can't be started is run here at
 /// once, with its flag raised.
 fn start_one<'s, E, W: Work, R: Threads + Wait + AllocGlobal + Sync>(
     scope: &Scope<'s, E>,
@@ -80,11 +80,10 @@ fn start_one<'s, E, W: Work, R: Threads + Wait + AllocGlobal + Sync>(
     no_more: &'s AtomicBool,
     caller: &mut Caller,
 ) -> Option<Worker<W>>
-    requires prompt { W.DEFERS ≡ false }
-    requires lines { IsOn jobs.now frames.now (lines_of caller.old) }
-    requires caller { IsCaller (at_once (W.owed work.now)) [] caller.old.jobs.hand caller.old.frames.hand }
-    ensures lines { IsOn jobs.now frames.now (lines_of caller.new) }
-    ensures caller { IsCaller (at_once (W.owed work.now)) [] caller.new.jobs.hand caller.new.frames.hand }
+    requires lines { CallerOn jobs.now frames.now caller.old }
+    requires caller { IsCaller (answering (W.owed work.now) W.DEFERS) [] caller.old.jobs.hand caller.old.frames.hand }
+    ensures lines { CallerOn jobs.now frames.now caller.new }
+    ensures caller { IsCaller (answering (W.owed work.now) W.DEFERS) [] caller.new.jobs.hand caller.new.frames.hand }
     ensures others { MatchOption result
         ((caller.new.jobs.hand.others ≡ caller.old.jobs.hand.others)
         × (caller.new.frames.hand.others ≡ caller.old.frames.hand.others))
@@ -92,7 +91,7 @@ fn start_one<'s, E, W: Work, R: Threads + Wait + AllocGlobal + Sync>(
         × (caller.new.jobs.hand.others ≡ caller.old.jobs.hand.others + 1)
         × (caller.new.frames.hand.others ≡ caller.old.frames.hand.others + 1)) }
 {
-    let Ok(notifier) = caller.notifier.again() else {
+    let Ok(answerer) = caller.answerer.again() else {
         return None;
     };
     let job_pass = jobs.split(&mut caller.jobs, false);
@@ -103,14 +102,14 @@ fn start_one<'s, E, W: Work, R: Threads + Wait + AllocGlobal + Sync>(
         frames: Snapshot::of(frames),
     };
     let worker = move || -> (Pass<RequestJob>, Pass<Parcel>)
-        requires { (W.DEFERS ≡ false) × (job_pass.line ≡ jobs.now) × (frame_pass.line ≡ frames.now)
+        requires { (job_pass.line ≡ jobs.now) × (frame_pass.line ≡ frames.now)
             × (job_pass.hand ≡ hand Inner 0 [] []) × (frame_pass.hand ≡ hand Inner 0 [] [])
-            × (notifier ≡ fresh_door frames.now) }
+            × (answerer.notifier.line ≡ frames.now) }
         ensures { (result.0.line ≡ jobs.entry.now) × (result.1.line ≡ frames.entry.now)
-            × IsServed (at_once (W.owed work.entry.now)) result.0.hand result.1.hand }
+            × IsServed (answering (W.owed work.entry.now) W.DEFERS) result.0.hand result.1.hand }
     {
         answer_jobs(
-            rt, work, jobs, frames, job_pass, frame_pass, notifier, no_more,
+            rt, work, jobs, frames, job_pass, frame_pass, answerer, no_more,
         )
     };
     match scope.spawn_with(promise, worker) {
@@ -136,13 +135,12 @@ pub(crate) fn start_workers<'s, E, W: Work, R: Threads + Wait + AllocGlobal + Sy
     caller: &mut Caller,
     workers: &mut Vec<Worker<W>>,
 )
-    requires prompt { W.DEFERS ≡ false }
-    requires lines { IsOn jobs.now frames.now (lines_of caller.old) }
-    requires caller { IsCaller (at_once (W.owed work.now)) [] caller.old.jobs.hand caller.old.frames.hand }
+    requires lines { CallerOn jobs.now frames.now caller.old }
+    requires caller { IsCaller (answering (W.owed work.now) W.DEFERS) [] caller.old.jobs.hand caller.old.frames.hand }
     requires room { length flags.now ≤ vec_capacity workers.old - vec_len workers.old }
     requires promises { All (λ h. PromisesFor work.now jobs.now frames.now h.promise) workers.old.items }
-    ensures lines { IsOn jobs.now frames.now (lines_of caller.new) }
-    ensures caller { IsCaller (at_once (W.owed work.now)) [] caller.new.jobs.hand caller.new.frames.hand }
+    ensures lines { CallerOn jobs.now frames.now caller.new }
+    ensures caller { IsCaller (answering (W.owed work.now) W.DEFERS) [] caller.new.jobs.hand caller.new.frames.hand }
     ensures promises { All (λ h. PromisesFor work.now jobs.now frames.now h.promise) workers.new.items }
     ensures jobs { caller.new.jobs.hand.others + vec_len workers.old ≡ caller.old.jobs.hand.others + vec_len workers.new }
     ensures frames { caller.new.frames.hand.others + vec_len workers.old
@@ -165,16 +163,16 @@ fn join_one<W: Work, R: Threads>(
     caller: &mut Caller,
     worker: Worker<W>,
 )
-    requires lines { IsOn jobs.now frames.now (lines_of caller.old) }
+    requires lines { CallerOn jobs.now frames.now caller.old }
     requires first { (caller.old.jobs.hand.kind ≡ First) × (caller.old.frames.hand.kind ≡ First) }
     requires promise { PromisesFor work.now jobs.now frames.now worker.promise }
-    ensures lines { IsOn jobs.now frames.now (lines_of caller.new) }
+    ensures lines { CallerOn jobs.now frames.now caller.new }
     ensures first { (caller.new.jobs.hand.kind ≡ First) × (caller.new.frames.hand.kind ≡ First) }
     ensures others { (caller.new.jobs.hand.others ≡ caller.old.jobs.hand.others - 1)
         × (caller.new.frames.hand.others ≡ caller.old.frames.hand.others - 1) }
     ensures caller { (ms : List (List ℕ)) →
-        IsCaller (at_once (W.owed work.now)) ms caller.old.jobs.hand caller.old.frames.hand →
-        IsCaller (at_once (W.owed work.now)) ms caller.new.jobs.hand caller.new.frames.hand }
+        IsCaller (answering (W.owed work.now) W.DEFERS) ms caller.old.jobs.hand caller.old.frames.hand →
+        IsCaller (answering (W.owed work.now) W.DEFERS) ms caller.new.jobs.hand caller.new.frames.hand }
 {
     let _ = work;
     let (job_pass, frame_pass) = worker.join(rt);
@@ -191,17 +189,17 @@ pub(crate) fn join_workers<W: Work, R: Threads>(
     caller: &mut Caller,
     workers: Vec<Worker<W>>,
 )
-    requires lines { IsOn jobs.now frames.now (lines_of caller.old) }
+    requires lines { CallerOn jobs.now frames.now caller.old }
     requires first { (caller.old.jobs.hand.kind ≡ First) × (caller.old.frames.hand.kind ≡ First) }
     requires promises { All (λ h. PromisesFor work.now jobs.now frames.now h.promise) workers.items }
     requires others { (caller.old.jobs.hand.others ≡ vec_len workers)
         × (caller.old.frames.hand.others ≡ 1 + vec_len workers) }
-    ensures lines { IsOn jobs.now frames.now (lines_of caller.new) }
+    ensures lines { CallerOn jobs.now frames.now caller.new }
     ensures first { (caller.new.jobs.hand.kind ≡ First) × (caller.new.frames.hand.kind ≡ First) }
     ensures others { (caller.new.jobs.hand.others ≡ 0) × (caller.new.frames.hand.others ≡ 1) }
     ensures caller { (ms : List (List ℕ)) →
-        IsCaller (at_once (W.owed work.now)) ms caller.old.jobs.hand caller.old.frames.hand →
-        IsCaller (at_once (W.owed work.now)) ms caller.new.jobs.hand caller.new.frames.hand }
+        IsCaller (answering (W.owed work.now) W.DEFERS) ms caller.old.jobs.hand caller.old.frames.hand →
+        IsCaller (answering (W.owed work.now) W.DEFERS) ms caller.new.jobs.hand caller.new.frames.hand }
 {
     for worker in workers {
         join_one(rt, work, jobs, frames, caller, worker);
@@ -213,24 +211,26 @@ pub(crate) fn start_sender<'s, 'a: 's, E, K: Sink + Send, R: Threads + Wait + Sy
     scope: &Scope<'s, E>,
     rt: &'s R,
     frames: &'s Line<Parcel>,
-    lent: LentOutlet<'a, K>,
+    lent: LentRelay<'a, K>,
     no_more: &'s AtomicBool,
-) -> Result<Sender<'a, K>, LentOutlet<'a, K>>
+) -> Result<Sender<'a, K>, LentRelay<'a, K>>
     requires line { lent.pass.line ≡ frames.now }
     requires hand { lent.pass.hand ≡ hand Inner 0 [] [] }
     ensures { MatchResult result
         (λ h. (h.promise.lent.value ≡ lent.entry) × (h.promise.frames.value ≡ frames.now))
-        (λ r. (r.outlet.ghost_name ≡ lent.entry.outlet.ghost_name) × (r.pass.line ≡ frames.now)
-        × IsRelayed r.pass.hand lent.entry.outlet.now r.outlet.now) }
+        (λ r. (r.relay.ghost_name ≡ lent.entry.relay.ghost_name) × (r.pass.line ≡ frames.now)
+        × IsRelayed r.pass.hand (relay_of lent.entry.relay.now.outlet lent.entry.relay.now.book)
+        (relay_of r.relay.now.outlet r.relay.now.book)) }
 {
     let promise = Sends {
         lent: Snapshot::of(&lent),
         frames: Snapshot::of(frames),
     };
-    let sender = move || -> LentOutlet<K>
+    let sender = move || -> LentRelay<K>
         requires { (lent.pass.line ≡ frames.now) × (lent.pass.hand ≡ hand Inner 0 [] []) }
-        ensures { (result.outlet.ghost_name ≡ lent.entry.outlet.ghost_name) × (result.pass.line ≡ frames.entry.now)
-            × IsRelayed result.pass.hand lent.entry.outlet.now result.outlet.now }
+        ensures { (result.relay.ghost_name ≡ lent.entry.relay.ghost_name) × (result.pass.line ≡ frames.entry.now)
+            × IsRelayed result.pass.hand (relay_of lent.entry.relay.now.outlet lent.entry.relay.now.book)
+            (relay_of result.relay.now.outlet result.relay.now.book) }
     { serve_sink(rt, frames, lent, no_more) };
     match scope.spawn_with(promise, sender) {
         Ok(handle) => Ok(handle),

@@ -13,7 +13,8 @@ pub struct Transcript {
     pub notes: u64,
     /// The reply frames and notes that the sink did not take.
     pub lost: u64,
-    /// The marks of replies to come and the late frames that could not be kept. No reply comes late yet, so it is 0.
+    /// The marks of replies to come and the late frames that could not be kept, for want of memory. It is 0 where no reply
+    /// comes later.
     pub unrecorded: u64,
 }
 

@@ -1,5 +1,5 @@
 // What waits under one tag: a mark for its late frame, or a late frame for its mark.
-ghost use Rattle.std.specs.Prelude.{◌≡◌, ◌==◌, if◌then◌else◌, true, None, Some, slice_get};
+ghost use Rattle.std.specs.Prelude.{◌≡◌, ◌==◌, if◌then◌else◌, true, false, None, Some, slice_get};
 ghost use Rattle.fuse_workers.specs.Book.{Backs, Meets, frames_waiting, how_many, marks_waiting};
 
 use std::alloc::Global;
@@ -33,6 +33,7 @@ pub(crate) fn with_mark<F: Drop>(
     ensures goes { result.0 ≡ slice_get (frames_waiting waiting) 0 }
     ensures backed { Backs waiting 1 result.0 result.1 }
     ensures kept { result.2 ≡ true → Meets waiting 1 None result.0 result.1 }
+    ensures refused { result.2 ≡ false → (result.0 ≡ None) × (frames_waiting result.1 ≡ frames_waiting waiting) }
 {
     match waiting {
         None => (None, Some(Unmatched::Marks(0)), true),
@@ -56,6 +57,7 @@ pub(crate) fn with_frame<F: Drop>(
     ensures goes { result.0 ≡ (if marks_waiting waiting == 0 then None else Some frame) }
     ensures backed { Backs waiting 0 result.0 result.1 }
     ensures kept { result.2 ≡ true → Meets waiting 0 (Some frame) result.0 result.1 }
+    ensures refused { result.2 ≡ false → (result.0 ≡ None) × (frames_waiting result.1 ≡ frames_waiting waiting) }
 {
     match waiting {
         None => {

@@ -25,8 +25,9 @@ pub trait Work: Sync {
     ghost DEFERS: { Bool };
 
     /// Answers the message of this number, which has a good header and is no DESTROY. A poll is told of news through
-    /// what the notifier makes, which stays one to the same line. The reply may come later only through the door: where
-    /// there is none, the error says why, and it is `Shut` exactly where no reply of this work comes later.
+    /// what the notifier makes, which stays one to the same line. The reply may come later only through the door, which
+    /// is one to that line too: where there is none, the error says why, and it is `Shut` exactly where no reply of this
+    /// work comes later.
     fn answer<R: Wait + AllocGlobal>(
         &self,
         rt: &R,
@@ -36,7 +37,7 @@ pub trait Work: Sync {
         message: &[u8],
     ) -> Out
         requires message { IsRequest message.now }
-        requires door { DoorFits DEFERS door }
+        requires door { DoorFits DEFERS notifier.old.line seq door }
         ensures owed { owed self.now seq message.now result }
         ensures later { MayComeLater door seq message.now result }
         ensures line { notifier.new.line ≡ notifier.old.line };

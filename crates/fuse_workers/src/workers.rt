@@ -1,32 +1,39 @@
 // Runs on several threads: the caller receives, workers answer, and one sender has the sink.
-ghost use Rattle.std.specs.Prelude.{◌≡◌, ◌≤◌, ◌++◌, ℕ, List, [], IfOk, false, true, length};
+ghost use Rattle.std.specs.Prelude.{◌≡◌, ◌≤◌, ◌++◌, ℕ, List, [], None, IfOk, false, true, length};
 ghost use Rattle.std.specs.Arc.{arc_value};
-ghost use Rattle.fuse_reply.specs.Parcel.{is_prompt};
 ghost use Rattle.std.specs.Vec.{vec_capacity, vec_len};
 ghost use Rattle.fuse_line.specs.Hand.{hand};
 ghost use Rattle.fuse_line.specs.declared.hand.Kind.TheVariants.{First};
 ghost use Rattle.fuse_line.specs.Tells.{IsSettled};
+ghost use Rattle.fuse_reply.specs.Parcel.{is_prompt};
+ghost use Rattle.fuse_reply.specs.declared.parcel.Parcel.{Parcel as Goes};
+ghost use Rattle.fuse_workers.specs.Alone.{ServesAlone};
+ghost use Rattle.fuse_workers.specs.Book.{EachWaiting, IsBookOf};
 ghost use Rattle.fuse_workers.specs.Conducting.{Conducts, answered_last};
 ghost use Rattle.fuse_workers.specs.EventLoop.{Run};
 ghost use Rattle.fuse_workers.specs.Hearing.{Hears};
 ghost use Rattle.fuse_workers.specs.Incoming.{IsBroken};
-ghost use Rattle.fuse_workers.specs.Lines.{IsAlone, IsDrained, IsOn, IsUnused, notices_in, unasked_of};
-ghost use Rattle.fuse_workers.specs.OneEach.{InOrder, UpToOrder};
-ghost use Rattle.fuse_workers.specs.Promises.{lines_of};
-ghost use Rattle.fuse_workers.specs.Progress.{IntakeState, PassesOnAll, Quiet, nothing_yet, progress};
-ghost use Rattle.fuse_workers.specs.Threads.{IsCaller, at_once};
+ghost use Rattle.fuse_workers.specs.Lines.{IsAlone, IsDrained, IsOn, IsUnused, ended_by, late_of, unasked_of};
+ghost use Rattle.fuse_workers.specs.OneEach.{UpToOrder};
+ghost use Rattle.fuse_workers.specs.OneEachLater.{NoneHeldBack};
+ghost use Rattle.fuse_workers.specs.Relays.{is_own};
+ghost use Rattle.fuse_workers.specs.Promises.{CallerOn, lines_of};
+ghost use Rattle.fuse_workers.specs.Progress.{IntakeState, PassesOnAll, Quiet, nothing_yet, progress, relay_of};
+ghost use Rattle.fuse_workers.specs.Threads.{IsCaller, answering};
 
+use crate::alone::answer_in_turn_alone;
 use crate::caller::{Caller, Stopped, answer_rest, take_messages};
-use crate::channel::Channel;
-use crate::event_loop::{answer_in_turn, destroyed};
+use crate::ending::Ending;
+use crate::event_loop::destroyed;
 use crate::intake::Intake;
-use crate::lent::{LentEnds, LentOutlet, take_back};
+use crate::lent::{LentEnds, LentRelay, take_back};
 use crate::outlet::Outlet;
+use crate::relay::Relay;
 use crate::request_job::RequestJob;
 use crate::run_line::RunLine;
 use crate::sender::send_rest;
 use crate::threads::{Worker, join_workers, start_sender, start_workers};
-use crate::{Buffers, End, Lines, RunEnd, Transcript, Work};
+use crate::{Book, Buffers, End, Lines, RunEnd, Transcript, Work};
 use fuse_line::Line;
 use fuse_reply::Parcel;
 use fuse_wire::{NoMemory, Sink, Source};
@@ -39,11 +46,12 @@ use std::thread::{Scope, Threads};
 /// How many workers are started at most.
 pub const MOST_WORKERS: usize = 64;
 
-/// The ends of a run, and the first passes of its lines.
+/// The ends of a run, the first passes of its lines, and the mark of its end.
 struct Ends<S: Source, K: Sink> {
     intake: Intake<S>,
-    outlet: Outlet<K>,
+    relay: Relay<K>,
     caller: Caller,
+    ending: Ending,
 }
 
 /// Raises all flags.
@@ -65,11 +73,11 @@ fn answer_last<R: Wait + AllocGlobal, W: Work>(
     requires first { caller.old.frames.hand.kind ≡ First }
     ensures line { caller.new.frames.line ≡ frames.now }
     ensures others { caller.new.frames.hand.others ≡ caller.old.frames.hand.others }
-    ensures same { (caller.new.jobs ≡ caller.old.jobs) × (caller.new.notifier ≡ caller.old.notifier) }
+    ensures same { (caller.new.jobs ≡ caller.old.jobs) × (caller.new.answerer ≡ caller.old.answerer) }
     ensures caller { (ms : List (List ℕ)) (before : IntakeState) (after : IntakeState) →
         (hears : Hears stopped ms before after) →
-        IsCaller (at_once (W.owed work.now)) ms caller.old.jobs.hand caller.old.frames.hand →
-        IsCaller (at_once (W.owed work.now)) (ms ++ answered_last stopped hears.last)
+        IsCaller (answering (W.owed work.now) W.DEFERS) ms caller.old.jobs.hand caller.old.frames.hand →
+        IsCaller (answering (W.owed work.now) W.DEFERS) (ms ++ answered_last stopped hears.last)
         caller.new.jobs.hand caller.new.frames.hand }
 {
     if let Stopped::Destroy(seq, id) = stopped {
@@ -78,7 +86,8 @@ fn answer_last<R: Wait + AllocGlobal, W: Work>(
     }
 }
 
-/// Starts workers, takes messages until no more are to be taken, joins the workers, and answers what they left.
+/// Starts workers, takes messages until no more are to be taken, joins the workers, marks the run's end, and answers
+/// what they left.
 fn answer_all<'s, E, W: Work, S: Source, R: Threads + Wait + AllocGlobal + Sync>(
     scope: &Scope<'s, E>,
     rt: &'s R,
@@ -88,18 +97,20 @@ fn answer_all<'s, E, W: Work, S: Source, R: Threads + Wait + AllocGlobal + Sync>
     flags: &'s [AtomicBool],
     intake: &mut Intake<S>,
     caller: &mut Caller,
+    ending: &mut Ending,
     mut workers: Vec<Worker<W>>,
 ) -> Stopped
-    requires prompt { W.DEFERS ≡ false }
-    requires lines { IsOn jobs.now frames.now (lines_of caller.old) }
-    requires caller { IsCaller (at_once (W.owed work.now)) [] caller.old.jobs.hand caller.old.frames.hand }
+    requires lines { CallerOn jobs.now frames.now caller.old }
+    requires caller { IsCaller (answering (W.owed work.now) W.DEFERS) [] caller.old.jobs.hand caller.old.frames.hand }
     requires others { (caller.old.jobs.hand.others ≡ 0) × (caller.old.frames.hand.others ≡ 1) }
     requires workers { (workers.items ≡ []) × (length flags.now ≤ vec_capacity workers) }
-    ensures lines { IsOn jobs.now frames.now (lines_of caller.new) }
+    requires unmarked { ending.old.set ≡ None }
+    ensures lines { CallerOn jobs.now frames.now caller.new }
     ensures others { (caller.new.jobs.hand.others ≡ 0) × (caller.new.frames.hand.others ≡ 1) }
     ensures settled { IsSettled (λ _. true) caller.new.jobs.hand }
+    ensures marked { ending.new ≡ ended_by ending.old intake.new.received }
     ensures answered { (ms : List (List ℕ)) × (hears : Hears result ms intake.old intake.new)
-        × IsCaller (at_once (W.owed work.now)) (ms ++ answered_last result hears.last)
+        × IsCaller (answering (W.owed work.now) W.DEFERS) (ms ++ answered_last result hears.last)
         caller.new.jobs.hand caller.new.frames.hand }
 {
     start_workers(scope, rt, work, jobs, frames, flags, caller, &mut workers);
@@ -108,12 +119,51 @@ fn answer_all<'s, E, W: Work, S: Source, R: Threads + Wait + AllocGlobal + Sync>
     raise(flags);
     jobs.wake();
     join_workers(rt, work, jobs, frames, caller, workers);
+    ending.set(intake.received);
     answer_rest(rt, work, jobs, frames, caller);
     answer_last(rt, work, stopped, frames, caller);
     stopped
 }
 
-/// Conducts a run. Nothing is taken where the sender can't be started.
+/// Answers messages on this thread, which sends too, since no sender could be started.
+fn answer_alone<W: Work, S: Source, K: Sink, R: Wait + AllocGlobal>(
+    rt: &R,
+    work: &W,
+    frames: &Line<Parcel>,
+    intake: &mut Intake<S>,
+    relay: &mut Relay<K>,
+    caller: &mut Caller,
+    ending: &mut Ending,
+) -> Stopped
+    requires line { caller.old.frames.line ≡ frames.now }
+    requires hand { caller.old.frames.hand ≡ hand First 0 [] caller.old.frames.hand.taken }
+    requires unmarked { ending.old.set ≡ None }
+    ensures line { caller.new.frames.line ≡ frames.now }
+    ensures same { (caller.new.jobs ≡ caller.old.jobs)
+        × (caller.new.answerer.notifier.line ≡ caller.old.answerer.notifier.line) }
+    ensures marked { ending.new ≡ ended_by ending.old intake.new.received }
+    ensures alone { (more : List Goes)
+        × (caller.new.frames.hand ≡ hand First 0 [] (caller.old.frames.hand.taken ++ more))
+        × ServesAlone (answering (W.owed work.now) W.DEFERS) result more intake.old intake.new
+        (relay_of relay.old.outlet relay.old.book) (relay_of relay.new.outlet relay.new.book) }
+    ensures settled { IsSettled is_prompt caller.new.frames.hand }
+{
+    send_rest(rt, frames, &mut caller.frames, relay);
+    let stopped = answer_in_turn_alone(
+        rt,
+        work,
+        frames,
+        intake,
+        &mut caller.answerer,
+        &mut caller.frames,
+        relay,
+    );
+    ending.set(intake.received);
+    send_rest(rt, frames, &mut caller.frames, relay);
+    stopped
+}
+
+/// Conducts a run.
 fn conduct<
     's,
     'a: 's,
@@ -132,35 +182,40 @@ fn conduct<
     no_more: &'s AtomicBool,
     lent: LentEnds<'a, S, K>,
     workers: Vec<Worker<W>>,
-) -> (Option<Stopped>, LentEnds<'a, S, K>)
-    requires prompt { W.DEFERS ≡ false }
-    requires lines { IsOn jobs.now frames.now (lines_of lent.caller) }
+) -> (Stopped, LentEnds<'a, S, K>)
+    requires lines { CallerOn jobs.now frames.now lent.caller }
     requires hands { (lent.caller.jobs.hand ≡ hand First 0 [] []) × (lent.caller.frames.hand ≡ hand First 0 [] []) }
     requires workers { (workers.items ≡ []) × (length flags.now ≤ vec_capacity workers) }
+    requires unmarked { lent.ending.set ≡ None }
     ensures same { (result.1.intake.ghost_name ≡ lent.entry.intake.ghost_name)
-        × (result.1.outlet.ghost_name ≡ lent.entry.outlet.ghost_name) }
-    ensures lines { IsOn jobs.now frames.now (lines_of result.1.caller) }
-    ensures conducts { Conducts (at_once (W.owed work.now)) result.0 lent.entry.intake.now result.1.intake.now
-        lent.entry.outlet.now result.1.outlet.now result.1.caller.jobs.hand result.1.caller.frames.hand }
+        × (result.1.relay.ghost_name ≡ lent.entry.relay.ghost_name) }
+    ensures lines { CallerOn jobs.now frames.now result.1.caller }
+    ensures marked { result.1.ending ≡ ended_by lent.entry.ending result.1.intake.now.received }
+    ensures conducts { Conducts (answering (W.owed work.now) W.DEFERS) result.0 lent.entry.intake.now
+        result.1.intake.now (relay_of lent.entry.relay.now.outlet lent.entry.relay.now.book)
+        (relay_of result.1.relay.now.outlet result.1.relay.now.book)
+        result.1.caller.jobs.hand result.1.caller.frames.hand }
 {
     let LentEnds {
         intake,
-        outlet,
+        relay,
         mut caller,
+        mut ending,
     } = lent;
     let pass = frames.split(&mut caller.frames, false);
-    let sender = match start_sender(scope, rt, frames, LentOutlet { outlet, pass }, no_more) {
+    let sender = match start_sender(scope, rt, frames, LentRelay { relay, pass }, no_more) {
         Ok(sender) => sender,
         Err(back) => {
-            let LentOutlet { outlet, pass } = back;
+            let LentRelay { relay, pass } = back;
             frames.join(&mut caller.frames, pass);
-            send_rest(rt, frames, &mut caller.frames, outlet);
+            let stopped = answer_alone(rt, work, frames, intake, relay, &mut caller, &mut ending);
             let lent = LentEnds {
                 intake,
-                outlet,
+                relay,
                 caller,
+                ending,
             };
-            return (None, lent);
+            return (stopped, lent);
         }
     };
     let stopped = answer_all(
@@ -172,19 +227,21 @@ fn conduct<
         flags,
         intake,
         &mut caller,
+        &mut ending,
         workers,
     );
     no_more.store(true, Ordering::SeqCst);
     frames.wake();
-    let LentOutlet { outlet, pass } = sender.join(rt);
+    let LentRelay { relay, pass } = sender.join(rt);
     frames.join(&mut caller.frames, pass);
-    send_rest(rt, frames, &mut caller.frames, outlet);
+    send_rest(rt, frames, &mut caller.frames, relay);
     let lent = LentEnds {
         intake,
-        outlet,
+        relay,
         caller,
+        ending,
     };
-    (Some(stopped), lent)
+    (stopped, lent)
 }
 
 /// Conducts a run in a scope of its own, at whose end no thread is left.
@@ -196,34 +253,40 @@ fn run_in_scope<'a, W: Work, S: Source, K: Sink + Send, R: Threads + Wait + Allo
     flags: &[AtomicBool],
     lent: LentEnds<'a, S, K>,
     workers: Vec<Worker<W>>,
-) -> (Option<Stopped>, LentEnds<'a, S, K>)
-    requires prompt { W.DEFERS ≡ false }
-    requires lines { IsOn jobs.now frames.now (lines_of lent.caller) }
+) -> (Stopped, LentEnds<'a, S, K>)
+    requires lines { CallerOn jobs.now frames.now lent.caller }
     requires hands { (lent.caller.jobs.hand ≡ hand First 0 [] []) × (lent.caller.frames.hand ≡ hand First 0 [] []) }
     requires workers { (workers.items ≡ []) × (length flags.now ≤ vec_capacity workers) }
+    requires unmarked { lent.ending.set ≡ None }
     ensures same { (result.1.intake.ghost_name ≡ lent.entry.intake.ghost_name)
-        × (result.1.outlet.ghost_name ≡ lent.entry.outlet.ghost_name) }
-    ensures lines { IsOn jobs.now frames.now (lines_of result.1.caller) }
-    ensures conducts { Conducts (at_once (W.owed work.now)) result.0 lent.entry.intake.now result.1.intake.now
-        lent.entry.outlet.now result.1.outlet.now result.1.caller.jobs.hand result.1.caller.frames.hand }
+        × (result.1.relay.ghost_name ≡ lent.entry.relay.ghost_name) }
+    ensures lines { CallerOn jobs.now frames.now result.1.caller }
+    ensures marked { result.1.ending ≡ ended_by lent.entry.ending result.1.intake.now.received }
+    ensures conducts { Conducts (answering (W.owed work.now) W.DEFERS) result.0 lent.entry.intake.now
+        result.1.intake.now (relay_of lent.entry.relay.now.outlet lent.entry.relay.now.book)
+        (relay_of result.1.relay.now.outlet result.1.relay.now.book)
+        result.1.caller.jobs.hand result.1.caller.frames.hand }
 {
     let flag = AtomicBool::new(false);
     let no_more = &flag;
     thread::scope(
         thread::scope_env(),
         rt,
-        |scope| -> (Option<Stopped>, LentEnds<S, K>)
-            requires prompt { W.DEFERS ≡ false }
-            requires lines { IsOn jobs.now frames.now (lines_of lent.caller) }
+        |scope| -> (Stopped, LentEnds<S, K>)
+            requires lines { CallerOn jobs.now frames.now lent.caller }
             requires hands { (lent.caller.jobs.hand ≡ hand First 0 [] [])
                 × (lent.caller.frames.hand ≡ hand First 0 [] []) }
             requires workers { (workers.items ≡ []) × (length flags.now ≤ vec_capacity workers) }
+            requires unmarked { lent.ending.set ≡ None }
             ensures same { (result.1.intake.ghost_name ≡ lent.entry.intake.ghost_name)
-                × (result.1.outlet.ghost_name ≡ lent.entry.outlet.ghost_name) }
-            ensures lines { IsOn jobs.entry.now frames.entry.now (lines_of result.1.caller) }
-            ensures conducts { Conducts (at_once (W.owed work.entry.now)) result.0 lent.entry.intake.now
-                result.1.intake.now lent.entry.outlet.now result.1.outlet.now result.1.caller.jobs.hand
-                result.1.caller.frames.hand }
+                × (result.1.relay.ghost_name ≡ lent.entry.relay.ghost_name) }
+            ensures lines { CallerOn jobs.entry.now frames.entry.now result.1.caller }
+            ensures marked { result.1.ending ≡ ended_by lent.entry.ending result.1.intake.now.received }
+            ensures conducts { Conducts (answering (W.owed work.entry.now) W.DEFERS) result.0
+                lent.entry.intake.now result.1.intake.now
+                (relay_of lent.entry.relay.now.outlet lent.entry.relay.now.book)
+                (relay_of result.1.relay.now.outlet result.1.relay.now.book)
+                result.1.caller.jobs.hand result.1.caller.frames.hand }
         { conduct(scope, rt, work, jobs, frames, flags, no_more, lent, workers) },
     )
 }
@@ -261,13 +324,15 @@ fn run_with<S: Source, K: Sink + Send, W: Work, R: Threads + Wait + AllocGlobal 
     jobs: &Line<RequestJob>,
     frames: &Line<Parcel>,
     ends: Ends<S, K>,
-) -> (Option<Stopped>, Ends<S, K>)
-    requires prompt { W.DEFERS ≡ false }
-    requires lines { IsOn jobs.now frames.now (lines_of ends.caller) }
+) -> (Stopped, Ends<S, K>)
+    requires lines { CallerOn jobs.now frames.now ends.caller }
     requires hands { (ends.caller.jobs.hand ≡ hand First 0 [] []) × (ends.caller.frames.hand ≡ hand First 0 [] []) }
-    ensures lines { IsOn jobs.now frames.now (lines_of result.1.caller) }
-    ensures conducts { Conducts (at_once (W.owed work.now)) result.0 ends.intake result.1.intake ends.outlet
-        result.1.outlet result.1.caller.jobs.hand result.1.caller.frames.hand }
+    requires unmarked { ends.ending.set ≡ None }
+    ensures lines { CallerOn jobs.now frames.now result.1.caller }
+    ensures marked { result.1.ending ≡ ended_by ends.ending result.1.intake.received }
+    ensures conducts { Conducts (answering (W.owed work.now) W.DEFERS) result.0 ends.intake result.1.intake
+        (relay_of ends.relay.outlet ends.relay.book) (relay_of result.1.relay.outlet result.1.relay.book)
+        result.1.caller.jobs.hand result.1.caller.frames.hand }
 {
     let alloc = rt.alloc();
     let (flags, workers) = match room_for(alloc, count) {
@@ -276,31 +341,49 @@ fn run_with<S: Source, K: Sink + Send, W: Work, R: Threads + Wait + AllocGlobal 
     };
     let Ends {
         mut intake,
-        mut outlet,
+        mut relay,
         caller,
+        ending,
     } = ends;
     let lent = LentEnds {
         intake: &mut intake,
-        outlet: &mut outlet,
+        relay: &mut relay,
         caller,
+        ending,
     };
     let (stopped, back) = run_in_scope(rt, work, jobs, frames, flags.as_slice(), lent, workers);
     let LentEnds {
         intake: taken,
-        outlet: sent,
+        relay: sent,
         caller,
+        ending,
     } = back;
     take_back(taken, sent);
     let ends = Ends {
         intake,
-        outlet,
+        relay,
         caller,
+        ending,
     };
     (stopped, ends)
 }
 
+/// What a run of this work did: the messages taken, and what was sent. Where no reply comes later, a late frame is none
+/// of this run, and what became of it is not counted.
+fn tallied<W: Work>(sent: Transcript, received: u64, unrecorded: u64) -> Transcript
+    ensures all { result ≡ record sent { received = received; unrecorded = result.unrecorded } }
+    ensures later { W.DEFERS ≡ true → result.unrecorded ≡ unrecorded }
+    ensures prompt { W.DEFERS ≡ false → result.unrecorded ≡ 0 }
+{
+    Transcript {
+        received,
+        unrecorded: if W::DEFERS { unrecorded } else { 0 },
+        ..sent
+    }
+}
+
 /// The end of a run on lines that nobody else uses.
-fn ended<S: Source, K: Sink>(
+fn ended<W: Work, S: Source, K: Sink>(
     end: End,
     ends: Ends<S, K>,
     jobs: Arc<Line<RequestJob>, Global>,
@@ -309,21 +392,28 @@ fn ended<S: Source, K: Sink>(
     requires jobs { IsAlone (λ _. true) (arc_value jobs) ends.caller.jobs }
     requires frames { IsAlone is_prompt (arc_value frames) ends.caller.frames }
     ensures end { result.end ≡ end }
-    ensures ends { (S.told result.source ≡ ends.intake.source) × (K.told result.sink ≡ ends.outlet.sink) }
-    ensures transcript { result.transcript ≡ record ends.outlet.counts { received = ends.intake.received } }
-    ensures buffers { result.buffers ≡ lines_of ends.caller }
+    ensures ends { (S.told result.source ≡ ends.intake.source) × (K.told result.sink ≡ ends.relay.outlet.sink) }
+    ensures transcript { result.transcript ≡ record ends.relay.outlet.counts {
+      received = ends.intake.received;
+      unrecorded = result.transcript.unrecorded;
+    } }
+    ensures later { W.DEFERS ≡ true → result.transcript.unrecorded ≡ ends.relay.book.unrecorded }
+    ensures prompt { W.DEFERS ≡ false → result.transcript.unrecorded ≡ 0 }
+    ensures buffers { result.buffers ≡ lines_of ends.ending ends.caller }
     ensures drained { IsDrained result.buffers }
 {
     let Ends {
         intake,
-        outlet,
+        relay,
         caller,
+        ending,
     } = ends;
     let Intake {
         source,
         buffer,
         received,
     } = intake;
+    let Relay { outlet, book } = relay;
     let Outlet { sink, transcript } = outlet;
     let lines = Lines {
         frames: RunLine {
@@ -334,80 +424,18 @@ fn ended<S: Source, K: Sink>(
             line: jobs,
             pass: caller.jobs,
         },
-        notifier: caller.notifier,
+        answerer: caller.answerer,
+        ending,
     };
     RunEnd {
         end,
-        transcript: Transcript {
-            received,
-            ..transcript
-        },
+        transcript: tallied::<W>(transcript, received, book.unrecorded()),
         source,
         sink,
         buffers: Buffers {
             receive: buffer,
             lines,
         },
-    }
-}
-
-/// Answers messages on this thread after all, since the sender can't be started.
-fn answer_alone<W: Work, S: Source, K: Sink, R: Wait + AllocGlobal>(
-    rt: &R,
-    work: &W,
-    ends: Ends<S, K>,
-    jobs: Arc<Line<RequestJob>, Global>,
-    frames: Arc<Line<Parcel>, Global>,
-) -> RunEnd<S, K>
-    requires prompt { W.DEFERS ≡ false }
-    requires jobs { IsAlone (λ _. true) (arc_value jobs) ends.caller.jobs }
-    requires frames { IsAlone is_prompt (arc_value frames) ends.caller.frames }
-    requires notifier { ends.caller.notifier.line ≡ arc_value frames }
-    ensures run { Run (InOrder (W.owed work.now) 0) result.end
-        (progress ends.intake.source ends.outlet.sink (record ends.outlet.counts { received = ends.intake.received })
-        (notices_in ends.caller.frames.hand.taken))
-        (progress (S.told result.source) (K.told result.sink) result.transcript (unasked_of result.buffers)) }
-    ensures lines { IsOn (arc_value jobs) (arc_value frames) result.buffers }
-    ensures drained { IsDrained result.buffers }
-{
-    let Ends {
-        intake,
-        outlet,
-        caller,
-    } = ends;
-    let Caller {
-        jobs: job_pass,
-        frames: frame_pass,
-        mut notifier,
-    } = caller;
-    let mut channel = Channel { intake, outlet };
-    let mut frames = RunLine {
-        line: frames,
-        pass: frame_pass,
-    };
-    let end = answer_in_turn(rt, work, &mut notifier, &mut channel, &mut frames);
-    let RunLine {
-        line: frames,
-        pass: frame_pass,
-    } = frames;
-    let lines = Lines {
-        frames: RunLine {
-            line: frames,
-            pass: frame_pass,
-        },
-        jobs: RunLine {
-            line: jobs,
-            pass: job_pass,
-        },
-        notifier,
-    };
-    let (source, sink, buffers, transcript) = channel.close(lines);
-    RunEnd {
-        end,
-        transcript,
-        source,
-        sink,
-        buffers,
     }
 }
 
@@ -420,21 +448,27 @@ fn run_on<W: Work, S: Source, K: Sink + Send, R: Threads + Wait + AllocGlobal + 
     frames: Arc<Line<Parcel>, Global>,
     ends: Ends<S, K>,
 ) -> RunEnd<S, K>
-    requires prompt { W.DEFERS ≡ false }
-    requires lines { IsOn (arc_value jobs) (arc_value frames) (lines_of ends.caller) }
+    requires lines { CallerOn (arc_value jobs) (arc_value frames) ends.caller }
     requires hands { (ends.caller.jobs.hand ≡ hand First 0 [] []) × (ends.caller.frames.hand ≡ hand First 0 [] []) }
-    requires nothing { (ends.intake.received ≡ 0) × (ends.outlet.counts ≡ nothing_yet) }
-    ensures run { Run (UpToOrder (W.owed work.now) IsBroken) result.end
-        (progress ends.intake.source ends.outlet.sink nothing_yet [])
+    requires nothing { (ends.intake.received ≡ 0) × (ends.relay.outlet.counts ≡ nothing_yet) }
+    requires book { IsBookOf ends.relay.book [] [] [] }
+    requires own { EachWaiting is_own ends.relay.book }
+    requires unmarked { ends.ending.set ≡ None }
+    ensures run { W.DEFERS ≡ false → Run (UpToOrder (W.owed work.now) IsBroken) result.end
+        (progress ends.intake.source ends.relay.outlet.sink nothing_yet [])
         (progress (S.told result.source) (K.told result.sink) result.transcript (unasked_of result.buffers)) }
+    ensures later { Run (NoneHeldBack (W.owed work.now) IsBroken (late_of result.buffers)
+        (result.transcript.unrecorded ≡ 0)) result.end
+        (progress ends.intake.source ends.relay.outlet.sink nothing_yet [])
+        (progress (S.told result.source) (K.told result.sink) result.transcript
+        (unasked_of result.buffers)) }
+    ensures recorded { W.DEFERS ≡ false → result.transcript.unrecorded ≡ 0 }
+    ensures marked { result.buffers.end ≡ ended_by ends.ending result.transcript.received }
     ensures lines { IsOn (arc_value jobs) (arc_value frames) result.buffers }
     ensures drained { IsDrained result.buffers }
 {
     let (stopped, ends) = run_with(rt, work, count, &jobs, &frames, ends);
-    match stopped {
-        Some(stopped) => ended(stopped.end(), ends, jobs, frames),
-        None => answer_alone(rt, work, ends, jobs, frames),
-    }
+    ended::<W, S, K>(stopped.end(), ends, jobs, frames)
 }
 
 /// Answers messages on `n` threads, but at most `MOST_WORKERS`, until the source has none left or one ends the run.
@@ -442,7 +476,8 @@ fn run_on<W: Work, S: Source, K: Sink + Send, R: Threads + Wait + AllocGlobal + 
 /// memory on its way to a worker, or no worker could be started, the caller answers it itself; where the sender can't be
 /// started, it answers and sends all.
 ///
-/// Replies are sent in any order, but the reply to DESTROY after all others.
+/// Replies are sent in any order, but the reply to DESTROY after all others that are given at once. A reply that comes
+/// later is sent once its mark, which went out in its place, has come to whoever sends.
 pub fn run_workers<R: Threads + Wait + AllocGlobal + Sync, W: Work, S: Source, K: Sink + Send>(
     rt: &R,
     work: &W,
@@ -451,15 +486,26 @@ pub fn run_workers<R: Threads + Wait + AllocGlobal + Sync, W: Work, S: Source, K
     buffers: Buffers,
     n: usize,
 ) -> RunEnd<S, K>
-    // No reply comes after `answer` has returned.
-    requires prompt { W.DEFERS ≡ false }
     // Buffers serve one run.
     requires unused { IsUnused buffers }
 
-    // What was taken, sent, lost and counted, up to order, and why it ended so.
-    ensures run { Run (UpToOrder (W.owed work.now) IsBroken) result.end
+    // Where no reply comes later: what was taken, sent, lost and counted, up to order, and why it ended so.
+    ensures run { W.DEFERS ≡ false → Run (UpToOrder (W.owed work.now) IsBroken) result.end
         (progress (S.told source) (K.told sink) nothing_yet [])
         (progress (S.told result.source) (K.told result.sink) result.transcript (unasked_of result.buffers)) }
+
+    // The same where replies may come later: see `OneEachLater` and `NoneHeldBack`.
+    ensures later { Run (NoneHeldBack (W.owed work.now) IsBroken (late_of result.buffers)
+        (result.transcript.unrecorded ≡ 0)) result.end
+        (progress (S.told source) (K.told sink) nothing_yet [])
+        (progress (S.told result.source) (K.told result.sink) result.transcript
+        (unasked_of result.buffers)) }
+
+    // All could be recorded where no reply comes later.
+    ensures recorded { W.DEFERS ≡ false → result.transcript.unrecorded ≡ 0 }
+
+    // The end is marked with the number of messages that were taken.
+    ensures marked { result.buffers.end ≡ ended_by buffers.end result.transcript.received }
 
     // Where the sink refused nothing, the notices that were sent are those that were taken off the line, in order.
     ensures notices { Quiet (K.told sink) (K.told result.sink) → PassesOnAll
@@ -482,7 +528,8 @@ pub fn run_workers<R: Threads + Wait + AllocGlobal + Sync, W: Work, S: Source, K
             line: jobs,
             pass: job_pass,
         },
-        notifier,
+        answerer,
+        ending,
     } = lines;
     let ends = Ends {
         intake: Intake {
@@ -490,15 +537,19 @@ pub fn run_workers<R: Threads + Wait + AllocGlobal + Sync, W: Work, S: Source, K
             buffer: receive,
             received: 0,
         },
-        outlet: Outlet {
-            sink,
-            transcript: Transcript::new(),
+        relay: Relay {
+            outlet: Outlet {
+                sink,
+                transcript: Transcript::new(),
+            },
+            book: Book::new(rt.alloc()),
         },
         caller: Caller {
             jobs: job_pass,
             frames: frame_pass,
-            notifier,
+            answerer,
         },
+        ending,
     };
     run_on(rt, work, n.min(MOST_WORKERS), jobs, frames, ends)
 }

@@ -3,7 +3,7 @@ use Rattle.fuse_line.specs.Hand.{with_put, with_taken}
 use Rattle.fuse_line.specs.declared.hand.Hand.{Hand}
 use Rattle.fuse_reply.specs.declared.parcel.Parcel.{Parcel}
 use Rattle.fuse_workers.specs.OneEach.{Owing}
-use Rattle.fuse_workers.specs.Threads.{IsCaller, at_once}
+use Rattle.fuse_workers.specs.Threads.{IsCaller, answering}
 use Rattle.fuse_workers.specs.declared.state.Job.{Job}
 use Rattle.fuse_workers.proofs.Working.{Caller-rest}
 use Rattle.fuse_workers.proofs.caller.answer_rest.Goals as goal
@@ -11,7 +11,7 @@ use Rattle.fuse_workers.proofs.caller.answer_rest.Goals as goal
 -- one job more was taken, and its answer pushed
 pub loop-preserved : goal.loop-preserved
 loop-preserved g c =
-    let owed : Owing = at_once (g.W.Work.owed c.args.work.now) in
+    let owed : Owing = answering (g.W.Work.owed c.args.work.now) g.W.Work.DEFERS in
     let so_far = c.loop.invariant in
     let j = c.loop.caller.jobs.hand in
     let f = c.loop.caller.frames.hand in

@@ -1,6 +1,6 @@
 use Rattle.std.proofs.Common.{◌≡◌, ℕ, List}
 use Rattle.fuse_line.specs.declared.hand.Kind.TheVariants.{First}
-use Rattle.fuse_workers.specs.Threads.{IsCaller, at_once}
+use Rattle.fuse_workers.specs.Threads.{IsCaller, answering}
 use Rattle.fuse_workers.proofs.caller.answer_rest.Given as goal
 
 -- each job taken so far was answered
@@ -9,6 +9,6 @@ invariant-loop g l =
     (l.caller.jobs.line ≡ l.jobs) × (l.caller.frames.line ≡ l.frames)
     × (l.caller.jobs.hand.kind ≡ First) × (l.caller.frames.hand.kind ≡ First)
     × (l.caller.jobs.hand.others ≡ l.fn.caller.jobs.hand.others) × (l.caller.frames.hand.others ≡ l.fn.caller.frames.hand.others)
-    × ((ms : List (List ℕ)) → IsCaller (at_once (g.W.Work.owed l.work)) ms l.fn.caller.jobs.hand l.fn.caller.frames.hand
-    → IsCaller (at_once (g.W.Work.owed l.work)) ms l.caller.jobs.hand l.caller.frames.hand)
-    × (l.caller.notifier.line ≡ l.frames)
+    × ((ms : List (List ℕ)) → IsCaller (answering (g.W.Work.owed l.work) g.W.Work.DEFERS) ms l.fn.caller.jobs.hand l.fn.caller.frames.hand
+    → IsCaller (answering (g.W.Work.owed l.work) g.W.Work.DEFERS) ms l.caller.jobs.hand l.caller.frames.hand)
+    × (l.caller.answerer.notifier.line ≡ l.frames)

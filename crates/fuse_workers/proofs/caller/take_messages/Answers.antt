@@ -3,7 +3,7 @@ use Rattle.fuse_line.specs.declared.hand.Hand.{Hand}
 use Rattle.fuse_reply.specs.declared.parcel.Parcel.{Parcel}
 use Rattle.fuse_workers.specs.Hearing.{HearsLast}
 use Rattle.fuse_workers.specs.OneEach.{Owing, number_of}
-use Rattle.fuse_workers.specs.Threads.{IsCaller, at_once}
+use Rattle.fuse_workers.specs.Threads.{IsCaller, answering}
 use Rattle.fuse_workers.specs.declared.state.Job.{Job}
 use Rattle.fuse_workers.proofs.Hearing.{HearsLast-then, HearsOn-none, HearsOn-then}
 use Rattle.fuse_workers.proofs.caller.take_messages.Goals as goal
@@ -13,7 +13,7 @@ loop-init g c = (c.requires.lines.0, c.requires.lines.1, refl, refl, [], refl, H
 
 pub returns-in-Some-take_one-clause-heard : goal.returns-in-Some-take_one-clause-heard
 returns-in-Some-take_one-clause-heard g c =
-    let owed : Owing = at_once (g.W.Work.owed c.args.work.now) in
+    let owed : Owing = answering (g.W.Work.owed c.args.work.now) g.W.Work.DEFERS in
     let so_far = c.loop.invariant in
     let ms = so_far.4 in
     let turn = c.in-Some-take_one.ensures.turn in (

@@ -1,7 +1,7 @@
 use Rattle.std.proofs.Common.{◌≡◌, ℕ, List, length}
 use Rattle.fuse_workers.specs.Hearing.{HearsOn}
 use Rattle.fuse_workers.specs.OneEach.{number_of}
-use Rattle.fuse_workers.specs.Threads.{IsCaller, at_once}
+use Rattle.fuse_workers.specs.Threads.{IsCaller, answering}
 use Rattle.fuse_workers.proofs.caller.take_messages.Given as goal
 
 -- these requests were taken and handed in so far
@@ -10,5 +10,5 @@ invariant-loop g l =
     (l.caller.jobs.line ≡ l.jobs) × (l.caller.frames.line ≡ l.frames)
     × (l.caller.jobs.hand.others ≡ l.fn.caller.jobs.hand.others) × (l.caller.frames.hand.others ≡ l.fn.caller.frames.hand.others)
     × (ms : List (List ℕ)) × (number_of (length ms) ≡ l.seq) × HearsOn ms l.fn.intake l.intake
-    × IsCaller (at_once (g.W.Work.owed l.work)) ms l.caller.jobs.hand l.caller.frames.hand
-    × (l.caller.notifier.line ≡ l.frames)
+    × IsCaller (answering (g.W.Work.owed l.work) g.W.Work.DEFERS) ms l.caller.jobs.hand l.caller.frames.hand
+    × (l.caller.answerer.notifier.line ≡ l.frames)

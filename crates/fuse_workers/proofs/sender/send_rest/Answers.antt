@@ -4,6 +4,7 @@ use Rattle.fuse_line.specs.declared.hand.Hand.{Hand}
 use Rattle.fuse_line.specs.declared.hand.Kind.{Kind}
 use Rattle.fuse_line.specs.declared.hand.Kind.TheVariants.{First}
 use Rattle.fuse_reply.specs.declared.parcel.Parcel.{Parcel}
+use Rattle.fuse_workers.specs.Progress.{relay_of}
 use Rattle.fuse_workers.proofs.Relaying.{Relays-none, Relays-one, Relays-then}
 use Rattle.fuse_workers.proofs.sender.send_rest.Goals as goal
 
@@ -14,7 +15,7 @@ loop-init g c =
       [],
       ap (λ (k : Kind). hand k v.others v.put v.taken) c.requires.first
           ∙ ap (λ (l : List Parcel). hand First v.others v.put l) (sym (append-nil v.taken)),
-      Relays-none c.args.outlet.now,
+      Relays-none (relay_of c.args.relay.now.outlet c.args.relay.now.book),
     )
 
 pub loop-preserved : goal.loop-preserved

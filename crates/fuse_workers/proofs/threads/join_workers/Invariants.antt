@@ -2,7 +2,7 @@ use Rattle.std.proofs.Common.{◌≡◌, ◌+◌, ◌<◌, ℕ, List, get_or}
 use Rattle.std.specs.Vec.Iter.{into_iter_items, into_iter_len}
 use Rattle.fuse_line.specs.declared.hand.Kind.TheVariants.{First}
 use Rattle.fuse_workers.specs.Promises.{PromisesFor}
-use Rattle.fuse_workers.specs.Threads.{IsCaller, at_once}
+use Rattle.fuse_workers.specs.Threads.{IsCaller, answering}
 use Rattle.fuse_workers.proofs.threads.join_workers.Given as goal
 
 -- as many are counted as are left to join
@@ -13,6 +13,6 @@ invariant-loop-worker g l =
     × (l.caller.jobs.hand.others ≡ into_iter_len l.worker-iterator) × (l.caller.frames.hand.others ≡ 1 + into_iter_len l.worker-iterator)
     × ((k : ℕ) (d : _) → k < into_iter_len l.worker-iterator
     → PromisesFor l.work l.jobs l.frames (get_or (into_iter_items l.worker-iterator) k d).promise)
-    × ((ms : List (List ℕ)) → IsCaller (at_once (g.W.Work.owed l.work)) ms l.fn.caller.jobs.hand l.fn.caller.frames.hand
-    → IsCaller (at_once (g.W.Work.owed l.work)) ms l.caller.jobs.hand l.caller.frames.hand)
-    × (l.caller.notifier.line ≡ l.frames)
+    × ((ms : List (List ℕ)) → IsCaller (answering (g.W.Work.owed l.work) g.W.Work.DEFERS) ms l.fn.caller.jobs.hand l.fn.caller.frames.hand
+    → IsCaller (answering (g.W.Work.owed l.work) g.W.Work.DEFERS) ms l.caller.jobs.hand l.caller.frames.hand)
+    × (l.caller.answerer.notifier.line ≡ l.frames)

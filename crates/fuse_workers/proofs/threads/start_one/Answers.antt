@@ -3,14 +3,14 @@ use Rattle.fuse_line.specs.Hand.{joined, with_other}
 use Rattle.fuse_line.specs.declared.hand.Hand.{Hand}
 use Rattle.fuse_reply.specs.declared.parcel.Parcel.{Parcel}
 use Rattle.fuse_workers.specs.OneEach.{Owing}
-use Rattle.fuse_workers.specs.Threads.{IsCaller, IsServed, at_once}
+use Rattle.fuse_workers.specs.Threads.{IsCaller, IsServed, answering}
 use Rattle.fuse_workers.specs.declared.state.Job.{Job}
 use Rattle.fuse_workers.proofs.Working.{Caller-joined, Caller-split}
 use Rattle.fuse_workers.proofs.threads.start_one.Goals as goal
 
 pub returns-in-Err-clause-caller : goal.returns-in-Err-clause-caller
 returns-in-Err-clause-caller g c =
-    let owed : Owing = at_once (g.W.Work.owed c.args.work.now) in
+    let owed : Owing = answering (g.W.Work.owed c.args.work.now) g.W.Work.DEFERS in
     let back = c.worker-job_pass.result in
     let j = c.args.caller.now.jobs.hand in
     let f = c.args.caller.now.frames.hand in

@@ -2,16 +2,16 @@ use Rattle.std.proofs.Common.{◌≡◌, ◌≤◌, ◌+◌, ◌-◌, [], length
 use Rattle.std.specs.List.{All}
 use Rattle.std.specs.Vec.{vec_capacity, vec_len}
 use Rattle.fuse_workers.specs.Promises.{PromisesFor}
-use Rattle.fuse_workers.specs.Threads.{IsCaller, at_once}
+use Rattle.fuse_workers.specs.Threads.{IsCaller, answering}
 use Rattle.fuse_workers.proofs.threads.start_workers.Given as goal
 
 -- as many more are counted as were started
 abbrev pub invariant-loop-flag : goal.invariant-loop-flag
 invariant-loop-flag g l =
     (l.caller.jobs.line ≡ l.jobs) × (l.caller.frames.line ≡ l.frames)
-    × IsCaller (at_once (g.W.Work.owed l.work)) [] l.caller.jobs.hand l.caller.frames.hand
+    × IsCaller (answering (g.W.Work.owed l.work) g.W.Work.DEFERS) [] l.caller.jobs.hand l.caller.frames.hand
     × (length l.flags ≤ (vec_capacity l.workers - vec_len l.workers) + l.flag-index)
     × All (λ h. PromisesFor l.work l.jobs l.frames h.promise) l.workers.items
     × (l.caller.jobs.hand.others + vec_len l.fn.workers ≡ l.fn.caller.jobs.hand.others + vec_len l.workers)
     × (l.caller.frames.hand.others + vec_len l.fn.workers ≡ l.fn.caller.frames.hand.others + vec_len l.workers)
-    × (l.caller.notifier.line ≡ l.frames)
+    × (l.caller.answerer.notifier.line ≡ l.frames)

@@ -1,17 +1,16 @@
 use Rattle.std.proofs.Common.{ℕ, List, ap, subst}
 use Rattle.fuse_reply.specs.declared.parcel.Parcel.TheVariants.{Prompt}
 use Rattle.fuse_workers.specs.OneEach.{Owing}
-use Rattle.fuse_workers.specs.Threads.{at_once}
-use Rattle.fuse_workers.proofs.LoopSteps.{not-broken, prompt-shut}
+use Rattle.fuse_workers.specs.Threads.{answering}
 use Rattle.fuse_workers.proofs.worker.answer_job.Goals as goal
 
 pub returns-clause-answered : goal.returns-clause-answered
 returns-clause-answered g c =
-    let owed : Owing = at_once (g.W.Work.owed c.args.work.now) in
+    let owed : Owing = answering (g.W.Work.owed c.args.work.now) g.W.Work.DEFERS in
     let out = c.answer-out.result in
     let seq = c.seq-seq.result in
     let m = c.message.result.now in
-    let there : owed seq m out = (c.answer-out.ensures.owed, prompt-shut seq m out c.answer-out.ensures.later, not-broken m c.message.ensures.request) in (
+    let there : owed seq m out = c.answer-out.ensures.answered in (
       out,
       ap (λ (n : ℕ). Prompt n out) c.seq-seq.ensures,
       subst (λ (l : List ℕ). owed c.args.job.seq l out) c.message.ensures.message

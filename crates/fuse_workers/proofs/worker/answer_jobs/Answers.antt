@@ -3,7 +3,7 @@ use Rattle.fuse_line.specs.Hand.{with_put, with_taken}
 use Rattle.fuse_line.specs.declared.hand.Hand.{Hand}
 use Rattle.fuse_reply.specs.declared.parcel.Parcel.{Parcel}
 use Rattle.fuse_workers.specs.OneEach.{Owing}
-use Rattle.fuse_workers.specs.Threads.{IsServed, at_once}
+use Rattle.fuse_workers.specs.Threads.{IsServed, answering}
 use Rattle.fuse_workers.specs.declared.state.Job.{Job}
 use Rattle.fuse_workers.proofs.Working.{Served-next}
 use Rattle.fuse_workers.proofs.worker.answer_jobs.Goals as goal
@@ -11,7 +11,7 @@ use Rattle.fuse_workers.proofs.worker.answer_jobs.Goals as goal
 -- one job more was taken, and its answer pushed
 pub loop-preserved : goal.loop-preserved
 loop-preserved g c =
-    let owed : Owing = at_once (g.W.Work.owed c.args.work.now) in
+    let owed : Owing = answering (g.W.Work.owed c.args.work.now) g.W.Work.DEFERS in
     let x = c.in-Some-pop_waiting.job in
     let said = c.answer_job-parcel.ensures.answered in
     let served = Served-next owed c.loop.job_pass.hand c.loop.frame_pass.hand x said.0 c.loop.invariant.4 said.2 in

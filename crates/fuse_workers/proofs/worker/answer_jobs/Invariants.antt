@@ -1,5 +1,5 @@
 use Rattle.std.proofs.Common.{◌≡◌}
-use Rattle.fuse_workers.specs.Threads.{IsServed, at_once}
+use Rattle.fuse_workers.specs.Threads.{IsServed, answering}
 use Rattle.fuse_workers.proofs.worker.answer_jobs.Given as goal
 
 -- each job taken so far was answered
@@ -7,4 +7,4 @@ abbrev pub invariant-loop : goal.invariant-loop
 invariant-loop g l =
     (goal.iterator-loop g).can_next l.iterator' × (goal.iterator-loop g).is_finite l.iterator'
     × (l.job_pass.line ≡ l.jobs) × (l.frame_pass.line ≡ l.frames)
-    × IsServed (at_once (g.W.Work.owed l.work)) l.job_pass.hand l.frame_pass.hand
+    × IsServed (answering (g.W.Work.owed l.work) g.W.Work.DEFERS) l.job_pass.hand l.frame_pass.hand

@@ -1,28 +1,48 @@
-use Rattle.std.proofs.Common.{◌≡◌, ◌∙◌, [], ap, rules}
-use Rattle.fuse_line.specs.Hand.{hand, with_other}
+use Rattle.std.proofs.Common.{◌≡◌, ◌∙◌, ◌++◌, [], ap, refl, rules}
+use Rattle.fuse_line.specs.Hand.{hand, joined, with_other}
+use Rattle.fuse_line.specs.Seen.{Seen}
 use Rattle.fuse_line.specs.declared.hand.Hand.{Hand}
 use Rattle.fuse_line.specs.declared.hand.Kind.TheVariants.{First}
 use Rattle.fuse_reply.specs.declared.parcel.Parcel.{Parcel}
+use Rattle.fuse_workers.specs.Progress.{relay_of}
 use Rattle.fuse_workers.specs.Relays.{IsRelayed}
-use Rattle.fuse_workers.specs.Threads.{at_once}
-use Rattle.fuse_workers.proofs.Conducting.{Conducts-answered, Conducts-refused}
+use Rattle.fuse_workers.specs.Threads.{answering}
+use Rattle.fuse_workers.specs.declared.state.Job.{Job}
+use Rattle.fuse_workers.proofs.Conducting.{Conducts-alone, Conducts-answered, joined-sender}
+use Rattle.fuse_workers.proofs.Working.{Caller-idle}
 use Rattle.fuse_workers.proofs.workers.conduct.Goals as goal
+
+pub answer_all-stopped-requires-clause-caller : goal.answer_all-stopped-requires-clause-caller
+answer_all-stopped-requires-clause-caller g c κs within =
+    let split : c.split-pass.new.pass.hand ≡ hand First 1 [] [] = c.split-pass.ensures.hands.0 ∙ ap (λ (h : Hand Parcel). with_other h) c.requires.hands.1 in
+    Caller-idle (answering (g.W.Work.owed c.args.work.now) g.W.Work.DEFERS) c.args.lent.caller.jobs.hand c.split-pass.new.pass.hand c.requires.hands.0 split
 
 pub returns-in-Err-clause-conducts : goal.returns-in-Err-clause-conducts
 returns-in-Err-clause-conducts g c =
     let split : c.split-pass.new.pass.hand ≡ hand First 1 [] [] = c.split-pass.ensures.hands.0 ∙ ap (λ (h : Hand Parcel). with_other h) c.requires.hands.1 in
-    let rest = c.send_rest.ensures.more in
-    Conducts-refused (at_once (g.W.Work.owed c.args.work.now)) c.args.lent.intake.now c.args.lent.outlet.now c.in-Err.back.outlet.now
-    c.send_rest.new.outlet c.args.lent.caller.jobs.hand c.split-pass.new.pass.hand c.in-Err.back.pass.hand c.send_rest.new.pass.hand rest.0
-    c.requires.hands.0 split c.in-Err.ensures.2 (search rules) rest.2 c.send_rest.ensures.settled
+    let v = c.in-Err.back.pass.hand in
+    let relayed = c.in-Err.ensures.2 in
+    let whole = ap (λ (h : Hand Parcel). joined h v) split ∙ joined-sender (hand First 1 [] []) v relayed.no_put refl refl relayed.kind refl in
+    let there = c.join.ensures.hand ∙ whole in
+    let alone = c.answer_alone-stopped.ensures.alone in
+    Conducts-alone (answering (g.W.Work.owed c.args.work.now) g.W.Work.DEFERS) c.answer_alone-stopped.result c.args.lent.intake.now
+    c.answer_alone-stopped.new.intake (relay_of c.args.lent.relay.now.outlet c.args.lent.relay.now.book)
+    (relay_of c.in-Err.back.relay.now.outlet c.in-Err.back.relay.now.book)
+    (relay_of c.answer_alone-stopped.new.relay.outlet c.answer_alone-stopped.new.relay.book)
+    c.answer_alone-stopped.new.caller.jobs.hand v c.answer_alone-stopped.new.caller.frames.hand alone.0
+    (ap (λ (s : Seen Job). s.hand) c.answer_alone-stopped.ensures.same.0 ∙ c.requires.hands.0) relayed
+    (alone.1 ∙ ap (λ (h : Hand Parcel). hand First 0 [] (h.taken ++ alone.0)) there) alone.2 c.answer_alone-stopped.ensures.settled
 
 pub returns-clause-conducts : goal.returns-clause-conducts
 returns-clause-conducts g c =
     let answered = c.answer_all-stopped.ensures.answered in
-    let rest = c.send_rest-2.ensures.more in
-    let back = c.join-outlet.result in
-    let relayed : IsRelayed back.pass.hand c.args.lent.outlet.now back.outlet.now = search rules in
-    Conducts-answered (at_once (g.W.Work.owed c.args.work.now)) c.answer_all-stopped.result c.args.lent.intake.now c.answer_all-stopped.new.intake
-    c.args.lent.outlet.now back.outlet.now c.send_rest-2.new.outlet c.answer_all-stopped.new.caller.jobs.hand c.answer_all-stopped.new.caller.frames.hand
-    back.pass.hand c.send_rest-2.new.pass.hand rest.0 answered.0 answered.1 answered.2 c.answer_all-stopped.ensures.others.0
-    c.answer_all-stopped.ensures.others.1 c.answer_all-stopped.ensures.settled relayed (search rules) rest.2 c.send_rest-2.ensures.settled
+    let rest = c.send_rest.ensures.more in
+    let back = c.join-relay.result in
+    let relayed : IsRelayed back.pass.hand (relay_of c.args.lent.relay.now.outlet c.args.lent.relay.now.book)
+    (relay_of back.relay.now.outlet back.relay.now.book) = search rules in
+    Conducts-answered (answering (g.W.Work.owed c.args.work.now) g.W.Work.DEFERS) c.answer_all-stopped.result c.args.lent.intake.now
+    c.answer_all-stopped.new.intake (relay_of c.args.lent.relay.now.outlet c.args.lent.relay.now.book) (relay_of back.relay.now.outlet back.relay.now.book)
+    (relay_of c.send_rest.new.relay.outlet c.send_rest.new.relay.book) c.answer_all-stopped.new.caller.jobs.hand
+    c.answer_all-stopped.new.caller.frames.hand back.pass.hand c.send_rest.new.pass.hand rest.0 answered.0 answered.1 answered.2
+    c.answer_all-stopped.ensures.others.0 c.answer_all-stopped.ensures.others.1 c.answer_all-stopped.ensures.settled relayed (search rules) rest.2
+    c.send_rest.ensures.settled

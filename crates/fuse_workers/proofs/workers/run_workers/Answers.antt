@@ -2,4 +2,6 @@ use Rattle.fuse_workers.proofs.Quieting.{PassesOnAll-quiet}
 use Rattle.fuse_workers.proofs.workers.run_workers.Goals as goal
 
 pub returns-clause-notices : goal.returns-clause-notices
-returns-clause-notices g c quiet = PassesOnAll-quiet c.run_on.ensures.run.moved quiet
+returns-clause-notices g c quiet =
+    let all = PassesOnAll-quiet c.run_on.ensures.later.moved quiet in
+    record { appended = all.appended; notes = all.notes; written = all.written; line = all.line }

@@ -1,0 +1,76 @@
+// What a thread answers messages with.
+ghost use Rattle.std.specs.Prelude.{◌≡◌, IfOk};
+ghost use Rattle.fuse_notify.specs.Queueing.{fresh_door};
+ghost use Rattle.fuse_workers.specs.Answering.{DoorFits, IsRequest};
+ghost use Rattle.fuse_workers.specs.Lines.{fresh_doors};
+ghost use Rattle.fuse_workers.specs.Threads.{answering};
+
+use crate::Work;
+use crate::doors::Doors;
+use fuse_notify::Notifier;
+use fuse_reply::{Door, NoDoor, Out};
+use fuse_wire::NoMemory;
+use std::alloc::AllocGlobal;
+use std::marker::Model;
+use std::sync::Wait;
+
+/// What a thread answers messages with: its notifier, and what makes doors for replies that come later, both to the line
+/// of frames.
+#[derive(Drop)]
+pub(crate) struct Answerer {
+    pub(crate) notifier: Notifier,
+    pub(crate) doors: Doors,
+}
+
+impl Model for Answerer {
+    ghost use Rattle.std.specs.Prelude.{◌≡◌};
+    ghost use Rattle.fuse_workers.specs.Lines.{AnswererSeen};
+
+    ghost Value = { AnswererSeen };
+
+    ghost view = { λ a. record { notifier = a.notifier; doors = a.doors } };
+
+    ghost invariant = { λ a. a.doors.pass.line ≡ a.notifier.line };
+}
+
+/// The door that the reply to the message of this number may come later through, where replies of this work may.
+#[inline(always)]
+fn door_for<W: Work>(doors: &mut Doors, seq: u64) -> Result<Door, NoDoor>
+    ensures same { doors.new ≡ doors.old }
+    ensures fits { DoorFits W.DEFERS doors.old.pass.line seq result }
+{
+    if W::DEFERS {
+        doors.door(seq)
+    } else {
+        Err(NoDoor::Shut)
+    }
+}
+
+impl Answerer {
+    /// Answers the message of this number.
+    #[inline(always)]
+    pub(crate) fn answer<R: Wait + AllocGlobal, W: Work>(
+        &mut self,
+        rt: &R,
+        work: &W,
+        seq: u64,
+        message: &[u8],
+    ) -> Out
+        requires { IsRequest message.now }
+        ensures answered { answering (W.owed work.now) W.DEFERS seq message.now result }
+        ensures line { self.new.notifier.line ≡ self.old.notifier.line }
+    {
+        let door = door_for::<W>(&mut self.doors, seq);
+        work.answer(rt, &mut self.notifier, door, seq, message)
+    }
+
+    /// What another thread answers with.
+    pub(crate) fn again(&mut self) -> Result<Answerer, NoMemory>
+        ensures same { self.new ≡ self.old }
+        ensures line { IfOk result (λ again. again.notifier.line ≡ self.old.notifier.line) }
+    {
+        let notifier = self.notifier.again()?;
+        let doors = self.doors.again()?;
+        Ok(Answerer { notifier, doors })
+    }
+}
