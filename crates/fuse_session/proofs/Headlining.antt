@@ -9,12 +9,14 @@ use Rattle.fuse_reply.specs.declared.out.Out.{Out}
 use Rattle.fuse_reply.specs.declared.out.Out.TheVariants.{Frame}
 use Rattle.fuse_workers.specs.Incoming.{IsBroken, EndsWell}
 use Rattle.fuse_session.specs.Owed.{Owed}
-use Rattle.fuse_workers.specs.OneEach.{OneEach, Owing, UpToOrder}
+use Rattle.fuse_workers.specs.OneEach.{OneEach, UpToOrder}
+use Rattle.fuse_workers.specs.OneEachLater.{OneEachLater}
 use Rattle.fuse_session.specs.Handshake.{HandshakeEnd, Handshake}
 use Rattle.fuse_session.specs.Handshake.HandshakeEnd.{Accepted}
-use Rattle.fuse_session.specs.Headline.{Headline, Lossless}
+use Rattle.fuse_session.specs.Accounted.{Accounted, NeverLater}
+use Rattle.fuse_session.specs.Headline.{Account, EndedWell, Headline, LaterHeadline, Lossless}
 use Rattle.fuse_session.specs.Exchange.{Setup, Dialogue, Exchange}
-use Rattle.fuse_workers.specs.Progress.{Progress, Moves, LeavesOut, is_notice, nothing_yet}
+use Rattle.fuse_workers.specs.Progress.{Progress, Moves, LeavesOut, but_unrecorded, is_notice, nothing_yet}
 use Rattle.fuse_workers.specs.declared.transcript.Transcript.{Transcript}
 use Rattle.fuse_workers.proofs.ItemLists.{Splits, Splits-map, filter-shorter}
 use Rattle.fuse_workers.proofs.Quieting.{LeavesOut-none, refused-none}
@@ -28,13 +30,17 @@ lossless {received} {sent} {notes} {lost} {p} {q} moved start (inl quiet) =
     (filter-shorter (λ (out : Out). not (is_notice out)) moved.refused) in
     omega (arith, fewer, refused-none moved quiet)
 lossless {received} {sent} {notes} {lost} {p} {q} moved start (inr none) =
-    let is : q.counts.lost ≡ min (0 + length lost) last_count = ap (λ (w : Transcript). w.lost) (moved.counts 0 0 0 0 start) in omega arith
+    let is : q.counts.lost ≡ min (0 + length lost) last_count = ap (λ (w : Transcript). w.lost) (moved.counts 0 0 0 0 (ap but_unrecorded start)) in
+    omega arith
 
--- A session that ended well: each message that it took has the one reply that it is owed.
-pub Headline-from_exchange : {F : Type 0} {setup : Setup F} {fs fs1 : F} {p q : Progress} → Exchange setup fs fs1 (Ok tt) p q
+-- A session that ended well, whose later messages are accounted for in any way that its dialogue shows.
+EndedWell-from_exchange : {F : Type 0} (account : Account F) {setup : Setup F} {fs fs1 : F} {p q : Progress} (exchange : Exchange setup fs fs1 (Ok tt) p q)
+    → ((lost : List Out) → lost ≡ [] → Accounted setup.threads setup.promise.defers (Owed setup.promise fs1 setup.acl setup.owner)
+    exchange.dialogue.answered exchange.dialogue.later_sent exchange.notes lost
+    → account fs1 exchange.dialogue.answered exchange.dialogue.later_sent exchange.notes)
     → p.counts ≡ nothing_yet → Lossless p.sink q.sink q.counts
-    → Headline setup.promise setup.page setup.acl setup.owner fs p.source q.source p.sink q.sink
-Headline-from_exchange {F} {setup} {fs} {fs1} {p} {q} exchange start quiet = record {
+    → EndedWell account setup.promise setup.page fs p.source q.source p.sink q.sink
+EndedWell-from_exchange {F} account {setup} {fs} {fs1} {p} {q} exchange shows start quiet = record {
   hs = split.front;
   ls = split.back;
   handshake_replies = d.handshake_replies;
@@ -50,16 +56,12 @@ Headline-from_exchange {F} {setup} {fs} {fs1} {p} {q} exchange start quiet = rec
       (LeavesOut-none d.handshake_replies d.handshake_sent
       (subst (λ (lost : List (List ℕ)). LeavesOut lost d.handshake_replies d.handshake_sent) none_first d.left_out)));
   set_aside = exchange.moved.set_aside;
-  one_each = subst (λ (ms : List (List ℕ)). OneEach owed IsBroken 0 ms d.later_sent exchange.notes [] 0) (sym later)
-      (subst (λ (lost : List Out). UpToOrder owed IsBroken d.answered d.later_sent exchange.notes lost) none_later d.accounted.one_each);
+  one_each = subst (λ (ms : List (List ℕ)). account fs1 ms d.later_sent exchange.notes) (sym later) (shows d.lost_later none_later d.accounted);
   ended = subst (λ (ms : List (List ℕ)). EndsWell ms (NothingLeft q.source)) (sym later) d.ended.2;
 } where
   d : Dialogue setup fs fs1 (Ok tt) (NothingLeft q.source) (SourceFailed p.source q.source) (map message exchange.turns)
       exchange.sent exchange.notes exchange.lost
   d = exchange.dialogue
-
-  owed : Owing
-  owed = Owed setup.promise fs1 setup.acl setup.owner
 
   split : Splits message exchange.turns d.hs (d.answered ++ d.refused)
   split = Splits-map message exchange.turns d.hs (d.answered ++ d.refused) d.heard
@@ -77,3 +79,23 @@ Headline-from_exchange {F} {setup} {fs} {fs1} {p} {q} exchange start quiet = rec
 
   none_later : d.lost_later ≡ []
   none_later = nil_from_length d.lost_later (omega (arith, none))
+
+-- each message that it took has the one reply that it is owed
+pub Headline-from_exchange : {F : Type 0} {setup : Setup F} {fs fs1 : F} {p q : Progress} → NeverLater setup.threads setup.promise.defers
+    → Exchange setup fs fs1 (Ok tt) p q → p.counts ≡ nothing_yet → Lossless p.sink q.sink q.counts
+    → Headline setup.promise setup.page setup.acl setup.owner fs p.source q.source p.sink q.sink
+Headline-from_exchange {F} {setup} {fs} {fs1} {p} {q} never exchange start quiet =
+    EndedWell-from_exchange (λ at messages replies notes. OneEach (Owed setup.promise at setup.acl setup.owner) IsBroken 0 messages replies notes [] 0)
+    exchange (λ lost none accounted.
+    subst (λ (outs : List Out). UpToOrder (Owed setup.promise fs1 setup.acl setup.owner) IsBroken exchange.dialogue.answered exchange.dialogue.later_sent
+    exchange.notes outs) none (accounted.one_each never)) start quiet
+
+-- or the mark of one that came later
+pub LaterHeadline-from_exchange : {F : Type 0} {setup : Setup F} {fs fs1 : F} {p q : Progress}
+    → Exchange setup fs fs1 (Ok tt) p q → p.counts ≡ nothing_yet → Lossless p.sink q.sink q.counts
+    → LaterHeadline setup.promise setup.page setup.acl setup.owner fs p.source q.source p.sink q.sink
+LaterHeadline-from_exchange {F} {setup} {fs} {fs1} {p} {q} exchange start quiet =
+    EndedWell-from_exchange (λ at messages replies notes. OneEachLater (Owed setup.promise at setup.acl setup.owner) IsBroken messages replies notes [])
+    exchange (λ lost none accounted.
+    subst (λ (outs : List Out). OneEachLater (Owed setup.promise fs1 setup.acl setup.owner) IsBroken exchange.dialogue.answered
+    exchange.dialogue.later_sent exchange.notes outs) none accounted.later) start quiet

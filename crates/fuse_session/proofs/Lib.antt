@@ -1,5 +1,6 @@
 mod Serving
 mod Judging
+mod Deferring
 pub mod Answering
 mod HandshakeSteps
 mod Exchanging

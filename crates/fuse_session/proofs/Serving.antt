@@ -1,5 +1,5 @@
 -- What a request comes to is what its message is owed.
-use Rattle.std.proofs.Common.{◌≡◌, ℕ, List, length, sym, ◌∙◌, ap, subst, Bool, true, false, nat_lt, Result, Ok, Err}
+use Rattle.std.proofs.Common.{◌≡◌, ℕ, List, length, sym, ◌∙◌, ap, subst, Bool, true, false, inl, inr, nat_lt, Result, Ok, Err}
 use Rattle.std.specs.Prelude.{if◌then◌else◌, ◌==◌}
 use Rattle.fuse_wire.specs.Numbers.{number}
 use Rattle.fuse_config.specs.declared.session_acl.SessionACL.{SessionACL}
@@ -10,18 +10,22 @@ use Rattle.fuse_request.specs.declared.any_request.Header.{Header}
 use Rattle.fuse_request.specs.Header.{Decodes, header, header_fields, header_of, body, body_of, request_of}
 use Rattle.fuse_request.specs.Opcode.{FUSE_DESTROY}
 use Rattle.fuse_request.specs.Operation.{Op, operation}
+use Rattle.fuse_reply.specs.Reply.{RepliesWith}
 use Rattle.fuse_reply.specs.declared.out.Out.{Out}
+use Rattle.fuse_reply.specs.declared.out.Out.TheVariants.{Deferred}
+use Rattle.fuse_request.specs.declared.request.Request.{Request}
+use Rattle.fuse_wire.specs.declared.newtypes.RequestId.{RequestId}
 use Rattle.fuse_workers.specs.Incoming.{IsBroken, id_of}
 use Rattle.fuse_session.specs.Promise.{Promise}
 use Rattle.fuse_session.specs.Verdict.{Verdict, verdict, verdict_by, serving, admitted_operation}
-use Rattle.fuse_session.specs.Verdict.Verdict.{Ends}
+use Rattle.fuse_session.specs.Verdict.Verdict.{Broken, Ends, Fixed, Forgets, Calls}
 use Rattle.fuse_session.specs.Owed.{Owes, Owed, OwedBy, OwedMessage}
 
 ok-header : (a b c : Bool) (x y z : RequestError) (f h : Header)
     → (if a then Err x else if b then Err y else if c then Err z else Ok f) ≡ Ok h → h ≡ f
-ok-header true b c x y z f h is = absurd (let no : ⊥ = cc in no)
-ok-header false true c x y z f h is = absurd (let no : ⊥ = cc in no)
-ok-header false false true x y z f h is = absurd (let no : ⊥ = cc in no)
+ok-header true b c x y z f h is = absurd (let bad : ⊥ = cc in bad)
+ok-header false true c x y z f h is = absurd (let bad : ⊥ = cc in bad)
+ok-header false false true x y z f h is = absurd (let bad : ⊥ = cc in bad)
 ok-header false false false x y z f h is = cc
 
 -- a good header is its fields
@@ -50,6 +54,25 @@ Owed-request owes acl owner seq out request m found decodes other is owed =
         ∙ (ap (λ (b : Bool). if b then Ends else serving h.nodeid.0 (admitted_operation acl owner h (operation h.opcode (body m)))) other
         ∙ (ap (λ (b : List ℕ). serving h.nodeid.0 (admitted_operation acl owner h (operation h.opcode b))) (sym decodes.1)
         ∙ ap (serving h.nodeid.0) is))
+
+-- a filesystem that never defers owes no mark of a reply that comes later
+no-mark : {F : Type 0} (promise : Promise F) (fs : F) (request : Request) (v : Verdict) (seq id number : ℕ) (of : RequestId) → promise.defers ≡ false
+    → OwedBy promise fs request v seq id (Deferred number of) → ⊥
+no-mark promise fs request (Broken e) seq id number of never owed = owed
+no-mark promise fs request Ends seq id number of never owed = let bad : ⊥ = cc in bad
+no-mark promise fs request (Fixed errno) seq id number of never owed = let bad : ⊥ = cc in bad
+no-mark promise fs request (Forgets c) seq id number of never owed = let is = owed.2 in let bad : ⊥ = cc in bad
+no-mark promise fs request (Calls c) seq id number of never (inl answered) = by_reply answered.replies where
+  by_reply : RepliesWith id answered.answer (Deferred number of) → ⊥
+  by_reply (inl is) = let bad : ⊥ = cc in bad
+  by_reply (inr is) = let at = is.1 in let bad : ⊥ = cc in bad
+no-mark promise fs request (Calls c) seq id number of never (inr (inl poll)) = let is = poll.1 in let bad : ⊥ = cc in bad
+no-mark promise fs request (Calls c) seq id number of never (inr (inr later)) = let is = later.0 in let bad : ⊥ = cc in bad
+
+pub Owed-at_once : {F : Type 0} (promise : Promise F) (fs : F) (acl : SessionACL) (owner : ℕ) → promise.defers ≡ false
+    → (seq : ℕ) (m : List ℕ) (number : ℕ) (of : RequestId) → Owed promise fs acl owner seq m (Deferred number of) → ⊥
+Owed-at_once promise fs acl owner never seq m number of owed =
+    no-mark promise fs (request_of (header_fields m)) (verdict acl owner m) seq (id_of m) number of never owed
 
 -- nothing is owed to a message without a good header
 pub Owed-broken : {F : Type 0} (promise : Promise F) (fs : F) (acl : SessionACL) (owner seq : ℕ) (m : List ℕ) (out : Out)

@@ -1,15 +1,17 @@
 -- A session from its two parts, the one that opened it and the one that ran it.
+use Rattle.std.proofs.Common.{Bool, false}
 use Rattle.std.proofs.Common.{◌≡◌, ◌≢◌, ◌↔◌, ◌∙◌, ◌++◌, ℕ, List, [], Option, Some, Ok, Err, inl, inr, refl, sym, ap, subst, map, append_assoc}
 use Rattle.std.proofs.lemmas.List.{map-append}
 use Rattle.fuse_wire.specs.Source.{SourceState, message}
 use Rattle.fuse_wire.specs.Sink.{SinkState}
-use Rattle.fuse_session.specs.Accounted.{Accounted}
+use Rattle.fuse_session.specs.Accounted.{Accounted, ManyThreads, NeverLater}
 use Rattle.fuse_session.specs.Complete.{GoodHeaders, RunWell, Unfailing}
 use Rattle.fuse_workers.specs.EventLoop.{Run}
 use Rattle.fuse_session.specs.Exchange.{Closed, Exchange, Mounted, Outcome, Setup, Unopened, setup_of}
-use Rattle.fuse_session.specs.Headline.{Headline, Lossless}
+use Rattle.fuse_session.specs.Headline.{Headline, LaterHeadline, Lossless}
 use Rattle.fuse_session.specs.Owed.{Owed}
-use Rattle.fuse_workers.specs.OneEach.{Accounting, InOrder, Owing}
+use Rattle.fuse_workers.specs.OneEach.{Accounting, InOrder, Owing, UpToOrder}
+use Rattle.fuse_workers.specs.OneEachLater.{NoneHeldBack}
 use Rattle.fuse_workers.specs.Progress.{Progress, nothing_yet, progress}
 use Rattle.fuse_session.specs.Promise.{Promise}
 use Rattle.fuse_session.specs.Session.{Ends, EndsRun, IsOpened, Opened, OpensNone, Ran, setup_for}
@@ -24,9 +26,13 @@ use Rattle.fuse_workers.specs.declared.transcript.Transcript.{Transcript}
 use Rattle.fuse_workers.specs.Incoming.{IsBroken}
 use Rattle.fuse_workers.proofs.Order.{OneEach-from_order}
 use Rattle.fuse_reply.specs.declared.out.Out.{Out}
+use Rattle.fuse_reply.specs.declared.out.Out.TheVariants.{Deferred}
+use Rattle.fuse_reply.specs.Late.{LateSeen}
+use Rattle.fuse_wire.specs.declared.newtypes.RequestId.{RequestId}
+use Rattle.fuse_workers.proofs.Accounts.{OneEachLater-prompt, UpToOrder-from_later}
 use Rattle.fuse_session.proofs.Completing.{never-broken, no-failure, told-after}
 use Rattle.fuse_session.proofs.Exchanging.{Exchange-ran, Exchange-unserved}
-use Rattle.fuse_session.proofs.Headlining.{Headline-from_exchange}
+use Rattle.fuse_session.proofs.Headlining.{Headline-from_exchange, LaterHeadline-from_exchange}
 
 -- a session that ended so, and all that is left of it
 pub Ran-ends : {F : Type 0} (promise : Promise F) (session seen : Opened F) (fs' : F) (outcome found : Outcome) (shaken counts found_counts : Transcript)
@@ -35,14 +41,17 @@ pub Ran-ends : {F : Type 0} (promise : Promise F) (session seen : Opened F) (fs'
     → ((unasked : List (List ℕ)) × Ends promise seen.filesystem seen.acl seen.owner seen.threads found (progress source sink shaken [])
     (progress source'' sink'' found_counts unasked))
     → (counts ≡ found_counts) × (outcome ≡ found) → (source' ≡ source'') × (sink' ≡ sink'') → promise.may_destroy seen.filesystem fs'
-    → Ran promise session fs' outcome source' sink' counts
-Ran-ends promise session seen fs' outcome found shaken counts found_counts source sink source' source'' sink' sink'' is start ends told back destroyed =
+    → (NeverLater seen.threads promise.defers → found_counts.unrecorded ≡ 0) → Ran promise session fs' outcome source' sink' counts
+Ran-ends promise session seen fs' outcome found shaken counts found_counts source sink source' source'' sink' sink'' is start ends told back destroyed
+    recorded =
     subst (λ (s : _). Ran promise s fs' outcome source' sink' counts) (sym is) (record {
       unasked = ends.0;
-      ends = subst (λ (p : Progress). Ends promise seen.filesystem seen.acl seen.owner seen.threads outcome p (progress source' sink' counts ends.0)) (sym start)
+      ends = subst (λ (p : Progress). Ends promise seen.filesystem seen.acl seen.owner seen.threads outcome p (progress source' sink' counts ends.0))
+          (sym start)
           (subst (λ (q : Progress). Ends promise seen.filesystem seen.acl seen.owner seen.threads outcome (progress source sink shaken []) q) after
           (subst (λ (o : Outcome). Ends promise seen.filesystem seen.acl seen.owner seen.threads o (progress source sink shaken [])
           (progress source'' sink'' found_counts ends.0)) (sym told.1) ends.1));
+      recorded = λ never. ap (λ (t : Transcript). t.unrecorded) told.0 ∙ recorded never;
       destroyed = destroyed;
     })
   where
@@ -79,14 +88,27 @@ Mounted-ran promise page fs fs' source source' sink sink' session outcome counts
 
 -- a session that ended well has its one reply for each message
 pub Headline-ran : {F : Type 0} (promise : Promise F) (page : ℕ) (fs fs' : F) (source source' : SourceState) (sink sink' : SinkState)
-    (session : Opened F) (outcome : Outcome) (counts : Transcript) → IsOpened promise page fs source sink session
+    (session : Opened F) (outcome : Outcome) (counts : Transcript) → NeverLater session.threads promise.defers → IsOpened promise page fs source sink session
     → Ran promise session fs' outcome source' sink' counts → outcome ≡ Ok tt → Lossless sink sink' counts
     → Headline promise page session.acl session.owner fs source source' sink sink'
-Headline-ran promise page fs fs' source source' sink sink' session outcome counts opened ran ok lossless =
+Headline-ran promise page fs fs' source source' sink sink' session outcome counts never opened ran ok lossless =
     let s = setup_for promise page session in
     let p = progress source sink nothing_yet [] in
     let q = progress source' sink' counts ran.unasked in
-    Headline-from_exchange {setup = s} {p = p} {q = q}
+    Headline-from_exchange {setup = s} {p = p} {q = q} never
+    (subst (λ (o : Outcome). Exchange s fs session.filesystem o p q) ok
+    (Exchange-opened promise page fs source sink session outcome q opened ran.ends)) refl lossless
+
+-- or the mark of one that came later
+pub LaterHeadline-ran : {F : Type 0} (promise : Promise F) (page : ℕ) (fs fs' : F) (source source' : SourceState) (sink sink' : SinkState)
+    (session : Opened F) (outcome : Outcome) (counts : Transcript) → IsOpened promise page fs source sink session
+    → Ran promise session fs' outcome source' sink' counts → outcome ≡ Ok tt → Lossless sink sink' counts
+    → LaterHeadline promise page session.acl session.owner fs source source' sink sink'
+LaterHeadline-ran promise page fs fs' source source' sink sink' session outcome counts opened ran ok lossless =
+    let s = setup_for promise page session in
+    let p = progress source sink nothing_yet [] in
+    let q = progress source' sink' counts ran.unasked in
+    LaterHeadline-from_exchange {setup = s} {p = p} {q = q}
     (subst (λ (o : Outcome). Exchange s fs session.filesystem o p q) ok
     (Exchange-opened promise page fs source sink session outcome q opened ran.ends)) refl lossless
 
@@ -109,11 +131,26 @@ Run-accounted run order = record {
 }
 
 -- a run on one thread
-pub Accounted-one : (owed : Owing) → ((seq : ℕ) (m : List ℕ) (out : Out) → owed seq m out → IsBroken m → ⊥) → (threads : Option ℕ) (end : End)
-    (p q : Progress) → Run (InOrder owed 0) end p q → Run (Accounted threads owed) end p q
-Accounted-one owed not_broken threads end p q run = Run-accounted run (record {
-  one_each = OneEach-from_order owed IsBroken not_broken 0 run.answered run.sent run.notes run.lost run.order;
-  in_order = λ _. run.order;
+pub Accounted-one : (owed : Owing) → ((seq : ℕ) (m : List ℕ) (out : Out) → owed seq m out → IsBroken m → ⊥) → (threads : Option ℕ) (defers : Bool)
+    (end : End) (p q : Progress) → Run (InOrder owed 0) end p q → Run (Accounted threads defers owed) end p q
+Accounted-one owed not_broken threads defers end p q run =
+    let each : UpToOrder owed IsBroken run.answered run.sent run.notes run.lost =
+    OneEach-from_order owed IsBroken not_broken 0 run.answered run.sent run.notes run.lost run.order in
+    Run-accounted run (record {
+      one_each = λ _. each;
+      in_order = λ _. run.order;
+      later = OneEachLater-prompt each;
+    })
+
+-- a run on several threads
+pub Accounted-many : (owed : Owing) (threads : Option ℕ) (defers : Bool)
+    → (defers ≡ false → (seq : ℕ) (m : List ℕ) (number : ℕ) (id : RequestId) → owed seq m (Deferred number id) → ⊥) → ManyThreads threads
+    → {came : List LateSeen} {recorded : Type 0} (end : End) (p q : Progress) → Run (NoneHeldBack owed IsBroken came recorded) end p q
+    → Run (Accounted threads defers owed) end p q
+Accounted-many owed threads defers never many end p q run = Run-accounted run (record {
+  one_each = λ none_later. UpToOrder-from_later owed IsBroken (never (none_later many)) run.order.one_each;
+  in_order = λ single. absurd (single many);
+  later = run.order.one_each;
 })
 
 -- where nothing is amiss, a run ends well
@@ -142,7 +179,8 @@ Ok-from_run promise session fs' outcome source' sink' counts ran well =
         (progress source' sink' counts ran.unasked) → outcome ≡ Ok tt
     by_end (inl none) = absurd (well.served none.0)
     by_end (inr some) =
-        some.1.1 ∙ Ok-from_end (Accounted session.threads (Owed promise session.filesystem session.acl session.owner)) some.1.0 session.progress (progress source' sink' counts ran.unasked) well.turns some.1.2 well.told well.good
+        some.1.1 ∙ Ok-from_end (Accounted session.threads promise.defers (Owed promise session.filesystem session.acl session.owner)) some.1.0 session.progress
+        (progress source' sink' counts ran.unasked) well.turns some.1.2 well.told well.good
         well.unfailing
 
 ends_run-outcome : (end : End) → EndsRun (run_outcome end)

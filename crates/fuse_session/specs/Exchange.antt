@@ -87,7 +87,7 @@ pub record Dialogue {F : Type 0} (setup : Setup F) (fs fs1 : F) (outcome : Outco
   pub heard : messages ≡ hs ++ (answered ++ refused)
   pub handshake : Handshake setup.promise.may_init setup.page fs hs handshake_replies fs1 end
   pub left_out : LeavesOut lost_first handshake_replies handshake_sent
-  pub accounted : Accounted setup.threads (Owed setup.promise fs1 setup.acl setup.owner) answered later_sent notes lost_later
+  pub accounted : Accounted setup.threads setup.promise.defers (Owed setup.promise fs1 setup.acl setup.owner) answered later_sent notes lost_later
   pub said : sent ≡ handshake_sent ++ later_sent
   pub missed : lost ≡ map Frame lost_first ++ lost_later
   pub ended : EndedBy outcome setup.threads end answered refused none_left failed

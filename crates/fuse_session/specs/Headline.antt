@@ -7,6 +7,7 @@ use Rattle.fuse_config.specs.declared.session_acl.SessionACL.{SessionACL}
 use Rattle.fuse_workers.specs.Incoming.{IsBroken, EndsWell}
 use Rattle.fuse_session.specs.Owed.{Owed}
 use Rattle.fuse_workers.specs.OneEach.{OneEach}
+use Rattle.fuse_workers.specs.OneEachLater.{OneEachLater}
 use Rattle.fuse_session.specs.Promise.{Promise}
 use Rattle.fuse_session.specs.Handshake.{Handshake}
 use Rattle.fuse_session.specs.Handshake.HandshakeEnd.{Accepted}
@@ -17,7 +18,12 @@ use Rattle.fuse_workers.specs.declared.transcript.Transcript.{Transcript}
 abbrev pub Lossless : SinkState → SinkState → Transcript → Type 0
 Lossless sink sink' t' = Quiet sink sink' ⊎ (t'.lost ≡ 0)
 
-pub record Headline {F : Type 0} (promise : Promise F) (page : ℕ) (acl : SessionACL) (owner : ℕ) (fs : F)
+-- how the later messages are accounted for, by the filesystem after the handshake
+abbrev pub Account : Type 0 → Type 1
+Account F = (fs1 : F) → (messages later_replies : List (List ℕ)) → (notes : List Note) → Type 0
+
+-- a session that ended well, whose later messages are accounted for in this way
+pub record EndedWell {F : Type 0} (account : Account F) (promise : Promise F) (page : ℕ) (fs : F)
     (before after : SourceState) (sink sink' : SinkState) : Type 0 where
   -- the turns of the handshake, and the later ones
   pub hs : List (List ℕ)
@@ -35,5 +41,17 @@ pub record Headline {F : Type 0} (promise : Promise F) (page : ℕ) (acl : Sessi
   pub written : Appends appended notes sink sink'
   pub replied : replies appended ≡ handshake_replies ++ later_replies
   pub set_aside : AllByRecursion NoticeOrReply appended
-  pub one_each : OneEach (Owed promise fs1 acl owner) IsBroken 0 (map message ls) later_replies notes [] 0
+  pub one_each : account fs1 (map message ls) later_replies notes
   pub ended : EndsWell (map message ls) (NothingLeft after)
+
+-- each later message has the one reply that it is owed, or a note
+abbrev pub Headline : {F : Type 0} → Promise F → (page : ℕ) → SessionACL → (owner : ℕ) → (fs : F) → (before after : SourceState) → (sink sink' : SinkState)
+    → Type 0
+Headline promise page acl owner =
+    EndedWell (λ fs1 messages replies notes. OneEach (Owed promise fs1 acl owner) IsBroken 0 messages replies notes [] 0) promise page
+
+-- the same where replies may come later
+abbrev pub LaterHeadline : {F : Type 0} → Promise F → (page : ℕ) → SessionACL → (owner : ℕ) → (fs : F) → (before after : SourceState)
+    → (sink sink' : SinkState) → Type 0
+LaterHeadline promise page acl owner =
+    EndedWell (λ fs1 messages replies notes. OneEachLater (Owed promise fs1 acl owner) IsBroken messages replies notes []) promise page

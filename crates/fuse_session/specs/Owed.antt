@@ -12,8 +12,10 @@ use Rattle.fuse_request.specs.declared.error.RequestError.{RequestError}
 use Rattle.fuse_request.specs.declared.request.Request.{Request}
 use Rattle.fuse_reply.specs.Answer.{Answer, IsAnswer}
 use Rattle.fuse_reply.specs.Answer.Answer.{Empty, Error}
+use Rattle.fuse_reply.specs.Door.{DoorSeen}
 use Rattle.fuse_reply.specs.Reply.{RepliesWith}
 use Rattle.fuse_reply.specs.Frame.{reply}
+use Rattle.fuse_reply.specs.declared.door.NoDoor.{NoDoor}
 use Rattle.fuse_reply.specs.declared.out.Out.{Out}
 use Rattle.fuse_reply.specs.declared.out.Out.TheVariants.{Frame, Note, Deferred}
 use Rattle.fuse_config.specs.declared.session_acl.SessionACL.{SessionACL}
@@ -35,6 +37,16 @@ pub record Answered {F : Type 0} (may_answer : MayAnswer F) (fs : F) (request : 
   pub answer : Answer
   pub allowed : Allowed may_answer fs request c answer
   pub replies : RepliesWith id answer out
+
+-- the reply was put off: it has a door, and what goes out is the door's mark, with the request's id
+pub record IsPutOff (door : Result DoorSeen NoDoor) (id : ℕ) (out : Out) : Type 0 where
+  pub through : DoorSeen
+  pub is_door : door ≡ Ok through
+  pub mark : out ≡ Deferred through.seq (record { 0 = id })
+
+-- what a method gives back: the reply of an answer that is allowed, or, where the reply has a door, the mark of one that comes later
+abbrev pub Answers : {F : Type 0} → MayAnswer F → F → Request → Call → (id : ℕ) → Result DoorSeen NoDoor → Out → Type 0
+Answers may_answer fs request c id door out = Answered may_answer fs request c id out ⊎ IsPutOff door id out
 
 -- the kernel asks to be told of news of an open file
 abbrev pub IsPoll : Call → Type 0

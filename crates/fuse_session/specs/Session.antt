@@ -6,7 +6,7 @@ use Rattle.fuse_wire.specs.Sink.{SinkState}
 use Rattle.fuse_config.specs.declared.session_acl.SessionACL.{SessionACL}
 use Rattle.fuse_request.specs.declared.error.RequestError.{RequestError}
 use Rattle.fuse_workers.specs.EventLoop.{Run}
-use Rattle.fuse_session.specs.Accounted.{Accounted}
+use Rattle.fuse_session.specs.Accounted.{Accounted, NeverLater}
 use Rattle.fuse_session.specs.Exchange.{Outcome, Setup, setup_of}
 use Rattle.fuse_session.specs.HandshakeStep.{HandshakeRun}
 use Rattle.fuse_session.specs.Owed.{Owed}
@@ -64,12 +64,13 @@ EndsRun o = ⊥
 abbrev pub Ends : {F : Type 0} → Promise F → F → SessionACL → (owner : ℕ) → (threads : Option ℕ) → Outcome → (before after : Progress) → Type 0
 Ends promise fs acl owner threads outcome before after =
     ((threads ≡ Some 0) × (outcome ≡ Err Threads) × (after ≡ before))
-    ⊎ ((threads ≢ Some 0) × ((end : End) × (outcome ≡ run_outcome end) × Run (Accounted threads (Owed promise fs acl owner)) end before after))
+    ⊎ ((threads ≢ Some 0) × ((end : End) × (outcome ≡ run_outcome end) × Run (Accounted threads promise.defers (Owed promise fs acl owner)) end before after))
 
--- it was run to its end, at which `destroy` was called once
+-- it was run to its end, at which `destroy` was called once; and all could be recorded, where no reply comes later
 pub record Ran {F : Type 0} (promise : Promise F) (session : Opened F) (fs' : F) (outcome : Outcome)
     (source' : SourceState) (sink' : SinkState) (counts : Transcript) : Type 0 where
   pub unasked : List (List ℕ)
   pub ends : Ends promise session.filesystem session.acl session.owner session.threads outcome session.progress
       (progress source' sink' counts unasked)
+  pub recorded : NeverLater session.threads promise.defers → counts.unrecorded ≡ 0
   pub destroyed : promise.may_destroy session.filesystem fs'

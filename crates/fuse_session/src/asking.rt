@@ -1,9 +1,10 @@
 // How a filesystem is asked.
-ghost use Rattle.std.specs.Prelude.{refl};
+ghost use Rattle.std.proofs.Common.{◌∙◌, inr, refl};
 ghost use Rattle.fuse_session.specs.Owed.{OwedBy};
 
 use crate::Filesystem;
 use crate::asked::Asked;
+use crate::giving::Giving;
 use crate::handler::Handler;
 use bitflags::Flags;
 use fuse_notify::Notifier;
@@ -26,16 +27,20 @@ pub(crate) struct Asking<FS> {
 impl<FS: Filesystem> Handler for Asking<FS> {
     ghost owes = { λ handler. OwedBy FS.promise handler.filesystem };
 
+    const DEFERS: bool = FS::DEFERS;
+
+    ghost DEFERS = { FS.DEFERS };
+
     #[inline(always)]
-    fn lookup(&self, asked: &Asked, operation: &Lookup<'_>) -> Out {
-        let reply = asked.reply();
+    fn lookup<G: Giving + Drop>(&self, asked: &Asked, giving: G, operation: &Lookup<'_>) -> Out {
+        let reply = giving.reply(asked);
         self.filesystem
             .lookup(&asked.request, asked.node, operation.name(), reply)
             .into_out()
     }
 
     #[inline(always)]
-    fn forget(&self, asked: &Asked, operation: &Forget) -> Out {
+    fn forget<G: Giving + Drop>(&self, asked: &Asked, _giving: G, operation: &Forget) -> Out {
         let mark = self
             .filesystem
             .forget(&asked.request, asked.node, operation.nlookup());
@@ -43,15 +48,15 @@ impl<FS: Filesystem> Handler for Asking<FS> {
     }
 
     #[inline(always)]
-    fn getattr(&self, asked: &Asked, operation: &GetAttr) -> Out {
-        let reply = asked.reply();
+    fn getattr<G: Giving + Drop>(&self, asked: &Asked, giving: G, operation: &GetAttr) -> Out {
+        let reply = giving.reply(asked);
         self.filesystem
             .getattr(&asked.request, asked.node, operation.file_handle(), reply)
             .into_out()
     }
 
     #[inline(always)]
-    fn setattr(&self, asked: &Asked, operation: &SetAttr) -> Out {
+    fn setattr<G: Giving + Drop>(&self, asked: &Asked, giving: G, operation: &SetAttr) -> Out {
         let (mode, uid, gid, size) = (
             operation.mode(),
             operation.uid(),
@@ -65,7 +70,7 @@ impl<FS: Filesystem> Handler for Asking<FS> {
             operation.bkuptime(),
         );
         let (fh, flags) = (operation.file_handle(), operation.flags());
-        let reply = asked.reply();
+        let reply = giving.reply(asked);
         self.filesystem
             .setattr(
                 &asked.request,
@@ -88,26 +93,26 @@ impl<FS: Filesystem> Handler for Asking<FS> {
     }
 
     #[inline(always)]
-    fn readlink(&self, asked: &Asked, _readlink: &ReadLink) -> Out {
-        let reply = asked.reply();
+    fn readlink<G: Giving + Drop>(&self, asked: &Asked, giving: G, _readlink: &ReadLink) -> Out {
+        let reply = giving.reply(asked);
         self.filesystem
             .readlink(&asked.request, asked.node, reply)
             .into_out()
     }
 
     #[inline(always)]
-    fn symlink(&self, asked: &Asked, operation: &SymLink<'_>) -> Out {
+    fn symlink<G: Giving + Drop>(&self, asked: &Asked, giving: G, operation: &SymLink<'_>) -> Out {
         let (link_name, target) = (operation.link_name(), operation.target());
-        let reply = asked.reply();
+        let reply = giving.reply(asked);
         self.filesystem
             .symlink(&asked.request, asked.node, link_name, target, reply)
             .into_out()
     }
 
     #[inline(always)]
-    fn mknod(&self, asked: &Asked, operation: &MkNod<'_>) -> Out {
+    fn mknod<G: Giving + Drop>(&self, asked: &Asked, giving: G, operation: &MkNod<'_>) -> Out {
         let (mode, umask, rdev) = (operation.mode(), operation.umask(), operation.rdev());
-        let reply = asked.reply();
+        let reply = giving.reply(asked);
         self.filesystem
             .mknod(
                 &asked.request,
@@ -122,9 +127,9 @@ impl<FS: Filesystem> Handler for Asking<FS> {
     }
 
     #[inline(always)]
-    fn mkdir(&self, asked: &Asked, operation: &MkDir<'_>) -> Out {
+    fn mkdir<G: Giving + Drop>(&self, asked: &Asked, giving: G, operation: &MkDir<'_>) -> Out {
         let (mode, umask) = (operation.mode(), operation.umask());
-        let reply = asked.reply();
+        let reply = giving.reply(asked);
         self.filesystem
             .mkdir(
                 &asked.request,
@@ -138,26 +143,26 @@ impl<FS: Filesystem> Handler for Asking<FS> {
     }
 
     #[inline(always)]
-    fn unlink(&self, asked: &Asked, operation: &Unlink<'_>) -> Out {
-        let reply = asked.reply();
+    fn unlink<G: Giving + Drop>(&self, asked: &Asked, giving: G, operation: &Unlink<'_>) -> Out {
+        let reply = giving.reply(asked);
         self.filesystem
             .unlink(&asked.request, asked.node, operation.name(), reply)
             .into_out()
     }
 
     #[inline(always)]
-    fn rmdir(&self, asked: &Asked, operation: &RmDir<'_>) -> Out {
-        let reply = asked.reply();
+    fn rmdir<G: Giving + Drop>(&self, asked: &Asked, giving: G, operation: &RmDir<'_>) -> Out {
+        let reply = giving.reply(asked);
         self.filesystem
             .rmdir(&asked.request, asked.node, operation.name(), reply)
             .into_out()
     }
 
     #[inline(always)]
-    fn rename(&self, asked: &Asked, operation: &Rename<'_>) -> Out {
+    fn rename<G: Giving + Drop>(&self, asked: &Asked, giving: G, operation: &Rename<'_>) -> Out {
         let (src, dest) = (operation.src(), operation.dest());
         let no_flags = RenameFlags::empty();
-        let reply = asked.reply();
+        let reply = giving.reply(asked);
         self.filesystem
             .rename(
                 &asked.request,
@@ -172,8 +177,8 @@ impl<FS: Filesystem> Handler for Asking<FS> {
     }
 
     #[inline(always)]
-    fn link(&self, asked: &Asked, operation: &Link<'_>) -> Out {
-        let reply = asked.reply();
+    fn link<G: Giving + Drop>(&self, asked: &Asked, giving: G, operation: &Link<'_>) -> Out {
+        let reply = giving.reply(asked);
         self.filesystem
             .link(
                 &asked.request,
@@ -186,15 +191,15 @@ impl<FS: Filesystem> Handler for Asking<FS> {
     }
 
     #[inline(always)]
-    fn open(&self, asked: &Asked, operation: &Open) -> Out {
-        let reply = asked.reply();
+    fn open<G: Giving + Drop>(&self, asked: &Asked, giving: G, operation: &Open) -> Out {
+        let reply = giving.reply(asked);
         self.filesystem
             .open(&asked.request, asked.node, operation.flags(), reply)
             .into_out()
     }
 
     #[inline(always)]
-    fn read(&self, asked: &Asked, operation: &Read) -> Out {
+    fn read<G: Giving + Drop>(&self, asked: &Asked, giving: G, operation: &Read) -> Out {
         let offset = match operation.offset() {
             Ok(offset) => offset,
             Err(error) => return asked.refusal(error),
@@ -205,7 +210,7 @@ impl<FS: Filesystem> Handler for Asking<FS> {
             operation.flags(),
             operation.lock_owner(),
         );
-        let reply = asked.reply();
+        let reply = giving.reply(asked);
         self.filesystem
             .read(
                 &asked.request,
@@ -221,7 +226,7 @@ impl<FS: Filesystem> Handler for Asking<FS> {
     }
 
     #[inline(always)]
-    fn write(&self, asked: &Asked, operation: &Write<'_>) -> Out {
+    fn write<G: Giving + Drop>(&self, asked: &Asked, giving: G, operation: &Write<'_>) -> Out {
         let offset = match operation.offset() {
             Ok(offset) => offset,
             Err(error) => return asked.refusal(error),
@@ -232,7 +237,7 @@ impl<FS: Filesystem> Handler for Asking<FS> {
             operation.write_flags(),
         );
         let (flags, owner) = (operation.flags(), operation.lock_owner());
-        let reply = asked.reply();
+        let reply = giving.reply(asked);
         self.filesystem
             .write(
                 &asked.request,
@@ -249,26 +254,26 @@ impl<FS: Filesystem> Handler for Asking<FS> {
     }
 
     #[inline(always)]
-    fn statfs(&self, asked: &Asked, _statfs: &StatFs) -> Out {
-        let reply = asked.reply();
+    fn statfs<G: Giving + Drop>(&self, asked: &Asked, giving: G, _statfs: &StatFs) -> Out {
+        let reply = giving.reply(asked);
         self.filesystem
             .statfs(&asked.request, asked.node, reply)
             .into_out()
     }
 
     #[inline(always)]
-    fn release(&self, asked: &Asked, operation: &Release) -> Out {
+    fn release<G: Giving + Drop>(&self, asked: &Asked, giving: G, operation: &Release) -> Out {
         let (fh, flags) = (operation.file_handle(), operation.flags());
         let (owner, flush) = (operation.lock_owner(), operation.flush());
-        let reply = asked.reply();
+        let reply = giving.reply(asked);
         self.filesystem
             .release(&asked.request, asked.node, fh, flags, owner, flush, reply)
             .into_out()
     }
 
     #[inline(always)]
-    fn fsync(&self, asked: &Asked, operation: &FSync) -> Out {
-        let reply = asked.reply();
+    fn fsync<G: Giving + Drop>(&self, asked: &Asked, giving: G, operation: &FSync) -> Out {
+        let reply = giving.reply(asked);
         self.filesystem
             .fsync(
                 &asked.request,
@@ -281,10 +286,15 @@ impl<FS: Filesystem> Handler for Asking<FS> {
     }
 
     #[inline(always)]
-    fn setxattr(&self, asked: &Asked, operation: &SetXAttr<'_>) -> Out {
+    fn setxattr<G: Giving + Drop>(
+        &self,
+        asked: &Asked,
+        giving: G,
+        operation: &SetXAttr<'_>,
+    ) -> Out {
         let (name, value) = (operation.name(), operation.value());
         let (flags, position) = (operation.flags(), operation.position());
-        let reply = asked.reply();
+        let reply = giving.reply(asked);
         self.filesystem
             .setxattr(
                 &asked.request,
@@ -299,8 +309,13 @@ impl<FS: Filesystem> Handler for Asking<FS> {
     }
 
     #[inline(always)]
-    fn getxattr(&self, asked: &Asked, operation: &GetXAttr<'_>) -> Out {
-        let reply = asked.reply();
+    fn getxattr<G: Giving + Drop>(
+        &self,
+        asked: &Asked,
+        giving: G,
+        operation: &GetXAttr<'_>,
+    ) -> Out {
+        let reply = giving.reply(asked);
         self.filesystem
             .getxattr(
                 &asked.request,
@@ -313,24 +328,29 @@ impl<FS: Filesystem> Handler for Asking<FS> {
     }
 
     #[inline(always)]
-    fn listxattr(&self, asked: &Asked, operation: &ListXAttr) -> Out {
-        let reply = asked.reply();
+    fn listxattr<G: Giving + Drop>(&self, asked: &Asked, giving: G, operation: &ListXAttr) -> Out {
+        let reply = giving.reply(asked);
         self.filesystem
             .listxattr(&asked.request, asked.node, operation.size(), reply)
             .into_out()
     }
 
     #[inline(always)]
-    fn removexattr(&self, asked: &Asked, operation: &RemoveXAttr<'_>) -> Out {
-        let reply = asked.reply();
+    fn removexattr<G: Giving + Drop>(
+        &self,
+        asked: &Asked,
+        giving: G,
+        operation: &RemoveXAttr<'_>,
+    ) -> Out {
+        let reply = giving.reply(asked);
         self.filesystem
             .removexattr(&asked.request, asked.node, operation.name(), reply)
             .into_out()
     }
 
     #[inline(always)]
-    fn flush(&self, asked: &Asked, operation: &Flush) -> Out {
-        let reply = asked.reply();
+    fn flush<G: Giving + Drop>(&self, asked: &Asked, giving: G, operation: &Flush) -> Out {
+        let reply = giving.reply(asked);
         self.filesystem
             .flush(
                 &asked.request,
@@ -343,49 +363,54 @@ impl<FS: Filesystem> Handler for Asking<FS> {
     }
 
     #[inline(always)]
-    fn opendir(&self, asked: &Asked, operation: &OpenDir) -> Out {
-        let reply = asked.reply();
+    fn opendir<G: Giving + Drop>(&self, asked: &Asked, giving: G, operation: &OpenDir) -> Out {
+        let reply = giving.reply(asked);
         self.filesystem
             .opendir(&asked.request, asked.node, operation.flags(), reply)
             .into_out()
     }
 
     #[inline(always)]
-    fn readdir(&self, asked: &Asked, operation: &ReadDir) -> Out {
+    fn readdir<G: Giving + Drop>(&self, asked: &Asked, giving: G, operation: &ReadDir) -> Out {
         let (fh, offset) = (operation.file_handle(), operation.offset());
-        let reply = asked.listing(operation.size());
+        let reply = giving.listing(asked, operation.size());
         self.filesystem
             .readdir(&asked.request, asked.node, fh, offset, reply)
             .into_out()
     }
 
     #[inline(always)]
-    fn releasedir(&self, asked: &Asked, operation: &ReleaseDir) -> Out {
+    fn releasedir<G: Giving + Drop>(
+        &self,
+        asked: &Asked,
+        giving: G,
+        operation: &ReleaseDir,
+    ) -> Out {
         let (fh, flags) = (operation.file_handle(), operation.flags());
-        let reply = asked.reply();
+        let reply = giving.reply(asked);
         self.filesystem
             .releasedir(&asked.request, asked.node, fh, flags, reply)
             .into_out()
     }
 
     #[inline(always)]
-    fn fsyncdir(&self, asked: &Asked, operation: &FSyncDir) -> Out {
+    fn fsyncdir<G: Giving + Drop>(&self, asked: &Asked, giving: G, operation: &FSyncDir) -> Out {
         let (fh, datasync) = (operation.file_handle(), operation.fdatasync());
-        let reply = asked.reply();
+        let reply = giving.reply(asked);
         self.filesystem
             .fsyncdir(&asked.request, asked.node, fh, datasync, reply)
             .into_out()
     }
 
     #[inline(always)]
-    fn getlk(&self, asked: &Asked, operation: &GetLk) -> Out {
+    fn getlk<G: Giving + Drop>(&self, asked: &Asked, giving: G, operation: &GetLk) -> Out {
         let (fh, owner, lock) = (
             operation.file_handle(),
             operation.lock_owner(),
             operation.lock(),
         );
         let (start, end) = lock.range;
-        let reply = asked.reply();
+        let reply = giving.reply(asked);
         self.filesystem
             .getlk(
                 &asked.request,
@@ -402,14 +427,14 @@ impl<FS: Filesystem> Handler for Asking<FS> {
     }
 
     #[inline(always)]
-    fn setlk(&self, asked: &Asked, operation: &SetLk) -> Out {
+    fn setlk<G: Giving + Drop>(&self, asked: &Asked, giving: G, operation: &SetLk) -> Out {
         let (fh, owner, lock) = (
             operation.file_handle(),
             operation.lock_owner(),
             operation.lock(),
         );
         let (start, end) = lock.range;
-        let reply = asked.reply();
+        let reply = giving.reply(asked);
         self.filesystem
             .setlk(
                 &asked.request,
@@ -427,17 +452,17 @@ impl<FS: Filesystem> Handler for Asking<FS> {
     }
 
     #[inline(always)]
-    fn access(&self, asked: &Asked, operation: &Access) -> Out {
-        let reply = asked.reply();
+    fn access<G: Giving + Drop>(&self, asked: &Asked, giving: G, operation: &Access) -> Out {
+        let reply = giving.reply(asked);
         self.filesystem
             .access(&asked.request, asked.node, operation.mask(), reply)
             .into_out()
     }
 
     #[inline(always)]
-    fn create(&self, asked: &Asked, operation: &Create<'_>) -> Out {
+    fn create<G: Giving + Drop>(&self, asked: &Asked, giving: G, operation: &Create<'_>) -> Out {
         let (mode, umask) = (operation.mode(), operation.umask());
-        let reply = asked.reply();
+        let reply = giving.reply(asked);
         self.filesystem
             .create(
                 &asked.request,
@@ -452,8 +477,8 @@ impl<FS: Filesystem> Handler for Asking<FS> {
     }
 
     #[inline(always)]
-    fn bmap(&self, asked: &Asked, operation: &BMap) -> Out {
-        let reply = asked.reply();
+    fn bmap<G: Giving + Drop>(&self, asked: &Asked, giving: G, operation: &BMap) -> Out {
+        let reply = giving.reply(asked);
         self.filesystem
             .bmap(
                 &asked.request,
@@ -466,7 +491,7 @@ impl<FS: Filesystem> Handler for Asking<FS> {
     }
 
     #[inline(always)]
-    fn ioctl(&self, asked: &Asked, operation: &IoCtl<'_>) -> Out {
+    fn ioctl<G: Giving + Drop>(&self, asked: &Asked, giving: G, operation: &IoCtl<'_>) -> Out {
         if operation.unrestricted() {
             return asked.refusal(Errno::ENOSYS);
         }
@@ -476,7 +501,7 @@ impl<FS: Filesystem> Handler for Asking<FS> {
             operation.command(),
         );
         let (in_data, out_size) = (operation.in_data(), operation.out_size());
-        let reply = asked.reply();
+        let reply = giving.reply(asked);
         self.filesystem
             .ioctl(
                 &asked.request,
@@ -492,7 +517,13 @@ impl<FS: Filesystem> Handler for Asking<FS> {
     }
 
     #[inline(always)]
-    fn poll(&self, asked: &Asked, notifier: &mut Notifier, operation: &Poll) -> Out {
+    fn poll<G: Giving + Drop>(
+        &self,
+        asked: &Asked,
+        giving: G,
+        notifier: &mut Notifier,
+        operation: &Poll,
+    ) -> Out {
         let ph = match notifier.poll_notifier(operation.kernel_handle()) {
             Ok(ph) => ph,
             Err(_) => return asked.refusal(Errno::ENOMEM),
@@ -502,14 +533,19 @@ impl<FS: Filesystem> Handler for Asking<FS> {
             operation.events(),
             operation.flags(),
         );
-        let reply = asked.reply();
+        let reply = giving.reply(asked);
         self.filesystem
             .poll(&asked.request, asked.node, fh, ph, events, flags, reply)
             .into_out()
     }
 
     #[inline(always)]
-    fn batch_forget(&self, asked: &Asked, operation: &BatchForget<'_>) -> Out {
+    fn batch_forget<G: Giving + Drop>(
+        &self,
+        asked: &Asked,
+        _giving: G,
+        operation: &BatchForget<'_>,
+    ) -> Out {
         let mark = self
             .filesystem
             .batch_forget(&asked.request, operation.nodes());
@@ -517,7 +553,7 @@ impl<FS: Filesystem> Handler for Asking<FS> {
     }
 
     #[inline(always)]
-    fn fallocate(&self, asked: &Asked, operation: &FAllocate) -> Out {
+    fn fallocate<G: Giving + Drop>(&self, asked: &Asked, giving: G, operation: &FAllocate) -> Out {
         let offset = match operation.offset() {
             Ok(offset) => offset,
             Err(error) => return asked.refusal(error),
@@ -527,25 +563,30 @@ impl<FS: Filesystem> Handler for Asking<FS> {
             Err(error) => return asked.refusal(error),
         };
         let (fh, mode) = (operation.file_handle(), operation.mode());
-        let reply = asked.reply();
+        let reply = giving.reply(asked);
         self.filesystem
             .fallocate(&asked.request, asked.node, fh, offset, length, mode, reply)
             .into_out()
     }
 
     #[inline(always)]
-    fn readdirplus(&self, asked: &Asked, operation: &ReadDirPlus) -> Out {
+    fn readdirplus<G: Giving + Drop>(
+        &self,
+        asked: &Asked,
+        giving: G,
+        operation: &ReadDirPlus,
+    ) -> Out {
         let (fh, offset) = (operation.file_handle(), operation.offset());
-        let reply = asked.listing(operation.size());
+        let reply = giving.listing(asked, operation.size());
         self.filesystem
             .readdirplus(&asked.request, asked.node, fh, offset, reply)
             .into_out()
     }
 
     #[inline(always)]
-    fn rename2(&self, asked: &Asked, operation: &Rename2<'_>) -> Out {
+    fn rename2<G: Giving + Drop>(&self, asked: &Asked, giving: G, operation: &Rename2<'_>) -> Out {
         let (from, to) = (operation.from(), operation.to());
-        let reply = asked.reply();
+        let reply = giving.reply(asked);
         self.filesystem
             .rename(
                 &asked.request,
@@ -560,9 +601,9 @@ impl<FS: Filesystem> Handler for Asking<FS> {
     }
 
     #[inline(always)]
-    fn lseek(&self, asked: &Asked, operation: &Lseek) -> Out {
+    fn lseek<G: Giving + Drop>(&self, asked: &Asked, giving: G, operation: &Lseek) -> Out {
         let (offset, whence) = (operation.offset(), operation.whence());
-        let reply = asked.reply();
+        let reply = giving.reply(asked);
         self.filesystem
             .lseek(
                 &asked.request,
@@ -576,7 +617,12 @@ impl<FS: Filesystem> Handler for Asking<FS> {
     }
 
     #[inline(always)]
-    fn copy_file_range(&self, asked: &Asked, operation: &CopyFileRange) -> Out {
+    fn copy_file_range<G: Giving + Drop>(
+        &self,
+        asked: &Asked,
+        giving: G,
+        operation: &CopyFileRange,
+    ) -> Out {
         let src = match operation.src() {
             Ok(src) => src,
             Err(error) => return asked.refusal(error),
@@ -586,7 +632,7 @@ impl<FS: Filesystem> Handler for Asking<FS> {
             Err(error) => return asked.refusal(error),
         };
         let (len, flags) = (operation.len(), operation.flags());
-        let reply = asked.reply();
+        let reply = giving.reply(asked);
         self.filesystem
             .copy_file_range(
                 &asked.request,
@@ -606,4 +652,6 @@ impl<FS: Filesystem> Handler for Asking<FS> {
     ghost owes_fixed = { λ handler request errno seq id. refl };
 
     ghost owes_end = { λ handler request seq id. refl };
+
+    ghost owes_later = { λ handler request call seq id later. inr (inr (FS.deferral ∙ later, refl)) };
 }

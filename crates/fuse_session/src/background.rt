@@ -1,9 +1,10 @@
 // Sessions in the background.
-ghost use Rattle.std.specs.Prelude.{◌≡◌, ◌≢◌, ◌<◌, ◌⊎◌, ◌↔◌, ℕ, Ok, Err, Some, IfErr, IfOk, MatchResult, false};
+ghost use Rattle.std.specs.Prelude.{◌≡◌, ◌≢◌, ◌<◌, ◌⊎◌, ◌↔◌, ℕ, Ok, Err, Some, IfErr, IfOk, MatchResult};
 ghost use Rattle.fuse_notify.specs.Queueing.{fresh_door};
 ghost use Rattle.fuse_session.specs.Complete.{AcceptsAll, HandshakeWell, RunWell};
+ghost use Rattle.fuse_session.specs.Accounted.{NeverLater};
 ghost use Rattle.fuse_session.specs.Exchange.{Closed, Mounted, setup};
-ghost use Rattle.fuse_session.specs.Headline.{Headline, Lossless};
+ghost use Rattle.fuse_session.specs.Headline.{Headline, LaterHeadline, Lossless};
 ghost use Rattle.fuse_session.specs.Refused.{IsUntouched, OfOptions, OptionsWell, RefusedAs, Untouched};
 ghost use Rattle.fuse_session.specs.Session.{EndsRun, IsOpened, OpensNone, Ran, Serves, setup_for};
 ghost use Rattle.fuse_session.specs.Spawning.{HasEnded, IfEnded, IfRefused, StartsOpened, refused_by};
@@ -48,11 +49,21 @@ impl<FS: Filesystem, S: Source, K: Sink + Send> BackgroundSession<FS, S, K> {
             Mounted (setup_for FS.promise page self) fs result.filesystem result.outcome
             source (S.told result.source) sink (K.told result.sink) result.transcript }
 
-        // One reply for each message: see `Headline`.
-        ensures headline { (page : ℕ) (fs : _) (source : SourceState) (sink : SinkState) →
+        // One reply for each message, where none comes later: see `Headline`.
+        ensures headline { NeverLater self.threads FS.promise.defers →
+            (page : ℕ) (fs : _) (source : SourceState) (sink : SinkState) →
             IsOpened FS.promise page fs source sink self →
             result.outcome ≡ Ok tt → Lossless sink (K.told result.sink) result.transcript →
             Headline FS.promise page self.acl self.owner fs source (S.told result.source) sink (K.told result.sink) }
+
+        // One reply for each message, at once or later: see `LaterHeadline`.
+        ensures later { (page : ℕ) (fs : _) (source : SourceState) (sink : SinkState) →
+            IsOpened FS.promise page fs source sink self →
+            result.outcome ≡ Ok tt → Lossless sink (K.told result.sink) result.transcript →
+            LaterHeadline FS.promise page self.acl self.owner fs source (S.told result.source) sink (K.told result.sink) }
+
+        // Where no reply comes later, all could be recorded.
+        ensures recorded { NeverLater self.threads FS.promise.defers → result.transcript.unrecorded ≡ 0 }
 
         // It ends well where nothing is amiss.
         ensures complete { RunWell self (S.told result.source) → result.outcome ≡ Ok tt }
@@ -102,8 +113,6 @@ pub fn spawn_mount<
     config: &Config,
 ) -> Result<BackgroundSession<FS, S, K>, SpawnError<FS, S, K>>
     requires page { 0 < page_size }
-    // No reply comes after its method has returned.
-    requires prompt { FS.DEFERS ≡ false }
 
     // A handshake that was accepted opened it.
     ensures opened { IfOk result (λ s. IsOpened FS.promise page_size filesystem (S.told source) (K.told sink) s
@@ -112,7 +121,8 @@ pub fn spawn_mount<
     // So it did where it was refused, and then the spawner's count rose.
     ensures refused { IfErr result (IfRefused (λ s.
         IsOpened FS.promise page_size filesystem (S.told source) (K.told sink) s
-        × Serves config.now.acl owner config.now.n_threads s × Rose (refused_by spawner.old) (refused_by spawner.new))) }
+        × Serves config.now.acl owner config.now.n_threads s
+        × Rose (refused_by spawner.old) (refused_by spawner.new))) }
 
     // The spawner is as it was where none was opened, and else it counted that it refused to start one, or that it did not.
     ensures counted { StartsOpened result spawner.old spawner.new }
@@ -121,6 +131,9 @@ pub fn spawn_mount<
     ensures ended { IfErr result (IfEnded (λ e. ¬ (Untouched e.outcome) →
         Closed (setup FS.promise page_size config.now owner) filesystem e.filesystem e.outcome
         (S.told source) (S.told e.source) (K.told sink) (K.told e.sink) e.transcript)) }
+
+    // All could be recorded where it was not opened.
+    ensures recorded { IfErr result (IfEnded (λ e. e.transcript.unrecorded ≡ 0)) }
 
     // Its error is never Ok, and never that no thread is to serve.
     ensures causes { IfErr result (IfEnded (λ e. OpensNone e.outcome ⊎ Untouched e.outcome)) }

@@ -2,7 +2,7 @@
 ghost use Rattle.std.specs.Prelude.{◌≡◌, [], Bool, option_map};
 ghost use Rattle.fuse_request.specs.Call.{Call, handle_number, owner_number};
 ghost use Rattle.fuse_request.specs.Forgets.{rows_of};
-ghost use Rattle.fuse_session.specs.Owed.{Answered};
+ghost use Rattle.fuse_session.specs.Owed.{Answers};
 ghost use Rattle.fuse_session.specs.Promise.{Promise};
 
 use fuse_config::KernelConfig;
@@ -20,13 +20,16 @@ use fuse_wire::{
 
 /// A filesystem, as a session serves it. The session calls `init` at most once and before any request, then a method
 /// for each request that its verdict sends here, and `destroy` last. A method that is to answer is handed the reply,
-/// made for that request alone, and gives back what it spent the reply into.
+/// made for that request alone, and gives back what it spent the reply into: an answer, or, where the reply has a door,
+/// the mark of one that comes later.
 pub trait Filesystem: Send + Sync {
     /// What it may do and answer, over plain data. What is proved of a session speaks of its filesystem by this alone.
     ghost promise: { Promise Self };
 
-    /// Whether a reply may be given after its method has returned. No reply can do so yet, and a session asks for
-    /// false.
+    /// Whether a reply may be given after its method has returned. Where it is true and more than one thread serves, a
+    /// reply has a door, unless no memory was to be had for it (`NoDoor::Starved`): `defer` puts the reply off by it, and
+    /// gives a token to keep. Else a reply has none (`NoDoor::Shut`), so that a method has to answer before it returns:
+    /// on one thread nothing else would be served meanwhile. A session asks for false yet.
     const DEFERS: bool;
 
     /// That constant, as a contract names it.
@@ -44,7 +47,8 @@ pub trait Filesystem: Send + Sync {
     /// entry whose inode is 0 says the same, and is kept as long as the entry says. Each other entry counts as one
     /// lookup of its inode, until `forget` gives it back. `defaults::lookup` answers ENOSYS, which the caller gets.
     fn lookup(&self, request: &Request, parent: INodeNo, name: &[u8], reply: ReplyEntry) -> Replied
-        ensures { Answered promise.may_answer self.now request.now (Call.Lookup parent.0 name.now) reply.id result };
+        ensures { Answers promise.may_answer self.now request.now
+            (Call.Lookup parent.0 name.now) reply.id reply.door result };
 
     /// FORGET: the kernel gives back `nlookup` lookups of this inode. Each inode that `lookup`, `symlink`, `mknod`,
     /// `mkdir`, `link` or `create` answered counted as one, and so did each entry that `readdirplus` listed, but for `.`
@@ -66,8 +70,8 @@ pub trait Filesystem: Send + Sync {
         fh: Option<FileHandle>,
         reply: ReplyAttr,
     ) -> Replied
-        ensures { Answered promise.may_answer self.now request.now
-            (Call.GetAttr ino.0 (handle_number fh)) reply.id result };
+        ensures { Answers promise.may_answer self.now request.now
+            (Call.GetAttr ino.0 (handle_number fh)) reply.id reply.door result };
 
     /// SETATTR: sets those attributes of this inode that are Some. The answer is all of them as they are then, as for
     /// `getattr`. `mode` is a whole `st_mode`, of which the kind does not change. `size` is in bytes: a file is cut
@@ -93,16 +97,16 @@ pub trait Filesystem: Send + Sync {
         flags: Option<BsdFileFlags>,
         reply: ReplyAttr,
     ) -> Replied
-        ensures { Answered promise.may_answer self.now request.now
+        ensures { Answers promise.may_answer self.now request.now
             (Call.SetAttr ino.0 mode uid gid size atime mtime ctime (handle_number fh)
-            crtime chgtime bkuptime (option_map (λ f. f.0) flags)) reply.id result };
+            crtime chgtime bkuptime (option_map (λ f. f.0) flags)) reply.id reply.door result };
 
     /// READLINK: where this symbolic link leads, as bytes without a zero byte behind them. The kernel asks each time
     /// that it follows the link, but may keep the answer where `FUSE_CACHE_SYMLINKS` was granted. It takes one byte less
     /// than a page at most: for a longer answer the caller gets EIO. `defaults::readlink` answers ENOSYS, which the
     /// caller gets.
     fn readlink(&self, request: &Request, ino: INodeNo, reply: ReplyData) -> Replied
-        ensures { Answered promise.may_answer self.now request.now (Call.ReadLink ino.0) reply.id result };
+        ensures { Answers promise.may_answer self.now request.now (Call.ReadLink ino.0) reply.id reply.door result };
 
     /// SYMLINK: makes a symbolic link under the name `link_name` in the directory `parent`. `target` is where it leads; it
     /// need not lead to anything. The answer is the new inode, of the kind Symlink, as `lookup` gives one. It counts as a
@@ -116,8 +120,8 @@ pub trait Filesystem: Send + Sync {
         target: &[u8],
         reply: ReplyEntry,
     ) -> Replied
-        ensures { Answered promise.may_answer self.now request.now
-            (Call.SymLink parent.0 link_name.now target.now) reply.id result };
+        ensures { Answers promise.may_answer self.now request.now
+            (Call.SymLink parent.0 link_name.now target.now) reply.id reply.door result };
 
     /// MKNOD: makes a file under a name, for `mknod(2)` and the like, and for each new regular file once `create` has
     /// answered ENOSYS. `mode` is its kind and its permissions, as in `st_mode`. The bits of `umask` are taken away from
@@ -135,8 +139,8 @@ pub trait Filesystem: Send + Sync {
         rdev: u32,
         reply: ReplyEntry,
     ) -> Replied
-        ensures { Answered promise.may_answer self.now request.now
-            (Call.MkNod parent.0 name.now mode umask rdev) reply.id result };
+        ensures { Answers promise.may_answer self.now request.now
+            (Call.MkNod parent.0 name.now mode umask rdev) reply.id reply.door result };
 
     /// MKDIR: makes a directory under a name. `mode` is its permissions, without a kind, and `umask` is as for `mknod`.
     /// The error for a name that is there already is EEXIST. The answer is as for `mknod`, of the kind Directory.
@@ -150,20 +154,22 @@ pub trait Filesystem: Send + Sync {
         umask: u32,
         reply: ReplyEntry,
     ) -> Replied
-        ensures { Answered promise.may_answer self.now request.now
-            (Call.MkDir parent.0 name.now mode umask) reply.id result };
+        ensures { Answers promise.may_answer self.now request.now
+            (Call.MkDir parent.0 name.now mode umask) reply.id reply.door result };
 
     /// UNLINK: takes a name, but not that of a directory, out of the directory `parent`. The inode may have other names.
     /// Even without one it may still be open, and the kernel may name it until it is released and its lookups are given
     /// back by `forget`. `defaults::unlink` answers ENOSYS, which the caller gets.
     fn unlink(&self, request: &Request, parent: INodeNo, name: &[u8], reply: ReplyEmpty) -> Replied
-        ensures { Answered promise.may_answer self.now request.now (Call.Unlink parent.0 name.now) reply.id result };
+        ensures { Answers promise.may_answer self.now request.now
+            (Call.Unlink parent.0 name.now) reply.id reply.door result };
 
     /// RMDIR: takes the name of an empty directory out of the directory `parent`. The kernel does not look whether it is
     /// empty: the error where it is not is ENOTEMPTY. The kernel may still name its inode, as after `unlink`.
     /// `defaults::rmdir` answers ENOSYS, which the caller gets.
     fn rmdir(&self, request: &Request, parent: INodeNo, name: &[u8], reply: ReplyEmpty) -> Replied
-        ensures { Answered promise.may_answer self.now request.now (Call.RmDir parent.0 name.now) reply.id result };
+        ensures { Answers promise.may_answer self.now request.now
+            (Call.RmDir parent.0 name.now) reply.id reply.door result };
 
     /// RENAME and RENAME2: what `name` means in `parent` is from now on `newname` in `newparent`. RENAME has no flags.
     /// What had the new name is replaced in the same step, a directory only where it is empty (ENOTEMPTY), and its inode
@@ -181,8 +187,8 @@ pub trait Filesystem: Send + Sync {
         flags: RenameFlags,
         reply: ReplyEmpty,
     ) -> Replied
-        ensures { Answered promise.may_answer self.now request.now
-            (Call.Rename parent.0 name.now newparent.0 newname.now flags.0) reply.id result };
+        ensures { Answers promise.may_answer self.now request.now
+            (Call.Rename parent.0 name.now newparent.0 newname.now flags.0) reply.id reply.door result };
 
     /// LINK: gives the inode `ino`, which is no directory, one more name, `newname` in the directory `newparent`. The
     /// answer is that same inode, with its attributes as they are then, and how long the kernel may rely on the name and
@@ -196,8 +202,8 @@ pub trait Filesystem: Send + Sync {
         newname: &[u8],
         reply: ReplyEntry,
     ) -> Replied
-        ensures { Answered promise.may_answer self.now request.now
-            (Call.Link ino.0 newparent.0 newname.now) reply.id result };
+        ensures { Answers promise.may_answer self.now request.now
+            (Call.Link ino.0 newparent.0 newname.now) reply.id reply.door result };
 
     /// OPEN: opens a regular file. `flags` are those of `open(2)` without `O_CREAT`, `O_EXCL` and `O_NOCTTY`, and
     /// without `O_TRUNC` unless `FUSE_ATOMIC_O_TRUNC` was granted. Unless it is mounted with `default_permissions` the
@@ -206,7 +212,8 @@ pub trait Filesystem: Send + Sync {
     /// ENOSYS is remembered by a kernel that offers `FUSE_NO_OPEN_SUPPORT`: this open and all later ones succeed with 0
     /// for `fh`, and no OPEN or RELEASE is sent again. `defaults::open` answers 0 and no flags.
     fn open(&self, request: &Request, ino: INodeNo, flags: OpenFlags, reply: ReplyOpen) -> Replied
-        ensures { Answered promise.may_answer self.now request.now (Call.Open ino.0 flags.0) reply.id result };
+        ensures { Answers promise.may_answer self.now request.now
+            (Call.Open ino.0 flags.0) reply.id reply.door result };
 
     /// READ: the bytes of an open file from `offset` on, `size` of them. `offset` and `size` are in bytes, and `offset`
     /// is at most `i64::MAX`. Fewer bytes than `size` are the end of the file, and none are past it; for more than
@@ -226,8 +233,8 @@ pub trait Filesystem: Send + Sync {
         lock_owner: Option<LockOwner>,
         reply: ReplyData,
     ) -> Replied
-        ensures { Answered promise.may_answer self.now request.now
-            (Call.Read ino.0 fh.0 offset size flags.0 (owner_number lock_owner)) reply.id result };
+        ensures { Answers promise.may_answer self.now request.now
+            (Call.Read ino.0 fh.0 offset size flags.0 (owner_number lock_owner)) reply.id reply.door result };
 
     /// WRITE: puts the bytes `written` into an open file from `offset` on, which is in bytes and at most `i64::MAX`.
     /// `fh`, `flags` and `lock_owner` are as for `read`. Where `write_flags` has `FUSE_WRITE_CACHE` the write comes
@@ -247,14 +254,15 @@ pub trait Filesystem: Send + Sync {
         lock_owner: Option<LockOwner>,
         reply: ReplyWrite,
     ) -> Replied
-        ensures { Answered promise.may_answer self.now request.now
-            (Call.Write ino.0 fh.0 offset written.now write_flags.0 flags.0 (owner_number lock_owner)) reply.id result };
+        ensures { Answers promise.may_answer self.now request.now
+            (Call.Write ino.0 fh.0 offset written.now write_flags.0 flags.0 (owner_number lock_owner))
+            reply.id reply.door result };
 
     /// STATFS: how full the filesystem is, as for `statfs(2)`. `ino` is the inode that the caller asks by, which may be
     /// any of the filesystem. The kernel asks each time. `defaults::statfs` answers no blocks and no inodes at all,
     /// blocks of 512 bytes, names of at most 255 bytes, and 0 for the size of a block that is counted.
     fn statfs(&self, request: &Request, ino: INodeNo, reply: ReplyStatfs) -> Replied
-        ensures { Answered promise.may_answer self.now request.now (Call.StatFs ino.0) reply.id result };
+        ensures { Answers promise.may_answer self.now request.now (Call.StatFs ino.0) reply.id reply.door result };
 
     /// RELEASE: an open file is no longer used, by a descriptor or a mapping. It comes once for each `open` that
     /// opened it, and `fh` is free then. `flags` are those that the file was open with. `lock_owner` is Some where
@@ -270,8 +278,8 @@ pub trait Filesystem: Send + Sync {
         flush: bool,
         reply: ReplyEmpty,
     ) -> Replied
-        ensures { Answered promise.may_answer self.now request.now
-            (Call.Release ino.0 fh.0 flags.0 (owner_number lock_owner) flush) reply.id result };
+        ensures { Answers promise.may_answer self.now request.now
+            (Call.Release ino.0 fh.0 flags.0 (owner_number lock_owner) flush) reply.id reply.door result };
 
     /// FSYNC: brings what was written to an open file to the disk, for `fsync(2)` and the like. Where `datasync` is
     /// true, as for `fdatasync(2)`, its contents are enough, without the attributes. The kernel has sent the writes that
@@ -285,7 +293,8 @@ pub trait Filesystem: Send + Sync {
         datasync: bool,
         reply: ReplyEmpty,
     ) -> Replied
-        ensures { Answered promise.may_answer self.now request.now (Call.FSync ino.0 fh.0 datasync) reply.id result };
+        ensures { Answers promise.may_answer self.now request.now
+            (Call.FSync ino.0 fh.0 datasync) reply.id reply.door result };
 
     /// SETXATTR: gives this inode the extended attribute `name`, which has its prefix (`user.` and the like). `value`
     /// may be empty. `flags` are those of `setxattr(2)`: with `XATTR_CREATE` (1) an attribute that is there already is
@@ -302,8 +311,8 @@ pub trait Filesystem: Send + Sync {
         position: u32,
         reply: ReplyEmpty,
     ) -> Replied
-        ensures { Answered promise.may_answer self.now request.now
-            (Call.SetXAttr ino.0 name.now value.now flags position) reply.id result };
+        ensures { Answers promise.may_answer self.now request.now
+            (Call.SetXAttr ino.0 name.now value.now flags position) reply.id reply.door result };
 
     /// GETXATTR: the value of the extended attribute `name` of this inode. Where `size` is 0 the answer is how many
     /// bytes it has, by `ReplyXattr::size`. Else it is the bytes, by `ReplyXattr::data`, and `size` is how many the
@@ -318,14 +327,16 @@ pub trait Filesystem: Send + Sync {
         size: u32,
         reply: ReplyXattr,
     ) -> Replied
-        ensures { Answered promise.may_answer self.now request.now (Call.GetXAttr ino.0 name.now size) reply.id result };
+        ensures { Answers promise.may_answer self.now request.now
+            (Call.GetXAttr ino.0 name.now size) reply.id reply.door result };
 
     /// LISTXATTR: the names of all extended attributes of this inode, one behind the other, with a zero byte after each.
     /// `size` is as for `getxattr`, and ERANGE too; the zero bytes count. For an empty name, or no zero byte at the end,
     /// the caller gets EIO. ENOSYS is remembered: this caller and all later ones get EOPNOTSUPP, and no LISTXATTR is
     /// sent again. `defaults::listxattr` answers ENOSYS.
     fn listxattr(&self, request: &Request, ino: INodeNo, size: u32, reply: ReplyXattr) -> Replied
-        ensures { Answered promise.may_answer self.now request.now (Call.ListXAttr ino.0 size) reply.id result };
+        ensures { Answers promise.may_answer self.now request.now
+            (Call.ListXAttr ino.0 size) reply.id reply.door result };
 
     /// REMOVEXATTR: takes the extended attribute `name` away from this inode. The error for one that is not there is
     /// ENODATA. ENOSYS is remembered: this caller and all later ones get EOPNOTSUPP, and no REMOVEXATTR is sent again.
@@ -337,7 +348,8 @@ pub trait Filesystem: Send + Sync {
         name: &[u8],
         reply: ReplyEmpty,
     ) -> Replied
-        ensures { Answered promise.may_answer self.now request.now (Call.RemoveXAttr ino.0 name.now) reply.id result };
+        ensures { Answers promise.may_answer self.now request.now
+            (Call.RemoveXAttr ino.0 name.now) reply.id reply.door result };
 
     /// FLUSH: a descriptor of an open file is closed. It comes at each `close(2)`, so that one open may have many, or
     /// none. Its error is that of the `close(2)`: here failed writes can be told. Nothing need be brought to the disk.
@@ -352,7 +364,8 @@ pub trait Filesystem: Send + Sync {
         lock_owner: LockOwner,
         reply: ReplyEmpty,
     ) -> Replied
-        ensures { Answered promise.may_answer self.now request.now (Call.Flush ino.0 fh.0 lock_owner.0) reply.id result };
+        ensures { Answers promise.may_answer self.now request.now
+            (Call.Flush ino.0 fh.0 lock_owner.0) reply.id reply.door result };
 
     /// OPENDIR: opens a directory. `flags` are as for `open`. The answer is a number, which is `fh` of each call on this
     /// open directory, and how the kernel treats it: with `FOPEN_CACHE_DIR` it may cache the entries, and with
@@ -366,7 +379,8 @@ pub trait Filesystem: Send + Sync {
         flags: OpenFlags,
         reply: ReplyOpen,
     ) -> Replied
-        ensures { Answered promise.may_answer self.now request.now (Call.OpenDir ino.0 flags.0) reply.id result };
+        ensures { Answers promise.may_answer self.now request.now
+            (Call.OpenDir ino.0 flags.0) reply.id reply.door result };
 
     /// READDIR: the entries of an open directory, as many as fit into `reply`, which has the size that the kernel asks
     /// for. The first time `offset` is 0. Later it is the one that an entry was added with, and the listing goes on
@@ -382,8 +396,8 @@ pub trait Filesystem: Send + Sync {
         reply: ReplyDirectory,
     ) -> Replied
         requires { reply.held ≡ [] }
-        ensures { Answered promise.may_answer self.now request.now
-            (Call.ReadDir ino.0 fh.0 offset reply.size) reply.id result };
+        ensures { Answers promise.may_answer self.now request.now
+            (Call.ReadDir ino.0 fh.0 offset reply.size) reply.id reply.door result };
 
     /// RELEASEDIR: an open directory is no longer used. It comes once for each `opendir` that opened it, and `fh` is
     /// free then. `flags` are those that the directory was open with. No caller gets an error of it.
@@ -396,7 +410,8 @@ pub trait Filesystem: Send + Sync {
         flags: OpenFlags,
         reply: ReplyEmpty,
     ) -> Replied
-        ensures { Answered promise.may_answer self.now request.now (Call.ReleaseDir ino.0 fh.0 flags.0) reply.id result };
+        ensures { Answers promise.may_answer self.now request.now
+            (Call.ReleaseDir ino.0 fh.0 flags.0) reply.id reply.door result };
 
     /// FSYNCDIR: brings what changed in an open directory to the disk, for `fsync(2)` of a directory. Where `datasync`
     /// is true its entries are enough, without its attributes. ENOSYS is remembered: this call and all later ones
@@ -409,7 +424,8 @@ pub trait Filesystem: Send + Sync {
         datasync: bool,
         reply: ReplyEmpty,
     ) -> Replied
-        ensures { Answered promise.may_answer self.now request.now (Call.FSyncDir ino.0 fh.0 datasync) reply.id result };
+        ensures { Answers promise.may_answer self.now request.now
+            (Call.FSyncDir ino.0 fh.0 datasync) reply.id reply.door result };
 
     /// GETLK: which lock of another owner stands in the way of one that `lock_owner` may want, for `F_GETLK` of
     /// `fcntl(2)`. It would be of the type `typ`, `F_RDLCK` (0) or `F_WRLCK` (1), on the bytes from `start` up to and
@@ -429,16 +445,16 @@ pub trait Filesystem: Send + Sync {
         pid: u32,
         reply: ReplyLock,
     ) -> Replied
-        ensures { Answered promise.may_answer self.now request.now
-            (Call.GetLk ino.0 fh.0 lock_owner.0 start end typ pid) reply.id result };
+        ensures { Answers promise.may_answer self.now request.now
+            (Call.GetLk ino.0 fh.0 lock_owner.0 start end typ pid) reply.id reply.door result };
 
     /// SETLK and SETLKW: takes a lock of the type `typ` for `lock_owner`, or gives up what it has with `F_UNLCK`. Types
     /// and range are as for `getlk`, and `pid` is the process, which `getlk` tells of a lock. Where another's lock
-    /// stands in the way the error is EAGAIN, but where `sleep` is true (SETLKW) the method waits for it; the session
-    /// refuses INTERRUPT, so that no signal ends the wait. It is sent for `fcntl(2)` where `FUSE_POSIX_LOCKS` was
-    /// granted, and for `flock(2)`, on the whole file, where `FUSE_FLOCK_LOCKS` was; nothing here tells the two apart.
-    /// Without these the kernel keeps the locks itself. ENOSYS is not remembered. `defaults::setlk` answers ENOSYS,
-    /// which the caller gets.
+    /// stands in the way the error is EAGAIN, but where `sleep` is true (SETLKW) the method puts the reply off until
+    /// the lock is free, or, where the reply has no door, waits for it; the session refuses INTERRUPT, so that no signal
+    /// ends the wait. It is sent for `fcntl(2)` where `FUSE_POSIX_LOCKS` was granted, and for `flock(2)`, on the whole
+    /// file, where `FUSE_FLOCK_LOCKS` was; nothing here tells the two apart. Without these the kernel keeps the locks
+    /// itself. ENOSYS is not remembered. `defaults::setlk` answers ENOSYS, which the caller gets.
     fn setlk(
         &self,
         request: &Request,
@@ -452,8 +468,8 @@ pub trait Filesystem: Send + Sync {
         sleep: bool,
         reply: ReplyEmpty,
     ) -> Replied
-        ensures { Answered promise.may_answer self.now request.now
-            (Call.SetLk ino.0 fh.0 lock_owner.0 start end typ pid sleep) reply.id result };
+        ensures { Answers promise.may_answer self.now request.now
+            (Call.SetLk ino.0 fh.0 lock_owner.0 start end typ pid sleep) reply.id reply.door result };
 
     /// ACCESS: whether the caller may do all that `mask` says with this inode: `R_OK`, `W_OK` and `X_OK`, or no bit,
     /// which is `F_OK`. It is sent for `access(2)` and `chdir(2)`, unless the filesystem is mounted with
@@ -467,7 +483,8 @@ pub trait Filesystem: Send + Sync {
         mask: AccessFlags,
         reply: ReplyEmpty,
     ) -> Replied
-        ensures { Answered promise.may_answer self.now request.now (Call.Access ino.0 mask.0) reply.id result };
+        ensures { Answers promise.may_answer self.now request.now
+            (Call.Access ino.0 mask.0) reply.id reply.door result };
 
     /// CREATE: makes a regular file under a name and opens it, for `open(2)` with `O_CREAT` where the kernel knows of no
     /// such name. `mode` and `umask` are as for `mknod`. `flags` are those of `open(2)` without `O_NOCTTY`. Where the
@@ -484,8 +501,8 @@ pub trait Filesystem: Send + Sync {
         flags: i32,
         reply: ReplyCreate,
     ) -> Replied
-        ensures { Answered promise.may_answer self.now request.now
-            (Call.Create parent.0 name.now mode umask flags) reply.id result };
+        ensures { Answers promise.may_answer self.now request.now
+            (Call.Create parent.0 name.now mode umask flags) reply.id reply.door result };
 
     /// BMAP: in which block of the device the block `idx` of this file lies. Both are counted in blocks of `blocksize`
     /// bytes. It is sent for `FIBMAP` of `ioctl(2)` and the like, and only where the filesystem is mounted from a block
@@ -499,7 +516,8 @@ pub trait Filesystem: Send + Sync {
         idx: u64,
         reply: ReplyBmap,
     ) -> Replied
-        ensures { Answered promise.may_answer self.now request.now (Call.BMap ino.0 blocksize idx) reply.id result };
+        ensures { Answers promise.may_answer self.now request.now
+            (Call.BMap ino.0 blocksize idx) reply.id reply.door result };
 
     /// IOCTL: the command `cmd` of `ioctl(2)` on an open file, or on an open directory where `flags` has
     /// `FUSE_IOCTL_DIR`. Other flags say that a program of 32 bits calls. The kernel reads off the command what goes in
@@ -518,8 +536,8 @@ pub trait Filesystem: Send + Sync {
         out_size: u32,
         reply: ReplyIoctl,
     ) -> Replied
-        ensures { Answered promise.may_answer self.now request.now
-            (Call.IoCtl ino.0 fh.0 flags.0 cmd in_data.now out_size) reply.id result };
+        ensures { Answers promise.may_answer self.now request.now
+            (Call.IoCtl ino.0 fh.0 flags.0 cmd in_data.now out_size) reply.id reply.door result };
 
     /// POLL: which of `events` an open file is ready for now. `fh` is the number that the file was opened with. The
     /// answer is given at once. Where `flags` has `FUSE_POLL_SCHEDULE_NOTIFY` and the file is ready for none of them,
@@ -537,8 +555,8 @@ pub trait Filesystem: Send + Sync {
         flags: PollFlags,
         reply: ReplyPoll,
     ) -> Replied
-        ensures { Answered promise.may_answer self.now request.now
-            (Call.Poll ino.0 fh.0 ph.handle events.0 flags.0) reply.id result };
+        ensures { Answers promise.may_answer self.now request.now
+            (Call.Poll ino.0 fh.0 ph.handle events.0 flags.0) reply.id reply.door result };
 
     /// BATCH_FORGET: the kernel gives back lookups of several inodes at once. From 7.16 on it sends this in place of
     /// FORGET where more than one inode waits to be forgotten. Each row of `nodes` is an inode and how many of its
@@ -564,8 +582,8 @@ pub trait Filesystem: Send + Sync {
         mode: i32,
         reply: ReplyEmpty,
     ) -> Replied
-        ensures { Answered promise.may_answer self.now request.now
-            (Call.FAllocate ino.0 fh.0 offset length mode) reply.id result };
+        ensures { Answers promise.may_answer self.now request.now
+            (Call.FAllocate ino.0 fh.0 offset length mode) reply.id reply.door result };
 
     /// READDIRPLUS: as `readdir`, and each entry has what `lookup` answers for its name, which the kernel may rely on as
     /// long. Each counts as one lookup of its inode, but `.` and `..` do not. It is sent only where
@@ -581,8 +599,8 @@ pub trait Filesystem: Send + Sync {
         reply: ReplyDirectoryPlus,
     ) -> Replied
         requires { reply.held ≡ [] }
-        ensures { Answered promise.may_answer self.now request.now
-            (Call.ReadDirPlus ino.0 fh.0 offset reply.size) reply.id result };
+        ensures { Answers promise.may_answer self.now request.now
+            (Call.ReadDirPlus ino.0 fh.0 offset reply.size) reply.id reply.door result };
 
     /// LSEEK: where in an open file, from `offset` on, the next contents begin (`whence` is `SEEK_DATA`, 3), or the next
     /// hole (`SEEK_HOLE`, 4). The kernel does the other kinds of `lseek(2)` itself. `offset` is in bytes, and any i64
@@ -598,7 +616,8 @@ pub trait Filesystem: Send + Sync {
         whence: i32,
         reply: ReplyLseek,
     ) -> Replied
-        ensures { Answered promise.may_answer self.now request.now (Call.Lseek ino.0 fh.0 offset whence) reply.id result };
+        ensures { Answers promise.may_answer self.now request.now
+            (Call.Lseek ino.0 fh.0 offset whence) reply.id reply.door result };
 
     /// COPY_FILE_RANGE: copies `len` bytes between two open files of this filesystem, or within one, for
     /// `copy_file_range(2)`: from `offset_in` of the first on, to `offset_out` of the second. Offsets are in bytes, and
@@ -619,8 +638,9 @@ pub trait Filesystem: Send + Sync {
         flags: CopyFileRangeFlags,
         reply: ReplyWrite,
     ) -> Replied
-        ensures { Answered promise.may_answer self.now request.now
-            (Call.CopyFileRange ino_in.0 fh_in.0 offset_in ino_out.0 fh_out.0 offset_out len flags.0) reply.id result };
+        ensures { Answers promise.may_answer self.now request.now
+            (Call.CopyFileRange ino_in.0 fh_in.0 offset_in ino_out.0 fh_out.0 offset_out len flags.0)
+            reply.id reply.door result };
 
     /// The session is over. It is called once and last on each end of a session, but for the want of memory at its
     /// start, where nothing is called.

@@ -1,17 +1,18 @@
 // What each operation of a request comes to.
-ghost use Rattle.std.specs.Prelude.{◌≡◌, ℕ};
+ghost use Rattle.std.specs.Prelude.{◌≡◌, ℕ, Bool, IsTrue};
 ghost use Rattle.fuse_reply.specs.Answer.Answer.{Empty, Error};
 ghost use Rattle.fuse_reply.specs.Frame.{reply};
 ghost use Rattle.fuse_reply.specs.declared.out.Out.{Out as Goes};
-ghost use Rattle.fuse_reply.specs.declared.out.Out.TheVariants.{Frame};
+ghost use Rattle.fuse_reply.specs.declared.out.Out.TheVariants.{Frame, Deferred};
+ghost use Rattle.fuse_request.specs.Call.{Call};
 ghost use Rattle.fuse_request.specs.declared.operation.Operation.{Operation};
 ghost use Rattle.fuse_request.specs.declared.request.Request.{Request};
 ghost use Rattle.fuse_session.specs.Asked.{IsOwed};
-ghost use Rattle.fuse_workers.specs.Progress.{IsPrompt};
 ghost use Rattle.fuse_session.specs.Verdict.{Verdict};
-ghost use Rattle.fuse_session.specs.Verdict.Verdict.{Ends, Fixed};
+ghost use Rattle.fuse_session.specs.Verdict.Verdict.{Calls, Ends, Fixed};
 
 use crate::asked::Asked;
+use crate::giving::Giving;
 use fuse_notify::Notifier;
 use fuse_reply::Out;
 use fuse_request::{
@@ -28,166 +29,158 @@ pub(crate) trait Handler {
     /// What a request is owed by its verdict, its message's number and its id.
     ghost owes: { Self → Request → Verdict → (seq id : ℕ) → Goes → Type 0 };
 
-    fn lookup(&self, asked: &Asked, operation: &Lookup<'_>) -> Out
-        ensures owed { IsOwed (owes self.now) asked.now (Operation.Lookup operation.now) result }
-        ensures prompt { IsPrompt result };
+    /// Whether a reply may be given after its method has returned.
+    const DEFERS: bool;
 
-    fn forget(&self, asked: &Asked, operation: &Forget) -> Out
-        ensures owed { IsOwed (owes self.now) asked.now (Operation.Forget operation.now) result }
-        ensures prompt { IsPrompt result };
+    /// That constant, as a contract names it.
+    ghost DEFERS: { Bool };
 
-    fn getattr(&self, asked: &Asked, operation: &GetAttr) -> Out
-        ensures owed { IsOwed (owes self.now) asked.now (Operation.GetAttr operation.now) result }
-        ensures prompt { IsPrompt result };
+    fn lookup<G: Giving + Drop>(&self, asked: &Asked, giving: G, operation: &Lookup<'_>) -> Out
+        ensures { IsOwed (owes self.now) (G.door giving) asked.now (Operation.Lookup operation.now) result };
 
-    fn setattr(&self, asked: &Asked, operation: &SetAttr) -> Out
-        ensures owed { IsOwed (owes self.now) asked.now (Operation.SetAttr operation.now) result }
-        ensures prompt { IsPrompt result };
+    fn forget<G: Giving + Drop>(&self, asked: &Asked, giving: G, operation: &Forget) -> Out
+        ensures { IsOwed (owes self.now) (G.door giving) asked.now (Operation.Forget operation.now) result };
 
-    fn readlink(&self, asked: &Asked, operation: &ReadLink) -> Out
-        ensures owed { IsOwed (owes self.now) asked.now (Operation.ReadLink operation.now) result }
-        ensures prompt { IsPrompt result };
+    fn getattr<G: Giving + Drop>(&self, asked: &Asked, giving: G, operation: &GetAttr) -> Out
+        ensures { IsOwed (owes self.now) (G.door giving) asked.now (Operation.GetAttr operation.now) result };
 
-    fn symlink(&self, asked: &Asked, operation: &SymLink<'_>) -> Out
-        ensures owed { IsOwed (owes self.now) asked.now (Operation.SymLink operation.now) result }
-        ensures prompt { IsPrompt result };
+    fn setattr<G: Giving + Drop>(&self, asked: &Asked, giving: G, operation: &SetAttr) -> Out
+        ensures { IsOwed (owes self.now) (G.door giving) asked.now (Operation.SetAttr operation.now) result };
 
-    fn mknod(&self, asked: &Asked, operation: &MkNod<'_>) -> Out
-        ensures owed { IsOwed (owes self.now) asked.now (Operation.MkNod operation.now) result }
-        ensures prompt { IsPrompt result };
+    fn readlink<G: Giving + Drop>(&self, asked: &Asked, giving: G, operation: &ReadLink) -> Out
+        ensures { IsOwed (owes self.now) (G.door giving) asked.now (Operation.ReadLink operation.now) result };
 
-    fn mkdir(&self, asked: &Asked, operation: &MkDir<'_>) -> Out
-        ensures owed { IsOwed (owes self.now) asked.now (Operation.MkDir operation.now) result }
-        ensures prompt { IsPrompt result };
+    fn symlink<G: Giving + Drop>(&self, asked: &Asked, giving: G, operation: &SymLink<'_>) -> Out
+        ensures { IsOwed (owes self.now) (G.door giving) asked.now (Operation.SymLink operation.now) result };
 
-    fn unlink(&self, asked: &Asked, operation: &Unlink<'_>) -> Out
-        ensures owed { IsOwed (owes self.now) asked.now (Operation.Unlink operation.now) result }
-        ensures prompt { IsPrompt result };
+    fn mknod<G: Giving + Drop>(&self, asked: &Asked, giving: G, operation: &MkNod<'_>) -> Out
+        ensures { IsOwed (owes self.now) (G.door giving) asked.now (Operation.MkNod operation.now) result };
 
-    fn rmdir(&self, asked: &Asked, operation: &RmDir<'_>) -> Out
-        ensures owed { IsOwed (owes self.now) asked.now (Operation.RmDir operation.now) result }
-        ensures prompt { IsPrompt result };
+    fn mkdir<G: Giving + Drop>(&self, asked: &Asked, giving: G, operation: &MkDir<'_>) -> Out
+        ensures { IsOwed (owes self.now) (G.door giving) asked.now (Operation.MkDir operation.now) result };
 
-    fn rename(&self, asked: &Asked, operation: &Rename<'_>) -> Out
-        ensures owed { IsOwed (owes self.now) asked.now (Operation.Rename operation.now) result }
-        ensures prompt { IsPrompt result };
+    fn unlink<G: Giving + Drop>(&self, asked: &Asked, giving: G, operation: &Unlink<'_>) -> Out
+        ensures { IsOwed (owes self.now) (G.door giving) asked.now (Operation.Unlink operation.now) result };
 
-    fn link(&self, asked: &Asked, operation: &Link<'_>) -> Out
-        ensures owed { IsOwed (owes self.now) asked.now (Operation.Link operation.now) result }
-        ensures prompt { IsPrompt result };
+    fn rmdir<G: Giving + Drop>(&self, asked: &Asked, giving: G, operation: &RmDir<'_>) -> Out
+        ensures { IsOwed (owes self.now) (G.door giving) asked.now (Operation.RmDir operation.now) result };
 
-    fn open(&self, asked: &Asked, operation: &Open) -> Out
-        ensures owed { IsOwed (owes self.now) asked.now (Operation.Open operation.now) result }
-        ensures prompt { IsPrompt result };
+    fn rename<G: Giving + Drop>(&self, asked: &Asked, giving: G, operation: &Rename<'_>) -> Out
+        ensures { IsOwed (owes self.now) (G.door giving) asked.now (Operation.Rename operation.now) result };
 
-    fn read(&self, asked: &Asked, operation: &Read) -> Out
-        ensures owed { IsOwed (owes self.now) asked.now (Operation.Read operation.now) result }
-        ensures prompt { IsPrompt result };
+    fn link<G: Giving + Drop>(&self, asked: &Asked, giving: G, operation: &Link<'_>) -> Out
+        ensures { IsOwed (owes self.now) (G.door giving) asked.now (Operation.Link operation.now) result };
 
-    fn write(&self, asked: &Asked, operation: &Write<'_>) -> Out
-        ensures owed { IsOwed (owes self.now) asked.now (Operation.Write operation.now) result }
-        ensures prompt { IsPrompt result };
+    fn open<G: Giving + Drop>(&self, asked: &Asked, giving: G, operation: &Open) -> Out
+        ensures { IsOwed (owes self.now) (G.door giving) asked.now (Operation.Open operation.now) result };
 
-    fn statfs(&self, asked: &Asked, operation: &StatFs) -> Out
-        ensures owed { IsOwed (owes self.now) asked.now (Operation.StatFs operation.now) result }
-        ensures prompt { IsPrompt result };
+    fn read<G: Giving + Drop>(&self, asked: &Asked, giving: G, operation: &Read) -> Out
+        ensures { IsOwed (owes self.now) (G.door giving) asked.now (Operation.Read operation.now) result };
 
-    fn release(&self, asked: &Asked, operation: &Release) -> Out
-        ensures owed { IsOwed (owes self.now) asked.now (Operation.Release operation.now) result }
-        ensures prompt { IsPrompt result };
+    fn write<G: Giving + Drop>(&self, asked: &Asked, giving: G, operation: &Write<'_>) -> Out
+        ensures { IsOwed (owes self.now) (G.door giving) asked.now (Operation.Write operation.now) result };
 
-    fn fsync(&self, asked: &Asked, operation: &FSync) -> Out
-        ensures owed { IsOwed (owes self.now) asked.now (Operation.FSync operation.now) result }
-        ensures prompt { IsPrompt result };
+    fn statfs<G: Giving + Drop>(&self, asked: &Asked, giving: G, operation: &StatFs) -> Out
+        ensures { IsOwed (owes self.now) (G.door giving) asked.now (Operation.StatFs operation.now) result };
 
-    fn setxattr(&self, asked: &Asked, operation: &SetXAttr<'_>) -> Out
-        ensures owed { IsOwed (owes self.now) asked.now (Operation.SetXAttr operation.now) result }
-        ensures prompt { IsPrompt result };
+    fn release<G: Giving + Drop>(&self, asked: &Asked, giving: G, operation: &Release) -> Out
+        ensures { IsOwed (owes self.now) (G.door giving) asked.now (Operation.Release operation.now) result };
 
-    fn getxattr(&self, asked: &Asked, operation: &GetXAttr<'_>) -> Out
-        ensures owed { IsOwed (owes self.now) asked.now (Operation.GetXAttr operation.now) result }
-        ensures prompt { IsPrompt result };
+    fn fsync<G: Giving + Drop>(&self, asked: &Asked, giving: G, operation: &FSync) -> Out
+        ensures { IsOwed (owes self.now) (G.door giving) asked.now (Operation.FSync operation.now) result };
 
-    fn listxattr(&self, asked: &Asked, operation: &ListXAttr) -> Out
-        ensures owed { IsOwed (owes self.now) asked.now (Operation.ListXAttr operation.now) result }
-        ensures prompt { IsPrompt result };
+    fn setxattr<G: Giving + Drop>(&self, asked: &Asked, giving: G, operation: &SetXAttr<'_>) -> Out
+        ensures { IsOwed (owes self.now) (G.door giving) asked.now (Operation.SetXAttr operation.now) result };
 
-    fn removexattr(&self, asked: &Asked, operation: &RemoveXAttr<'_>) -> Out
-        ensures owed { IsOwed (owes self.now) asked.now (Operation.RemoveXAttr operation.now) result }
-        ensures prompt { IsPrompt result };
+    fn getxattr<G: Giving + Drop>(&self, asked: &Asked, giving: G, operation: &GetXAttr<'_>) -> Out
+        ensures { IsOwed (owes self.now) (G.door giving) asked.now (Operation.GetXAttr operation.now) result };
 
-    fn flush(&self, asked: &Asked, operation: &Flush) -> Out
-        ensures owed { IsOwed (owes self.now) asked.now (Operation.Flush operation.now) result }
-        ensures prompt { IsPrompt result };
+    fn listxattr<G: Giving + Drop>(&self, asked: &Asked, giving: G, operation: &ListXAttr) -> Out
+        ensures { IsOwed (owes self.now) (G.door giving) asked.now (Operation.ListXAttr operation.now) result };
 
-    fn opendir(&self, asked: &Asked, operation: &OpenDir) -> Out
-        ensures owed { IsOwed (owes self.now) asked.now (Operation.OpenDir operation.now) result }
-        ensures prompt { IsPrompt result };
+    fn removexattr<G: Giving + Drop>(
+        &self,
+        asked: &Asked,
+        giving: G,
+        operation: &RemoveXAttr<'_>,
+    ) -> Out
+        ensures { IsOwed (owes self.now) (G.door giving) asked.now (Operation.RemoveXAttr operation.now) result };
 
-    fn readdir(&self, asked: &Asked, operation: &ReadDir) -> Out
-        ensures owed { IsOwed (owes self.now) asked.now (Operation.ReadDir operation.now) result }
-        ensures prompt { IsPrompt result };
+    fn flush<G: Giving + Drop>(&self, asked: &Asked, giving: G, operation: &Flush) -> Out
+        ensures { IsOwed (owes self.now) (G.door giving) asked.now (Operation.Flush operation.now) result };
 
-    fn releasedir(&self, asked: &Asked, operation: &ReleaseDir) -> Out
-        ensures owed { IsOwed (owes self.now) asked.now (Operation.ReleaseDir operation.now) result }
-        ensures prompt { IsPrompt result };
+    fn opendir<G: Giving + Drop>(&self, asked: &Asked, giving: G, operation: &OpenDir) -> Out
+        ensures { IsOwed (owes self.now) (G.door giving) asked.now (Operation.OpenDir operation.now) result };
 
-    fn fsyncdir(&self, asked: &Asked, operation: &FSyncDir) -> Out
-        ensures owed { IsOwed (owes self.now) asked.now (Operation.FSyncDir operation.now) result }
-        ensures prompt { IsPrompt result };
+    fn readdir<G: Giving + Drop>(&self, asked: &Asked, giving: G, operation: &ReadDir) -> Out
+        ensures { IsOwed (owes self.now) (G.door giving) asked.now (Operation.ReadDir operation.now) result };
 
-    fn getlk(&self, asked: &Asked, operation: &GetLk) -> Out
-        ensures owed { IsOwed (owes self.now) asked.now (Operation.GetLk operation.now) result }
-        ensures prompt { IsPrompt result };
+    fn releasedir<G: Giving + Drop>(&self, asked: &Asked, giving: G, operation: &ReleaseDir) -> Out
+        ensures { IsOwed (owes self.now) (G.door giving) asked.now (Operation.ReleaseDir operation.now) result };
 
-    fn setlk(&self, asked: &Asked, operation: &SetLk) -> Out
-        ensures owed { IsOwed (owes self.now) asked.now (Operation.SetLk operation.now) result }
-        ensures prompt { IsPrompt result };
+    fn fsyncdir<G: Giving + Drop>(&self, asked: &Asked, giving: G, operation: &FSyncDir) -> Out
+        ensures { IsOwed (owes self.now) (G.door giving) asked.now (Operation.FSyncDir operation.now) result };
 
-    fn access(&self, asked: &Asked, operation: &Access) -> Out
-        ensures owed { IsOwed (owes self.now) asked.now (Operation.Access operation.now) result }
-        ensures prompt { IsPrompt result };
+    fn getlk<G: Giving + Drop>(&self, asked: &Asked, giving: G, operation: &GetLk) -> Out
+        ensures { IsOwed (owes self.now) (G.door giving) asked.now (Operation.GetLk operation.now) result };
 
-    fn create(&self, asked: &Asked, operation: &Create<'_>) -> Out
-        ensures owed { IsOwed (owes self.now) asked.now (Operation.Create operation.now) result }
-        ensures prompt { IsPrompt result };
+    fn setlk<G: Giving + Drop>(&self, asked: &Asked, giving: G, operation: &SetLk) -> Out
+        ensures { IsOwed (owes self.now) (G.door giving) asked.now (Operation.SetLk operation.now) result };
 
-    fn bmap(&self, asked: &Asked, operation: &BMap) -> Out
-        ensures owed { IsOwed (owes self.now) asked.now (Operation.BMap operation.now) result }
-        ensures prompt { IsPrompt result };
+    fn access<G: Giving + Drop>(&self, asked: &Asked, giving: G, operation: &Access) -> Out
+        ensures { IsOwed (owes self.now) (G.door giving) asked.now (Operation.Access operation.now) result };
 
-    fn ioctl(&self, asked: &Asked, operation: &IoCtl<'_>) -> Out
-        ensures owed { IsOwed (owes self.now) asked.now (Operation.IoCtl operation.now) result }
-        ensures prompt { IsPrompt result };
+    fn create<G: Giving + Drop>(&self, asked: &Asked, giving: G, operation: &Create<'_>) -> Out
+        ensures { IsOwed (owes self.now) (G.door giving) asked.now (Operation.Create operation.now) result };
 
-    fn poll(&self, asked: &Asked, notifier: &mut Notifier, operation: &Poll) -> Out
-        ensures owed { IsOwed (owes self.now) asked.now (Operation.Poll operation.now) result }
-        ensures prompt { IsPrompt result }
+    fn bmap<G: Giving + Drop>(&self, asked: &Asked, giving: G, operation: &BMap) -> Out
+        ensures { IsOwed (owes self.now) (G.door giving) asked.now (Operation.BMap operation.now) result };
+
+    fn ioctl<G: Giving + Drop>(&self, asked: &Asked, giving: G, operation: &IoCtl<'_>) -> Out
+        ensures { IsOwed (owes self.now) (G.door giving) asked.now (Operation.IoCtl operation.now) result };
+
+    fn poll<G: Giving + Drop>(
+        &self,
+        asked: &Asked,
+        giving: G,
+        notifier: &mut Notifier,
+        operation: &Poll,
+    ) -> Out
+        ensures owed { IsOwed (owes self.now) (G.door giving) asked.now (Operation.Poll operation.now) result }
         ensures line { notifier.new.line ≡ notifier.old.line };
 
-    fn batch_forget(&self, asked: &Asked, operation: &BatchForget<'_>) -> Out
-        ensures owed { IsOwed (owes self.now) asked.now (Operation.BatchForget operation.now) result }
-        ensures prompt { IsPrompt result };
+    fn batch_forget<G: Giving + Drop>(
+        &self,
+        asked: &Asked,
+        giving: G,
+        operation: &BatchForget<'_>,
+    ) -> Out
+        ensures { IsOwed (owes self.now) (G.door giving) asked.now (Operation.BatchForget operation.now) result };
 
-    fn fallocate(&self, asked: &Asked, operation: &FAllocate) -> Out
-        ensures owed { IsOwed (owes self.now) asked.now (Operation.FAllocate operation.now) result }
-        ensures prompt { IsPrompt result };
+    fn fallocate<G: Giving + Drop>(&self, asked: &Asked, giving: G, operation: &FAllocate) -> Out
+        ensures { IsOwed (owes self.now) (G.door giving) asked.now (Operation.FAllocate operation.now) result };
 
-    fn readdirplus(&self, asked: &Asked, operation: &ReadDirPlus) -> Out
-        ensures owed { IsOwed (owes self.now) asked.now (Operation.ReadDirPlus operation.now) result }
-        ensures prompt { IsPrompt result };
+    fn readdirplus<G: Giving + Drop>(
+        &self,
+        asked: &Asked,
+        giving: G,
+        operation: &ReadDirPlus,
+    ) -> Out
+        ensures { IsOwed (owes self.now) (G.door giving) asked.now (Operation.ReadDirPlus operation.now) result };
 
-    fn rename2(&self, asked: &Asked, operation: &Rename2<'_>) -> Out
-        ensures owed { IsOwed (owes self.now) asked.now (Operation.Rename2 operation.now) result }
-        ensures prompt { IsPrompt result };
+    fn rename2<G: Giving + Drop>(&self, asked: &Asked, giving: G, operation: &Rename2<'_>) -> Out
+        ensures { IsOwed (owes self.now) (G.door giving) asked.now (Operation.Rename2 operation.now) result };
 
-    fn lseek(&self, asked: &Asked, operation: &Lseek) -> Out
-        ensures owed { IsOwed (owes self.now) asked.now (Operation.Lseek operation.now) result }
-        ensures prompt { IsPrompt result };
+    fn lseek<G: Giving + Drop>(&self, asked: &Asked, giving: G, operation: &Lseek) -> Out
+        ensures { IsOwed (owes self.now) (G.door giving) asked.now (Operation.Lseek operation.now) result };
 
-    fn copy_file_range(&self, asked: &Asked, operation: &CopyFileRange) -> Out
-        ensures owed { IsOwed (owes self.now) asked.now (Operation.CopyFileRange operation.now) result }
-        ensures prompt { IsPrompt result };
+    fn copy_file_range<G: Giving + Drop>(
+        &self,
+        asked: &Asked,
+        giving: G,
+        operation: &CopyFileRange,
+    ) -> Out
+        ensures { IsOwed (owes self.now) (G.door giving) asked.now (Operation.CopyFileRange operation.now) result };
 
     /// An error that is fixed is owed its reply.
     ghost owes_fixed: { (handler : Self) (request : Request) (errno seq id : ℕ)
@@ -196,4 +189,8 @@ pub(crate) trait Handler {
     /// DESTROY is owed an empty reply.
     ghost owes_end: { (handler : Self) (request : Request) (seq id : ℕ)
         → owes handler request Ends seq id (Frame (reply id Empty)) };
+
+    /// Where replies may come later, a call is owed one that does.
+    ghost owes_later: { (handler : Self) (request : Request) (call : Call) (seq id : ℕ) → IsTrue DEFERS
+        → owes handler request (Calls call) seq id (Deferred seq (record { 0 = id })) };
 }

@@ -1,5 +1,5 @@
 // Sessions that run at once.
-ghost use Rattle.std.specs.Prelude.{◌≡◌, MatchResult, false};
+ghost use Rattle.std.specs.Prelude.{◌≡◌, MatchResult};
 ghost use Rattle.fuse_wire.specs.Faults.{Rose};
 ghost use Rattle.fuse_session.specs.Spawned.{CountsRefusal, StartsInline, started};
 
@@ -48,8 +48,6 @@ impl InlineSpawner {
         S: Source + Send + Drop + 'static,
         K: Sink + Send + Drop + 'static,
     >(&mut self, rt: &R, session: Session<FS, S, K>) -> Result<Running<FS, S, K>, Session<FS, S, K>>
-        // No reply comes after its method has returned.
-        requires prompt { FS.DEFERS ≡ false }
         ensures counted { CountsRefusal result self.old.refused self.new.refused }
         ensures started { MatchResult result (λ running. started running ≡ session)
             (λ back. (back ≡ session) × Rose self.old.refused self.new.refused) }

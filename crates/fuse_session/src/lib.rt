@@ -13,6 +13,7 @@ mod dispatch;
 mod ended;
 mod error;
 mod filesystem;
+mod giving;
 mod greeting;
 mod handler;
 mod handshake;

@@ -1,6 +1,6 @@
 // What runs of a session.
-ghost use Rattle.std.specs.Prelude.{◌≡◌, ℕ, List, [], Some, false};
-ghost use Rattle.fuse_session.specs.Accounted.{Accounted};
+ghost use Rattle.std.specs.Prelude.{◌≡◌, ℕ, List, [], Some};
+ghost use Rattle.fuse_session.specs.Accounted.{Accounted, NeverLater};
 ghost use Rattle.fuse_session.specs.Owed.{Owed};
 ghost use Rattle.fuse_session.specs.Session.{Ends, Ran};
 ghost use Rattle.fuse_workers.specs.EventLoop.{Run};
@@ -8,7 +8,7 @@ ghost use Rattle.fuse_workers.specs.Lines.{IsUnused, unasked_of};
 ghost use Rattle.fuse_workers.specs.Progress.{nothing_yet, progress};
 
 use crate::asking::Asking;
-use crate::dispatch::Service;
+use crate::dispatch::{Service, Shared};
 use crate::ended::{destroyed, run_outcome};
 use crate::options::several;
 use crate::{Ended, Filesystem, SessionError, Transcript};
@@ -22,7 +22,7 @@ use std::thread::Threads;
 /// What runs of a session: all of it but its notifier to spare, which stays with whoever starts it. It must be spent. A
 /// contract sees the session.
 pub(crate) struct Runnable<FS, S: Source, K: Sink> {
-    pub(crate) service: Service<Asking<FS>>,
+    pub(crate) shared: Shared<Asking<FS>>,
     pub(crate) n_threads: Option<usize>,
     pub(crate) channel: Channel<S, K>,
     pub(crate) lines: Lines,
@@ -35,9 +35,9 @@ impl<FS, S: Source, K: Sink> Model for Runnable<FS, S, K> {
     ghost Value = { Opened FS };
 
     ghost view = { λ s. record {
-      filesystem = s.service.handler.filesystem;
-      acl = s.service.rule.acl;
-      owner = s.service.rule.owner;
+      filesystem = s.shared.service.handler.filesystem;
+      acl = s.shared.service.rule.acl;
+      owner = s.shared.service.rule.owner;
       threads = s.n_threads;
       progress = s.channel.progress;
       line = s.lines.frames.line;
@@ -57,27 +57,29 @@ struct Served<S, K> {
 /// Answers the later messages: on this thread, or on so many others where more than one is asked for.
 fn answer_all<R: Threads + Wait + AllocGlobal + Sync, FS: Filesystem, S: Source, K: Sink + Send>(
     rt: &R,
-    service: &Service<Asking<FS>>,
+    shared: &Shared<Asking<FS>>,
     n_threads: Option<usize>,
     source: S,
     sink: K,
     buffers: Buffers,
 ) -> RunEnd<S, K>
     requires unused { IsUnused buffers }
-    ensures { Run (Accounted n_threads (Owed FS.promise service.now.handler.filesystem service.now.rule.acl
-        service.now.rule.owner)) result.end (progress (S.told source) (K.told sink) nothing_yet [])
+    ensures run { Run (Accounted n_threads FS.promise.defers (Owed FS.promise shared.now.service.handler.filesystem
+        shared.now.service.rule.acl shared.now.service.rule.owner)) result.end
+        (progress (S.told source) (K.told sink) nothing_yet [])
         (progress (S.told result.source) (K.told result.sink) result.transcript (unasked_of result.buffers)) }
+    ensures recorded { NeverLater n_threads FS.promise.defers → result.transcript.unrecorded ≡ 0 }
 {
     match several(n_threads) {
-        Some(count) => run_workers(rt, service, source, sink, buffers, count),
-        None => run_inline(rt, service, source, sink, buffers),
+        Some(count) => run_workers(rt, shared, source, sink, buffers, count),
+        None => run_inline(rt, &shared.service, source, sink, buffers),
     }
 }
 
 /// Serves a session that was opened, after a handshake with these counts. No thread is to serve where their number is 0.
 fn serve<R: Threads + Wait + AllocGlobal + Sync, FS: Filesystem, S: Source, K: Sink + Send>(
     rt: &R,
-    service: &Service<Asking<FS>>,
+    shared: &Shared<Asking<FS>>,
     n_threads: Option<usize>,
     shaken: Transcript,
     source: S,
@@ -85,10 +87,12 @@ fn serve<R: Threads + Wait + AllocGlobal + Sync, FS: Filesystem, S: Source, K: S
     buffers: Buffers,
 ) -> Served<S, K>
     requires unused { IsUnused buffers }
-    ensures { (unasked : List (List ℕ)) × Ends FS.promise service.now.handler.filesystem
-        service.now.rule.acl service.now.rule.owner n_threads result.outcome
+    requires shaken { shaken.unrecorded ≡ 0 }
+    ensures ends { (unasked : List (List ℕ)) × Ends FS.promise shared.now.service.handler.filesystem
+        shared.now.service.rule.acl shared.now.service.rule.owner n_threads result.outcome
         (progress (S.told source) (K.told sink) shaken [])
         (progress (S.told result.source) (K.told result.sink) result.transcript unasked) }
+    ensures recorded { NeverLater n_threads FS.promise.defers → result.transcript.unrecorded ≡ 0 }
 {
     if n_threads == Some(0) {
         return Served {
@@ -104,7 +108,7 @@ fn serve<R: Threads + Wait + AllocGlobal + Sync, FS: Filesystem, S: Source, K: S
         source,
         sink,
         buffers: _,
-    } = answer_all(rt, service, n_threads, source, sink, buffers);
+    } = answer_all(rt, shared, n_threads, source, sink, buffers);
     Served {
         outcome: run_outcome(end),
         transcript: shaken.and(transcript),
@@ -116,13 +120,11 @@ fn serve<R: Threads + Wait + AllocGlobal + Sync, FS: Filesystem, S: Source, K: S
 impl<FS: Filesystem, S: Source, K: Sink + Send> Runnable<FS, S, K> {
     /// Serves the session to its end, as `Session::run` says.
     pub(crate) fn run<R: Threads + Wait + AllocGlobal + Sync>(self, rt: &R) -> Ended<FS, S, K>
-        // No reply comes after its method has returned.
-        requires prompt { FS.DEFERS ≡ false }
         ensures { Ran FS.promise self result.filesystem result.outcome
             (S.told result.source) (K.told result.sink) result.transcript }
     {
         let Runnable {
-            service,
+            shared,
             n_threads,
             channel,
             lines,
@@ -133,7 +135,8 @@ impl<FS: Filesystem, S: Source, K: Sink + Send> Runnable<FS, S, K> {
             transcript,
             source,
             sink,
-        } = serve(rt, &service, n_threads, shaken, source, sink, buffers);
+        } = serve(rt, &shared, n_threads, shaken, source, sink, buffers);
+        let Shared { service } = shared;
         let Service {
             handler: Asking { filesystem },
             rule: _,
@@ -146,7 +149,7 @@ impl<FS: Drop, S: Source + Drop, K: Sink + Drop> Runnable<FS, S, K> {
     /// Gives it up, unserved: a closure that a thread never ran is dropped with what it holds.
     pub(crate) fn discard(self) {
         let Runnable {
-            service: _,
+            shared: _,
             n_threads: _,
             channel: _,
             lines: _,

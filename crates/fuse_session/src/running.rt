@@ -76,7 +76,7 @@ pub struct OnThread<FS: Filesystem, S: Source, K: Sink> {
 }
 
 impl<FS: Filesystem, S: Source, K: Sink> Model for OnThread<FS, S, K> {
-    ghost use Rattle.std.specs.Prelude.{◌≡◌, false};
+    ghost use Rattle.std.specs.Prelude.{◌≡◌};
     ghost use Rattle.fuse_notify.specs.Queueing.{fresh_door};
     ghost use Rattle.fuse_session.specs.Session.{Opened};
 
@@ -84,7 +84,7 @@ impl<FS: Filesystem, S: Source, K: Sink> Model for OnThread<FS, S, K> {
 
     ghost view = { λ t. t.handle.promise.session.value };
 
-    ghost invariant = { λ t. (FS.DEFERS ≡ false) × (t.notifier ≡ fresh_door t.handle.promise.session.value.line) };
+    ghost invariant = { λ t. t.notifier ≡ fresh_door t.handle.promise.session.value.line };
 }
 
 /// A session that ran. A contract sees the session that was started.

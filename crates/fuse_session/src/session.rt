@@ -2,9 +2,10 @@
 ghost use Rattle.std.specs.Prelude.{◌≡◌, ◌≢◌, ◌<◌, ◌⊎◌, ◌↔◌, ℕ, Ok, Err, Some, IfErr, IfOk, MatchResult, false};
 ghost use Rattle.fuse_config.specs.declared.session_acl.SessionACL.{SessionACL as ACL};
 ghost use Rattle.fuse_notify.specs.Queueing.{fresh_door};
+ghost use Rattle.fuse_session.specs.Accounted.{NeverLater};
 ghost use Rattle.fuse_session.specs.Complete.{AcceptsAll, HandshakeWell, RunWell, SessionWell};
 ghost use Rattle.fuse_session.specs.Exchange.{Closed, Mounted, Unopened, setup, setup_of};
-ghost use Rattle.fuse_session.specs.Headline.{Headline, Lossless};
+ghost use Rattle.fuse_session.specs.Headline.{Headline, LaterHeadline, Lossless};
 ghost use Rattle.fuse_session.specs.HandshakeStep.{HandshakeRun};
 ghost use Rattle.fuse_session.specs.Refused.{ClonesDevice, IsTaken, IsUntouched, OfOptions, OptionsWell, RefusedAs, Untouched};
 ghost use Rattle.fuse_session.specs.Spawning.{StartsOne, refused_by};
@@ -16,7 +17,7 @@ ghost use Rattle.fuse_wire.specs.Sink.{SinkState};
 
 use crate::access::AccessRule;
 use crate::asking::Asking;
-use crate::dispatch::Service;
+use crate::dispatch::{Service, Shared};
 use crate::ended::{destroyed, untouched};
 use crate::handshake::{HandshakeOutcome, handshake};
 use crate::options::{SessionMemory, prepare, prepare_device};
@@ -91,14 +92,16 @@ fn open<R: Wait + AllocGlobal, FS: Filesystem, S: Source, K: Sink>(
     ensures closed { IfErr result (λ e. OpensNone e.outcome
         × Closed (setup_of FS.promise page_size n_threads rule.acl rule.owner) filesystem e.filesystem e.outcome
         (S.told source) (S.told e.source) (K.told sink) (K.told e.sink) e.transcript) }
+    ensures recorded { IfErr result (λ e. e.transcript.unrecorded ≡ 0) }
 {
     let SessionMemory { buffers, notifier } = memory;
     let (mut channel, lines) = Channel::open(source, sink, buffers);
     match shake(rt, &mut filesystem, page_size, &mut channel) {
         Ok(()) => {
             let handler = Asking { filesystem };
+            let service = Service { handler, rule };
             let runnable = Runnable {
-                service: Service { handler, rule },
+                shared: Shared { service },
                 n_threads,
                 channel,
                 lines,
@@ -139,6 +142,9 @@ impl<FS: Filesystem, S: Source, K: Sink + Send> Session<FS, S, K> {
         ensures ended { IfErr result (λ e. ¬ (Untouched e.outcome) →
             Closed (setup FS.promise page_size config.now owner) filesystem e.filesystem e.outcome
             (S.told source) (S.told e.source) (K.told sink) (K.told e.sink) e.transcript) }
+
+        // All could be recorded where it was not opened.
+        ensures recorded { IfErr result (λ e. e.transcript.unrecorded ≡ 0) }
 
         // Its error is never Ok, and never that no thread is to serve.
         ensures causes { IfErr result (λ e. OpensNone e.outcome ⊎ Untouched e.outcome) }
@@ -201,6 +207,9 @@ impl<FS: Filesystem, S: Source, K: Sink + Send> Session<FS, S, K> {
             Closed (setup_of FS.promise page_size config.n_threads acl owner) filesystem e.filesystem e.outcome
             (S.told source) (S.told e.source) (K.told sink) (K.told e.sink) e.transcript) }
 
+        // All could be recorded where it was not opened.
+        ensures recorded { IfErr result (λ e. e.transcript.unrecorded ≡ 0) }
+
         // Its error is never Ok, and never that no thread is to serve.
         ensures causes { IfErr result (λ e. OpensNone e.outcome ⊎ Untouched e.outcome) }
 
@@ -242,8 +251,6 @@ impl<FS: Filesystem, S: Source, K: Sink + Send> Session<FS, S, K> {
     /// than can be started, and one more sends; replies go out in any order. A frame or a note that the sink refuses is
     /// counted as lost, and not sent again. `destroy` is called once.
     pub fn run<R: Threads + Wait + AllocGlobal + Sync>(self, rt: &R) -> Ended<FS, S, K>
-        // No reply comes after its method has returned.
-        requires prompt { FS.DEFERS ≡ false }
 
         // What was taken, sent, lost and counted after the handshake, why it ended so, and that `destroy` was called once.
         ensures ran { Ran FS.promise self result.filesystem result.outcome
@@ -255,11 +262,21 @@ impl<FS: Filesystem, S: Source, K: Sink + Send> Session<FS, S, K> {
             Mounted (setup_for FS.promise page self) fs result.filesystem result.outcome
             source (S.told result.source) sink (K.told result.sink) result.transcript }
 
-        // One reply for each message: see `Headline`.
-        ensures headline { (page : ℕ) (fs : _) (source : SourceState) (sink : SinkState) →
+        // One reply for each message, where none comes later: see `Headline`.
+        ensures headline { NeverLater self.threads FS.promise.defers →
+            (page : ℕ) (fs : _) (source : SourceState) (sink : SinkState) →
             IsOpened FS.promise page fs source sink self →
             result.outcome ≡ Ok tt → Lossless sink (K.told result.sink) result.transcript →
             Headline FS.promise page self.acl self.owner fs source (S.told result.source) sink (K.told result.sink) }
+
+        // One reply for each message, at once or later: see `LaterHeadline`.
+        ensures later { (page : ℕ) (fs : _) (source : SourceState) (sink : SinkState) →
+            IsOpened FS.promise page fs source sink self →
+            result.outcome ≡ Ok tt → Lossless sink (K.told result.sink) result.transcript →
+            LaterHeadline FS.promise page self.acl self.owner fs source (S.told result.source) sink (K.told result.sink) }
+
+        // Where no reply comes later, all could be recorded.
+        ensures recorded { NeverLater self.threads FS.promise.defers → result.transcript.unrecorded ≡ 0 }
 
         // It ends well where nothing is amiss.
         ensures complete { RunWell self (S.told result.source) → result.outcome ≡ Ok tt }
@@ -297,8 +314,6 @@ impl<
         rt: &R,
         spawner: &mut Spawner,
     ) -> Result<BackgroundSession<FS, S, K>, Session<FS, S, K>>
-        // No reply comes after its method has returned.
-        requires prompt { FS.DEFERS ≡ false }
         ensures started { MatchResult result (λ background. background ≡ self)
             (λ back. (back ≡ self) × Rose (refused_by spawner.old) (refused_by spawner.new)) }
         ensures counted { StartsOne result spawner.old spawner.new }
@@ -321,13 +336,20 @@ pub fn mount<R: Threads + Wait + AllocGlobal + Sync, FS: Filesystem, S: Source, 
     config: &Config,
 ) -> Ended<FS, S, K>
     requires page { 0 < page_size }
-    // No reply comes after its method has returned.
-    requires prompt { FS.DEFERS ≡ false }
 
-    // One reply for each message: see `Headline`.
-    ensures headline { result.outcome ≡ Ok tt → Lossless (K.told sink) (K.told result.sink) result.transcript →
+    // One reply for each message, where none comes later: see `Headline`.
+    ensures headline { NeverLater config.now.n_threads FS.promise.defers →
+        result.outcome ≡ Ok tt → Lossless (K.told sink) (K.told result.sink) result.transcript →
         Headline FS.promise page_size config.now.acl owner filesystem (S.told source) (S.told result.source)
         (K.told sink) (K.told result.sink) }
+
+    // One reply for each message, at once or later: see `LaterHeadline`.
+    ensures later { result.outcome ≡ Ok tt → Lossless (K.told sink) (K.told result.sink) result.transcript →
+        LaterHeadline FS.promise page_size config.now.acl owner filesystem (S.told source) (S.told result.source)
+        (K.told sink) (K.told result.sink) }
+
+    // Where no reply comes later, all could be recorded.
+    ensures recorded { NeverLater config.now.n_threads FS.promise.defers → result.transcript.unrecorded ≡ 0 }
 
     // What was taken, sent, lost and counted on every end, why it ended so, and that `destroy` was called once.
     ensures session { ¬ (Untouched result.outcome) →

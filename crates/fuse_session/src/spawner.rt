@@ -1,5 +1,5 @@
 // What runs sessions in the background.
-ghost use Rattle.std.specs.Prelude.{◌≡◌, MatchResult, false};
+ghost use Rattle.std.specs.Prelude.{◌≡◌, MatchResult};
 ghost use Rattle.fuse_session.specs.Spawned.{started};
 ghost use Rattle.fuse_session.specs.Spawning.{StartsOne, refused_by};
 ghost use Rattle.fuse_wire.specs.Faults.{Rose};
@@ -27,8 +27,6 @@ impl Spawner {
         S: Source + Send + Drop + 'static,
         K: Sink + Send + Drop + 'static,
     >(&mut self, rt: &R, session: Session<FS, S, K>) -> Result<Running<FS, S, K>, Session<FS, S, K>>
-        // No reply comes after its method has returned.
-        requires prompt { FS.DEFERS ≡ false }
         ensures counted { StartsOne result self.old self.new }
         ensures started { MatchResult result (λ running. started running ≡ session)
             (λ back. (back ≡ session) × Rose (refused_by self.old) (refused_by self.new)) }

@@ -1,5 +1,5 @@
 // Sessions on threads of their own.
-ghost use Rattle.std.specs.Prelude.{◌≡◌, MatchResult, false};
+ghost use Rattle.std.specs.Prelude.{◌≡◌, MatchResult};
 ghost use Rattle.fuse_wire.specs.Faults.{Rose};
 ghost use Rattle.fuse_session.specs.Spawned.{CameOf, CountsRefusal, started};
 
@@ -27,7 +27,6 @@ fn run_unless_held<
     S: Source,
     K: Sink + Send,
 >(rt: R, carried: Carried<FS, S, K>, is_held: Arc<AtomicBool, Global>) -> Came<FS, S, K>
-    requires prompt { FS.DEFERS ≡ false }
     ensures { CameOf FS.promise S.told K.told carried.runnable result }
 {
     if is_held.load(Ordering::SeqCst) {
@@ -56,7 +55,6 @@ fn start_thread<
     is_held: Arc<AtomicBool, Global>,
     share: Arc<AtomicBool, Global>,
 ) -> Result<Handle<FS, S, K>, Came<FS, S, K>>
-    requires prompt { FS.DEFERS ≡ false }
     ensures { MatchResult result (λ handle. handle.promise.session.value ≡ runnable)
         (CameOf FS.promise S.told K.told runnable) }
 {
@@ -66,7 +64,6 @@ fn start_thread<
     let carried = Carried::new(runnable);
     let runtime = *rt;
     let task = move || -> Came<FS, S, K>
-        requires prompt { FS.DEFERS ≡ false }
         ensures { CameOf FS.promise S.told K.told carried.runnable result }
     { run_unless_held(runtime, carried, share) };
     match thread::spawn_with(rt, promise, task) {
@@ -93,8 +90,6 @@ impl ThreadSpawner {
         S: Source + Send + Drop + 'static,
         K: Sink + Send + Drop + 'static,
     >(&mut self, rt: &R, session: Session<FS, S, K>) -> Result<Running<FS, S, K>, Session<FS, S, K>>
-        // No reply comes after its method has returned.
-        requires prompt { FS.DEFERS ≡ false }
         ensures counted { CountsRefusal result self.old.refused self.new.refused }
         ensures started { MatchResult result (λ running. started running ≡ session)
             (λ back. (back ≡ session) × Rose self.old.refused self.new.refused) }

@@ -10,15 +10,15 @@ use Rattle.fuse_workers.specs.declared.transcript.Transcript.{Transcript}
 use Rattle.fuse_workers.proofs.Adding.{Run-added}
 use Rattle.fuse_session.proofs.runnable.serve.Goals as goal
 
-pub returns : goal.returns
-returns g c =
+pub returns-clause-ends : goal.returns-clause-ends
+returns-clause-ends g c =
     let run = c.answer_all-end.result in
     let last = unasked_of run.buffers in
-    let accounted : Accounting = Accounted c.args.n_threads (Owed g.FS.Filesystem.promise c.args.service.now.handler.filesystem
-    c.args.service.now.rule.acl c.args.service.now.rule.owner) in
+    let accounted : Accounting = Accounted c.args.n_threads g.FS.Filesystem.promise.defers (Owed g.FS.Filesystem.promise c.args.shared.now.service.handler.filesystem
+    c.args.shared.now.service.rule.acl c.args.shared.now.service.rule.owner) in
     let some : c.args.n_threads ≢ Some 0 = search rules in
     let added = Run-added {accounted = accounted} (g.S.Source.told c.args.source) (g.S.Source.told run.source) (g.K.Sink.told c.args.sink)
-    (g.K.Sink.told run.sink) c.args.shaken run.transcript [] last c.answer_all-end.ensures in (
+    (g.K.Sink.told run.sink) c.args.shaken run.transcript [] last c.answer_all-end.ensures.run in (
       last,
       inr (
         some,

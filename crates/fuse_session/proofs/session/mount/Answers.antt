@@ -1,14 +1,15 @@
 -- A session that is opened and run ends well where nothing is amiss.
 use Rattle.std.proofs.Common.{ℕ, Option, inl, inr, sym, subst}
 use Rattle.fuse_config.specs.declared.session_acl.SessionACL.{SessionACL}
+use Rattle.fuse_session.specs.Accounted.{NeverLater}
 use Rattle.fuse_session.specs.Complete.{SessionWell}
-use Rattle.fuse_session.specs.Headline.{Headline}
+use Rattle.fuse_session.specs.Headline.{Headline, LaterHeadline}
 use Rattle.fuse_session.specs.Session.{setup_for}
 use Rattle.fuse_session.proofs.Completing.{HandshakeWell-session, Ok-from_exchange}
 use Rattle.fuse_session.proofs.session.mount.Goals as goal
 
 pub returns-in-Ok-clause-headline : goal.returns-in-Ok-clause-headline
-returns-in-Ok-clause-headline g c ok lossless =
+returns-in-Ok-clause-headline g c never ok lossless =
     let promise = g.FS.Filesystem.promise in
     let before = g.S.Source.told c.args.source in
     let after = g.S.Source.told c.run.result.source in
@@ -17,7 +18,24 @@ returns-in-Ok-clause-headline g c ok lossless =
     let serves = c.in-Ok.ensures.opened.1 in
     subst (λ (acl : SessionACL). Headline promise c.args.page_size acl c.args.owner c.args.filesystem before after sink sink') serves.acl_is
     (subst (λ (owner : ℕ). Headline promise c.args.page_size c.in-Ok.session.acl owner c.args.filesystem before after sink sink') serves.owner_is
-    (c.run.ensures.headline c.args.page_size c.args.filesystem before sink c.in-Ok.ensures.opened.0 ok lossless))
+    (c.run.ensures.headline (subst (λ (threads : Option ℕ). NeverLater threads promise.defers)
+    (sym serves.threads_is) never) c.args.page_size c.args.filesystem before sink c.in-Ok.ensures.opened.0 ok lossless))
+
+pub returns-in-Ok-clause-later : goal.returns-in-Ok-clause-later
+returns-in-Ok-clause-later g c ok lossless =
+    let promise = g.FS.Filesystem.promise in
+    let before = g.S.Source.told c.args.source in
+    let after = g.S.Source.told c.run.result.source in
+    let sink = g.K.Sink.told c.args.sink in
+    let sink' = g.K.Sink.told c.run.result.sink in
+    let serves = c.in-Ok.ensures.opened.1 in
+    subst (λ (acl : SessionACL). LaterHeadline promise c.args.page_size acl c.args.owner c.args.filesystem before after sink sink') serves.acl_is
+    (subst (λ (owner : ℕ). LaterHeadline promise c.args.page_size c.in-Ok.session.acl owner c.args.filesystem before after sink sink') serves.owner_is
+    (c.run.ensures.later c.args.page_size c.args.filesystem before sink c.in-Ok.ensures.opened.0 ok lossless))
+
+pub returns-in-Ok-clause-recorded : goal.returns-in-Ok-clause-recorded
+returns-in-Ok-clause-recorded g c never =
+    c.run.ensures.recorded (subst (λ (threads : Option ℕ). NeverLater threads g.FS.Filesystem.promise.defers) (sym c.in-Ok.ensures.opened.1.threads_is) never)
 
 pub returns-in-Ok-clause-complete : goal.returns-in-Ok-clause-complete
 returns-in-Ok-clause-complete g c options well =

@@ -1,6 +1,6 @@
 -- A run, and the session that it ends.
 use Rattle.std.proofs.Common.{rules}
-use Rattle.fuse_session.proofs.SessionParts.{EndsRun-ran, Headline-ran, Mounted-ran, Ok-from_run, Threads-ran}
+use Rattle.fuse_session.proofs.SessionParts.{EndsRun-ran, Headline-ran, LaterHeadline-ran, Mounted-ran, Ok-from_run, Threads-ran}
 use Rattle.fuse_session.proofs.session.Session.run.Goals as goal
 
 pub returns-clause-ran : goal.returns-clause-ran
@@ -11,8 +11,15 @@ returns-clause-session g c page fs source sink opened =
     Mounted-ran g.FS.Filesystem.promise page fs _ source _ sink _ c.args.self _ _ opened (returns-clause-ran g c)
 
 pub returns-clause-headline : goal.returns-clause-headline
-returns-clause-headline g c page fs source sink opened ok lossless =
-    Headline-ran g.FS.Filesystem.promise page fs _ source _ sink _ c.args.self _ _ opened (returns-clause-ran g c) ok lossless
+returns-clause-headline g c never page fs source sink opened ok lossless =
+    Headline-ran g.FS.Filesystem.promise page fs _ source _ sink _ c.args.self _ _ never opened (returns-clause-ran g c) ok lossless
+
+pub returns-clause-later : goal.returns-clause-later
+returns-clause-later g c page fs source sink opened ok lossless =
+    LaterHeadline-ran g.FS.Filesystem.promise page fs _ source _ sink _ c.args.self _ _ opened (returns-clause-ran g c) ok lossless
+
+pub returns-clause-recorded : goal.returns-clause-recorded
+returns-clause-recorded g c never = (returns-clause-ran g c).recorded never
 
 pub returns-clause-complete : goal.returns-clause-complete
 returns-clause-complete g c well = Ok-from_run g.FS.Filesystem.promise c.args.self _ _ _ _ _ (returns-clause-ran g c) well
