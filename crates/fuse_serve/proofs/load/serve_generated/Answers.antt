@@ -1,4 +1,4 @@
-use Rattle.std.proofs.Common.{◌≡◌, ℕ, List, Ok, Some, ap, sym, subst, inl, arith}
+use Rattle.std.proofs.Common.{◌≡◌, ℕ, List, Ok, Some, ap, refl, sym, subst, inl, arith}
 use Rattle.fuse_config.specs.declared.session_acl.SessionACL.TheVariants.{All}
 use Rattle.fuse_session.specs.Exchange.{Mounted, Outcome, setup_of}
 use Rattle.fuse_session.specs.Headline.{Headline, Lossless}
@@ -22,7 +22,7 @@ returns-in-Ok-2-clause-served g c =
     let headline =
     subst (λ (k : Stored). Lossless (stored_told k) (stored_told m.sink) m.transcript
     → Headline tree_promise 4096 All 0 _ (messages_told c.in-Ok.messages) (messages_told m.source) (stored_told k) (stored_told m.sink)) started
-    (c.mount-sink.ensures.headline ok) quiet in
+    (c.mount-sink.ensures.headline (λ many. refl) ok) quiet in
     let mounted =
     subst (λ (o : Outcome). ¬ (Untouched o) → Mounted (setup_of tree_promise 4096 (Some form.threads) All 0) _ m.filesystem o
     (messages_told c.in-Ok.messages) (messages_told m.source) (stored_told c.with_room.result) (stored_told m.sink) m.transcript) ok

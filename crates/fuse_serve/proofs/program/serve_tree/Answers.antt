@@ -83,7 +83,7 @@ returns-clause-answered g c = λ well.
     let headline =
     over_streams g c (λ a b k. Lossless k (sink_at g c) m.transcript
     → Headline tree_promise c.args.form.page c.args.form.acl c.args.form.owner _ a b k (sink_at g c))
-    (c.mount-source.ensures.headline said.0) (inr said.1) in
+    (c.mount-source.ensures.headline (λ many. refl) said.0) (inr said.1) in
     EachAnswered-headline c.args.form (first_in g c) (last_in g c) (first_out g c) (last_out g c) (sink_at g c) m.sink.broken _ headline
     (stands_at g c) said.2
 
