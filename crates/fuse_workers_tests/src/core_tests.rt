@@ -1,8 +1,16 @@
 // What comes of events, from the state in which nothing has happened yet.
-use fuse_reply::{Out, ReplyEmpty};
+ghost use Rattle.std.specs.Prelude.{◌≡◌, IfOk};
+ghost use Rattle.std.specs.Arc.{arc_value};
+ghost use Rattle.fuse_line.specs.declared.hand.Kind.TheVariants.{First};
+
+use crate::deferring::settle;
+use fuse_line::{Line, Pass};
+use fuse_reply::{Door, EndMark, Out, Parcel, ReplyEmpty};
 use fuse_wire::{Errno, Items, NoMemory, RequestId};
 use fuse_workers::{Event, State, run, step};
-use std::alloc::Global;
+use std::alloc::{AllocGlobal, Global};
+use std::sync::atomic::AtomicU64;
+use std::sync::{Arc, Wait};
 use std::test::Fail;
 
 /// A GETATTR under the id 2.
@@ -23,122 +31,259 @@ fn failed(alloc: Global) -> Out {
         .into_out()
 }
 
-fn mark(seq: u64, id: u64) -> Out {
-    Out::Deferred(seq, RequestId(id))
+/// A line, its first pass, and a door to it for the message of a number.
+#[derive(Drop)]
+struct Way {
+    line: Arc<Line<Parcel>, Global>,
+    first: Pass<Parcel>,
+    door: Door,
+}
+
+fn way_of(alloc: Global, seq: u64) -> Result<Way, NoMemory>
+    ensures line { IfOk result (λ way. way.first.line ≡ arc_value way.line) }
+    ensures first { IfOk result (λ way. way.first.hand.kind ≡ First) }
+{
+    let (line, mut first) = Line::new(alloc, 1)?;
+    let pass = line.split(&mut first, true);
+    let Ok(line) = Arc::new(alloc, line) else {
+        return Err(NoMemory);
+    };
+    let (mark, _) = EndMark::new(alloc)?;
+    let door = Door::new(seq, Arc::try_clone(&line)?, pass, mark);
+    Ok(Way { line, first, door })
+}
+
+/// Puts the reply off, and queues its frame.
+fn queue_late<R: Wait>(rt: &R, reply: ReplyEmpty) {
+    let _out = match reply.defer() {
+        Ok((replied, later)) => {
+            let (reply, token) = later.reply();
+            let _ = settle(rt, &AtomicU64::new(0), token, reply.ok());
+            replied.into_out()
+        }
+        Err((reply, _)) => reply.ok().into_out(),
+    };
+}
+
+/// The empty reply to the message of this number under this id, which comes later.
+fn late<R: Wait + AllocGlobal>(rt: &R, seq: u64, id: RequestId) -> Result<Event, NoMemory> {
+    let Way {
+        line,
+        mut first,
+        door,
+    } = way_of(rt.alloc(), seq)?;
+    queue_late(rt, ReplyEmpty::new(rt.alloc(), id).with_door(Ok(door)));
+    match line.pop(rt, &mut first) {
+        Some(Parcel::Late(frame)) => Ok(Event::Late(frame)),
+        _ => Err(NoMemory),
+    }
+}
+
+/// The worker that a letter is of.
+fn hand_of(letter: u8) -> usize {
+    usize::from(letter.is_ascii_uppercase())
+}
+
+/// The number and id that a letter is of.
+fn tag_of(letter: u8) -> (u64, RequestId) {
+    match letter {
+        b'e' | b'y' | b'L' => (1, RequestId(2)),
+        b'f' | b'z' | b'M' => (0, RequestId(3)),
+        _ => (0, RequestId(2)),
+    }
+}
+
+/// What goes out by a letter: a mark, or of `a`, `A` and `o` a frame.
+fn out_of(alloc: Global, letter: u8) -> Out {
+    match letter {
+        b'a' | b'A' | b'o' => failed(alloc),
+        _ => {
+            let (seq, id) = tag_of(letter);
+            Out::Deferred(seq, id)
+        }
+    }
+}
+
+/// What a worker or the sender does by a letter.
+fn step_of(alloc: Global, letter: u8) -> Event {
+    let hand = hand_of(letter);
+    match letter {
+        b't' | b'T' => Event::Take(hand),
+        b'p' | b'P' => Event::Push(hand),
+        b's' => Event::Send,
+        b'x' | b'X' | b'y' | b'z' => {
+            let (seq, id) = tag_of(letter);
+            Event::Defer(hand, seq, id)
+        }
+        _ => Event::Answer(hand, out_of(alloc, letter)),
+    }
 }
 
 /// The event that a letter stands for.
-fn event(alloc: Global, letter: u8) -> Result<Event, NoMemory> {
-    Ok(match letter {
-        b'r' => Event::Receive(message(alloc)?),
-        b't' => Event::Take(0),
-        b'T' => Event::Take(1),
-        b'a' => Event::Answer(0, failed(alloc)),
-        b'A' => Event::Answer(1, failed(alloc)),
-        b'd' => Event::Answer(0, mark(0, 2)),
-        b'e' => Event::Answer(0, mark(1, 2)),
-        b'f' => Event::Answer(0, mark(0, 3)),
-        b'p' => Event::Push(0),
-        b'P' => Event::Push(1),
-        b'o' => Event::Own(message(alloc)?, failed(alloc)),
-        b'm' => Event::Own(message(alloc)?, mark(0, 2)),
-        b'b' => Event::Own(Items::from_vec(Vec::new(alloc)), mark(0, 2)),
-        _ => Event::Send,
-    })
+fn event<R: Wait + AllocGlobal>(rt: &R, letter: u8) -> Result<Event, NoMemory> {
+    let alloc = rt.alloc();
+    match letter {
+        b'r' => Ok(Event::Receive(message(alloc)?)),
+        b'o' | b'm' => Ok(Event::Own(message(alloc)?, out_of(alloc, letter))),
+        b'b' => Ok(Event::Own(Items::from_vec(Vec::new(alloc)), out_of(alloc, letter))),
+        b'l' | b'L' | b'M' => {
+            let (seq, id) = tag_of(letter);
+            late(rt, seq, id)
+        }
+        _ => Ok(step_of(alloc, letter)),
+    }
 }
 
-/// Events, and how many there are afterwards of: messages, jobs, parcels, those that were sent for messages, and marks.
-/// None: the last event cannot happen.
-const RUNS: [(&str, Option<[usize; 5]>); 26] = [
-    ("r", Some([1, 1, 0, 0, 0])),
-    ("t", None),
-    ("rt", Some([1, 0, 0, 0, 0])),
-    ("rT", None),
-    ("rrtt", None),
-    ("rta", Some([1, 0, 0, 0, 0])),
-    ("a", None),
-    ("rtA", None),
-    ("rtaa", None),
-    ("rtap", Some([1, 0, 1, 0, 0])),
-    ("p", None),
-    ("rtp", None),
-    ("rtapp", None),
-    ("P", None),
-    ("rtaps", Some([1, 0, 0, 1, 0])),
-    ("s", None),
-    ("rtapss", None),
-    ("rtd", Some([1, 0, 0, 0, 0])),
-    ("rtdps", Some([1, 0, 0, 0, 1])),
-    ("rte", None),
-    ("rtf", None),
-    ("o", Some([1, 0, 1, 0, 0])),
-    ("rotaps", Some([2, 0, 1, 1, 0])),
-    ("ms", Some([1, 0, 0, 0, 1])),
-    ("rm", None),
-    ("b", None),
+/// Events, and how many there are afterwards of: messages, jobs, parcels, those that were sent for messages, marks, and
+/// late frames that are held and that were sent. With no such text the last event cannot happen.
+const RUNS: [(&str, &str); 45] = [
+    ("r", "1100000"),
+    ("t", ""),
+    ("rt", "1000000"),
+    ("rT", ""),
+    ("rrtt", ""),
+    ("rta", "1000000"),
+    ("a", ""),
+    ("rtA", ""),
+    ("rtaa", ""),
+    ("rtap", "1010000"),
+    ("p", ""),
+    ("rtp", ""),
+    ("rtapp", ""),
+    ("P", ""),
+    ("rtaps", "1001000"),
+    ("s", ""),
+    ("rtapss", ""),
+    ("rtd", "1000000"),
+    ("rtdps", "1000100"),
+    ("rte", ""),
+    ("rtf", ""),
+    ("o", "1010000"),
+    ("rotaps", "2011000"),
+    ("ms", "1000100"),
+    ("rm", ""),
+    ("b", ""),
+    ("rtx", "1000000"),
+    ("rtxps", "1000100"),
+    ("x", ""),
+    ("rx", ""),
+    ("rtX", ""),
+    ("rtxx", ""),
+    ("rtxa", ""),
+    ("rty", ""),
+    ("rtz", ""),
+    ("l", "0010000"),
+    ("ls", "0000010"),
+    ("rtxpsls", "1000101"),
+    ("rtxpslsls", "1000111"),
+    ("lsrtxps", "1000101"),
+    ("lslsrtxps", "1000111"),
+    ("LsMsrtxps", "1000120"),
+    ("LslsMsrtxps", "1000121"),
+    ("rtxpsLsMs", "1000120"),
+    ("lsrtaps", "1001010"),
 ];
 
-fn counts(state: &State) -> [usize; 5] {
+fn counts(state: &State) -> [usize; 7] {
     [
         state.received.as_slice().len(),
         state.jobs.as_slice().len(),
         state.line.as_slice().len(),
         state.sent.as_slice().len(),
         state.marks.as_slice().len(),
+        state.held.as_slice().len(),
+        state.late.as_slice().len(),
     ]
 }
 
-fn events_of(alloc: Global, letters: &str) -> Result<Vec<Event>, NoMemory> {
-    let mut events = Vec::new(alloc);
+/// Whether these digits are the counts.
+fn is_counted(state: &State, digits: &str) -> bool {
+    let counts = counts(state);
+    let mut pairs = counts.iter().zip(digits.as_bytes());
+    digits.len() == counts.len()
+        && pairs.all(|(count, digit)| *count as u64 == u64::from(digit.wrapping_sub(b'0')))
+}
+
+fn events_of<R: Wait + AllocGlobal>(rt: &R, letters: &str) -> Result<Vec<Event>, NoMemory> {
+    let mut events = Vec::new(rt.alloc());
     for letter in letters.as_bytes() {
-        if events.push(event(alloc, *letter)?).is_err() {
+        if events.push(event(rt, *letter)?).is_err() {
             return Err(NoMemory);
         }
     }
     Ok(events)
 }
 
+/// Whether after these events there is what the text says, or the last of them can't happen where there is no text.
+fn comes_to<R: Wait + AllocGlobal>(rt: &R, letters: &str, wanted: &str) -> Result<bool, NoMemory> {
+    let start = State::new(rt.alloc(), 1)?;
+    let events = events_of(rt, letters)?;
+    Ok(match run(rt.alloc(), &start, &events)? {
+        Some(state) => is_counted(&state, wanted),
+        None => wanted.is_empty(),
+    })
+}
+
 #[test]
 fn events_happen_where_they_may(rt: HostRuntime) -> Result<(), Fail> {
-    let alloc = rt.alloc();
     for (letters, wanted) in &RUNS {
-        let start = State::new(alloc, 1)?;
-        let events = events_of(alloc, letters)?;
-        let after = run(alloc, &start, &events)?;
-        assert_eq!(rt; after.as_ref().map(counts), *wanted, "{letters}");
+        assert!(rt; comes_to(&rt, letters, wanted)?, "{letters}");
     }
     Ok(())
 }
 
+/// How often this event happens, but at most this often, and the state after it.
+fn repeated(alloc: Global, event: &Event, most: u64) -> Result<(u64, State), NoMemory> {
+    let mut state = State::new(alloc, 1)?;
+    for times in 0..most {
+        match step(alloc, &state, event)? {
+            Some(next) => state = next,
+            None => return Ok((times, state)),
+        }
+    }
+    Ok((most, state))
+}
+
+/// How often the event of this letter happens, of 65 times, and the counts after it.
+fn filled<R: Wait + AllocGlobal>(rt: &R, letter: u8) -> Result<(u64, [usize; 7]), NoMemory> {
+    let event = event(rt, letter)?;
+    let (times, state) = repeated(rt.alloc(), &event, 65)?;
+    Ok((times, counts(&state)))
+}
+
 #[test]
 fn a_line_has_64_places(rt: HostRuntime) -> Result<(), Fail> {
-    let alloc = rt.alloc();
-    for (letter, full) in [(b'r', [64, 64, 0, 0, 0]), (b'o', [64, 0, 64, 0, 0])] {
-        let event = event(alloc, letter)?;
-        let mut state = State::new(alloc, 1)?;
-        for _ in 0..64 {
-            state = step(alloc, &state, &event)?.ok_or("there is room")?;
-        }
-        assert_eq!(rt; counts(&state), full);
-        assert!(rt; step(alloc, &state, &event)?.is_none());
-    }
+    assert_eq!(rt; filled(&rt, b'r')?, (64, [64, 64, 0, 0, 0, 0, 0]));
+    assert_eq!(rt; filled(&rt, b'o')?, (64, [64, 0, 64, 0, 0, 0, 0]));
+    assert_eq!(rt; filled(&rt, b'l')?, (64, [0, 0, 64, 0, 0, 0, 0]));
     Ok(())
+}
+
+/// Whether the message is all that there is, and the one job.
+fn is_one_job(after: &Option<State>) -> bool {
+    let Some(state) = after else {
+        return false;
+    };
+    let Some(job) = state.jobs.as_slice().first() else {
+        return false;
+    };
+    is_counted(state, "1100000") && job.seq == 0 && job.message.as_slice() == MESSAGE.as_slice()
+}
+
+/// What comes of one event, by a step and by a run.
+fn once(alloc: Global, event: Event) -> Result<(Option<State>, Option<State>), NoMemory> {
+    let start = State::new(alloc, 1)?;
+    let stepped = step(alloc, &start, &event)?;
+    let ran = run(alloc, &start, &[event])?;
+    Ok((stepped, ran))
 }
 
 #[test]
 fn a_message_received_is_the_one_job(rt: HostRuntime) -> Result<(), Fail> {
     let alloc = rt.alloc();
-    let start = State::new(alloc, 1)?;
-    let receive = event(alloc, b'r')?;
-    let stepped = step(alloc, &start, &receive)?.ok_or("a message can come")?;
-    let ran = run(alloc, &start, &[receive])?.ok_or("a message can come")?;
-    for state in [stepped, ran] {
-        assert_eq!(rt; counts(&state), [1, 1, 0, 0, 0]);
-        let job = state.jobs.as_slice().first().ok_or("one job")?;
-        assert_eq!(rt; job.seq, 0);
-        assert_eq!(rt; job.message.as_slice(), MESSAGE.as_slice());
-    }
-    assert!(rt; step(alloc, &start, &Event::Take(0))?.is_none());
-    assert!(rt; run(alloc, &start, &[Event::Take(0)])?.is_none());
+    let (stepped, ran) = once(alloc, Event::Receive(message(alloc)?))?;
+    assert!(rt; is_one_job(&stepped) && is_one_job(&ran));
+    let (stepped, ran) = once(alloc, Event::Take(0))?;
+    assert!(rt; stepped.is_none() && ran.is_none());
     Ok(())
 }

@@ -1,0 +1,5 @@
+use Rattle.fuse_workers_tests.proofs.deferring.Deferring.finish.Given as goal
+
+-- a token less each time
+abbrev pub decreases-loop-later : goal.decreases-loop-later
+decreases-loop-later g l = l.tokens.len
