@@ -1,12 +1,18 @@
 -- What filesystems of tests promise.
-use Rattle.std.specs.Prelude.{◌≡◌, ℕ}
+use Rattle.std.specs.Prelude.{◌≡◌, ◌⊎◌, ℕ, Result}
+use Rattle.fuse_wire.specs.ErrorNumbers.{EIO, ENOENT}
 use Rattle.fuse_request.specs.Call.{Call}
 use Rattle.fuse_request.specs.Call.Call.{Lookup, GetAttr, Link, Read, Poll}
 use Rattle.fuse_request.specs.declared.request.Request.{Request}
 use Rattle.fuse_reply.specs.Answer.{Answer}
+use Rattle.fuse_reply.specs.Answer.Answer.{Error}
+use Rattle.fuse_reply.specs.Door.{DoorSeen}
+use Rattle.fuse_reply.specs.Frame.{reply}
+use Rattle.fuse_reply.specs.declared.door.NoDoor.{NoDoor}
 use Rattle.fuse_reply.specs.declared.out.Out.{Out}
+use Rattle.fuse_reply.specs.declared.out.Out.TheVariants.{Frame}
 use Rattle.fuse_session.specs.Defaults.{default_answer}
-use Rattle.fuse_session.specs.Owed.{Answered}
+use Rattle.fuse_session.specs.Owed.{Answers, IsPutOff}
 
 -- which answer a call may have
 abbrev pub Allows : Type 1
@@ -21,6 +27,10 @@ own_or_default own (Read ino fh offset size flags lock_owner) a = own (Read ino 
 own_or_default own (Poll ino fh kh events flags) a = own (Poll ino fh kh events flags) a
 own_or_default own c a = default_answer c ≡ a
 
--- the reply of an answer of their own to the call
-abbrev pub IsAnswered : (own : Allows) → Request → Call → (id : ℕ) → Out → Type 0
-IsAnswered own request c id out = Answered {F = Unit {0}} (λ fs r c' a. own c' a) tt request c id out
+-- what they give back to the call, by an answer of their own
+abbrev pub IsAnswered : (own : Allows) → Request → Call → (id : ℕ) → Result DoorSeen NoDoor → Out → Type 0
+IsAnswered own request c id door out = Answers {F = Unit {0}} (λ fs r c' a. own c' a) tt request c id door out
+
+-- what comes of a lookup that may be put off: that there is no such name, or an error, or the mark of a reply that comes later
+abbrev pub ComesOfLookup : (id : ℕ) → Result DoorSeen NoDoor → Out → Type 0
+ComesOfLookup id door out = (out ≡ Frame (reply id (Error ENOENT))) ⊎ (out ≡ Frame (reply id (Error EIO))) ⊎ IsPutOff door id out

@@ -1,5 +1,5 @@
 // A filesystem for tests, which counts its calls, and sessions of it.
-ghost use Rattle.std.specs.Prelude.{◌<◌};
+ghost use Rattle.std.specs.Prelude.{◌<◌, false};
 
 use crate::argument::Argument;
 use crate::probe::Probe;
@@ -92,6 +92,10 @@ impl Counting {
 
 impl Probe for Counting {
     ghost own = { λ call answer. Unit {0} };
+
+    const DEFERS: bool = false;
+
+    ghost DEFERS = { false };
 
     fn started(&mut self, _request: &Request) {}
 

@@ -1,5 +1,5 @@
 // Notices that a filesystem sends of its own, by the session's notifier.
-ghost use Rattle.std.specs.Prelude.{◌≡◌, refl};
+ghost use Rattle.std.specs.Prelude.{◌≡◌, false, refl};
 ghost use Rattle.fuse_session.specs.Defaults.{default_answer};
 
 use crate::argument::Argument;
@@ -35,6 +35,10 @@ struct Flooding<R> {
 
 impl<R: Wait + AllocGlobal> Probe for Flooding<R> {
     ghost own = { λ call answer. default_answer call ≡ answer };
+
+    const DEFERS: bool = false;
+
+    ghost DEFERS = { false };
 
     fn started(&mut self, _request: &Request) {}
 

@@ -10,6 +10,10 @@ mod call_tests;
 #[cfg(test)]
 mod counting;
 #[cfg(test)]
+mod deferring;
+#[cfg(test)]
+mod deferring_tests;
+#[cfg(test)]
 mod every_call;
 #[cfg(test)]
 mod fault_tests;

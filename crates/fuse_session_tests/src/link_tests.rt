@@ -1,4 +1,6 @@
 // LINK: which inode gets one more name, and in which directory.
+ghost use Rattle.std.specs.Prelude.{false};
+
 use crate::argument::Argument;
 use crate::probe::Probe;
 use crate::probing::Probing;
@@ -16,6 +18,10 @@ struct Linking;
 
 impl Probe for Linking {
     ghost own = { λ call answer. Unit {0} };
+
+    const DEFERS: bool = false;
+
+    ghost DEFERS = { false };
 
     fn started(&mut self, _request: &Request) {}
 

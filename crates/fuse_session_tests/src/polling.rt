@@ -1,4 +1,6 @@
 // A filesystem for tests, whose polls are told of news.
+ghost use Rattle.std.specs.Prelude.{false};
+
 use crate::argument::Argument;
 use crate::probe::Probe;
 use bitflags::Flags;
@@ -51,6 +53,10 @@ impl<R: Wait> Polling<R> {
 
 impl<R: Wait + AllocGlobal> Probe for Polling<R> {
     ghost own = { λ call answer. Unit {0} };
+
+    const DEFERS: bool = false;
+
+    ghost DEFERS = { false };
 
     fn started(&mut self, _request: &Request) {}
 

@@ -1,4 +1,5 @@
 // What a filesystem of a test does of its own.
+ghost use Rattle.std.specs.Prelude.{Bool};
 ghost use Rattle.fuse_request.specs.Call.{Call, handle_number, owner_number};
 ghost use Rattle.fuse_session.specs.Defaults.{default_answer};
 ghost use Rattle.fuse_session_tests.specs.Probing.{Allows, IsAnswered};
@@ -15,6 +16,12 @@ pub(crate) trait Probe {
     /// Which answers it may give to the calls that it may answer itself.
     ghost own: { Allows };
 
+    /// Whether it may answer a call after its method has returned.
+    const DEFERS: bool;
+
+    /// That constant, as a contract names it.
+    ghost DEFERS: { Bool };
+
     /// A kernel opens the connection, and is accepted.
     fn started(&mut self, request: &Request);
 
@@ -28,7 +35,7 @@ pub(crate) trait Probe {
     );
 
     fn lookup(&self, request: &Request, parent: INodeNo, name: &[u8], reply: ReplyEntry) -> Replied
-        ensures { IsAnswered own request.now (Call.Lookup parent.0 name.now) reply.id result }
+        ensures { IsAnswered own request.now (Call.Lookup parent.0 name.now) reply.id reply.door result }
     {
         defaults::lookup(reply)
     }
@@ -45,7 +52,7 @@ pub(crate) trait Probe {
         fh: Option<FileHandle>,
         reply: ReplyAttr,
     ) -> Replied
-        ensures { IsAnswered own request.now (Call.GetAttr ino.0 (handle_number fh)) reply.id result }
+        ensures { IsAnswered own request.now (Call.GetAttr ino.0 (handle_number fh)) reply.id reply.door result }
     {
         defaults::getattr(reply)
     }
@@ -58,7 +65,7 @@ pub(crate) trait Probe {
         newname: &[u8],
         reply: ReplyEntry,
     ) -> Replied
-        ensures { IsAnswered own request.now (Call.Link ino.0 newparent.0 newname.now) reply.id result }
+        ensures { IsAnswered own request.now (Call.Link ino.0 newparent.0 newname.now) reply.id reply.door result }
     {
         defaults::link(reply)
     }
@@ -75,7 +82,7 @@ pub(crate) trait Probe {
         reply: ReplyData,
     ) -> Replied
         ensures { IsAnswered own request.now
-            (Call.Read ino.0 fh.0 offset size flags.0 (owner_number lock_owner)) reply.id result }
+            (Call.Read ino.0 fh.0 offset size flags.0 (owner_number lock_owner)) reply.id reply.door result }
     {
         defaults::read(reply)
     }
@@ -90,7 +97,8 @@ pub(crate) trait Probe {
         flags: PollFlags,
         reply: ReplyPoll,
     ) -> Replied
-        ensures { IsAnswered own request.now (Call.Poll ino.0 fh.0 ph.handle events.0 flags.0) reply.id result }
+        ensures { IsAnswered own request.now
+            (Call.Poll ino.0 fh.0 ph.handle events.0 flags.0) reply.id reply.door result }
     {
         defaults::poll(reply)
     }

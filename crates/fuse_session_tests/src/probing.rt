@@ -1,5 +1,5 @@
 // A filesystem for tests, over the few methods that one has of its own.
-ghost use Rattle.std.specs.Prelude.{false, refl};
+ghost use Rattle.std.specs.Prelude.{refl};
 ghost use Rattle.fuse_session_tests.specs.Probing.{own_or_default};
 
 use crate::argument::Argument::{Flag, Number};
@@ -32,12 +32,12 @@ impl<P: Probe + Send + Sync> Filesystem for Probing<P> {
       may_answer = λ fs request call a. own_or_default P.own call a;
       may_note = λ fs request call mark. Unit {0};
       may_destroy = λ before after. Unit {0};
-      defers = false;
+      defers = P.DEFERS;
     } };
 
-    const DEFERS: bool = false;
+    const DEFERS: bool = P::DEFERS;
 
-    ghost DEFERS = { false };
+    ghost DEFERS = { P.DEFERS };
 
     fn init(&mut self, request: &Request, _config: &mut KernelConfig) -> Result<(), Errno> {
         self.probe.started(request);

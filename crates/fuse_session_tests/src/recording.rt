@@ -1,5 +1,5 @@
 // A filesystem for tests, which records what reached it.
-ghost use Rattle.std.specs.Prelude.{◌≡◌, refl};
+ghost use Rattle.std.specs.Prelude.{◌≡◌, false, refl};
 ghost use Rattle.fuse_session.specs.Defaults.{default_answer};
 
 use crate::argument::Argument;
@@ -84,6 +84,10 @@ impl<R: Wait> Recording<R> {
 
 impl<R: Wait> Probe for Recording<R> {
     ghost own = { λ call answer. default_answer call ≡ answer };
+
+    const DEFERS: bool = false;
+
+    ghost DEFERS = { false };
 
     fn started(&mut self, request: &Request) {
         let _ = self.record(request, "init", &[], &[]);

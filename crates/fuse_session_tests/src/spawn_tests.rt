@@ -1,4 +1,6 @@
 // Sessions in the background.
+ghost use Rattle.std.specs.Prelude.{false};
+
 use crate::argument::Argument;
 use crate::counting::Counting;
 use crate::probe::Probe;
@@ -111,6 +113,10 @@ struct Telling {
 
 impl Probe for Telling {
     ghost own = { λ call answer. Unit {0} };
+
+    const DEFERS: bool = false;
+
+    ghost DEFERS = { false };
 
     fn started(&mut self, _request: &Request) {}
 

@@ -1,4 +1,5 @@
 // Sessions on several threads.
+ghost use Rattle.std.specs.Prelude.{false};
 
 use crate::argument::Argument;
 use crate::probe::Probe;
@@ -50,6 +51,10 @@ impl Holding {
 
 impl Probe for Holding {
     ghost own = { λ call answer. Unit {0} };
+
+    const DEFERS: bool = false;
+
+    ghost DEFERS = { false };
 
     fn started(&mut self, _request: &Request) {}
 

@@ -1,0 +1,299 @@
+// Lookups that are answered after their methods have returned, in whole sessions.
+use crate::deferring::{Deferring, HELD, LAST, SOON, Shelf, Tally, close, shared_shelf};
+use crate::probing::Probing;
+use crate::test_messages::{
+    ACCEPTED, ENOENT, ENOSYS, INIT_7_8, error_reply, getattr, lookup_of, source_of,
+};
+use fuse_config::{Config, SessionACL};
+use fuse_session::{Ended, Filesystem, Session, SessionError, Transcript, mount};
+use fuse_wire::{MemorySink, MemorySource};
+use std::alloc::{AllocError, AllocGlobal, Global};
+use std::process::Abort;
+use std::sync::{Arc, Wait};
+use std::test::Fail;
+use std::thread;
+use std::thread::Threads;
+
+/// By which calls a session is served.
+#[derive(Clone, Copy)]
+enum Way {
+    Mount,
+    NewAndRun,
+}
+
+/// How a session is served, and when its late frames come.
+#[derive(Clone, Copy)]
+struct Plan {
+    way: Way,
+    n_threads: usize,
+    /// How many late frames are awaited by a lookup that is held.
+    awaited: u64,
+    /// How many lookups are held before the first late frame comes.
+    least_held: u64,
+}
+
+/// How a session ended, and what became of the lookups that were put off.
+#[derive(Drop)]
+struct Served {
+    outcome: Result<(), SessionError>,
+    transcript: Transcript,
+    sink: MemorySink,
+    tally: Option<Tally>,
+}
+
+/// Serves the filesystem in this way, over pages of 4096 bytes.
+fn serve_by<R: Threads + Wait + AllocGlobal + Sync, FS: Filesystem>(
+    rt: &R,
+    way: Way,
+    filesystem: FS,
+    source: MemorySource,
+    sink: MemorySink,
+    config: &Config,
+) -> Ended<FS, MemorySource, MemorySink> {
+    match way {
+        Way::Mount => mount(rt, filesystem, source, sink, 0, 4096, config),
+        Way::NewAndRun => match Session::new(rt, filesystem, source, sink, 0, 4096, config) {
+            Ok(session) => session.run(rt),
+            Err(ended) => ended,
+        },
+    }
+}
+
+/// How a session ended, what it did, and the sink.
+type Ran = (Result<(), SessionError>, Transcript, MemorySink);
+
+/// Serves a filesystem that has a share of the shelf.
+fn serve_from<R: Threads + Wait + AllocGlobal + Send + Sync + Copy>(
+    rt: &R,
+    way: Way,
+    shelf: &Arc<Shelf, Global>,
+    source: MemorySource,
+    config: &Config,
+) -> Result<Ran, AllocError> {
+    let probe = Deferring {
+        rt: *rt,
+        shelf: Arc::try_clone(shelf)?,
+    };
+    let sink = MemorySink::new(rt.alloc(), Vec::new(rt.alloc()));
+    let Ended {
+        filesystem: Probing { probe },
+        source: _,
+        sink,
+        outcome,
+        transcript,
+    } = serve_by(rt, way, Probing { probe }, source, sink, config);
+    let Deferring { rt: _, shelf } = probe;
+    let _ = close(rt, shelf);
+    Ok((outcome, transcript, sink))
+}
+
+/// The same, while a thread of the test's own answers the lookups that are put off.
+fn serve_beside<R: Threads + Wait + AllocGlobal + Send + Sync + Copy>(
+    rt: &R,
+    way: Way,
+    shelf: &Arc<Shelf, Global>,
+    source: MemorySource,
+    config: &Config,
+) -> Result<Ran, AllocError> {
+    thread::scope(thread::scope_env(), rt, |scope| {
+        let _ = scope.spawn(move || shelf.answer_later(rt));
+        let ran = serve_from(rt, way, shelf, source, config);
+        shelf.end();
+        ran
+    })
+}
+
+/// Serves these messages by the plan. What is left of the lookups that were put off is answered after that.
+fn serve<R: Threads + Wait + AllocGlobal + Send + Sync + Copy>(
+    rt: &R,
+    plan: Plan,
+    messages: &[&[u8]],
+) -> Result<Served, AllocError> {
+    let alloc = rt.alloc();
+    let mut config = Config::new(alloc);
+    config.acl = SessionACL::All;
+    config.n_threads = Some(plan.n_threads);
+    let source = source_of(alloc, messages)?;
+    let shelf = shared_shelf(rt, alloc, plan.awaited, plan.least_held)?;
+    let ran = serve_beside(rt, plan.way, &shelf, source, &config);
+    let tally = close(rt, shelf);
+    let (outcome, transcript, sink) = ran?;
+    Ok(Served {
+        outcome,
+        transcript,
+        sink,
+        tally,
+    })
+}
+
+/// So many messages were taken, and so many frames sent. Nothing was lost.
+fn counts(received: u64, frames: u64) -> Transcript {
+    Transcript {
+        received,
+        frames,
+        notes: 0,
+        lost: 0,
+        unrecorded: 0,
+    }
+}
+
+/// So many late frames were queued while the session ran, and all that were put off.
+fn all_queued(alloc: Global, sent: u64) -> Option<Tally> {
+    Some(Tally {
+        sent,
+        shut: 0,
+        closed: Vec::new(alloc),
+    })
+}
+
+/// The session ended well, and took so many messages. It sent the handshake's reply, and then just these others, in some
+/// order.
+fn has_replied<R: Abort>(rt: &R, served: &Served, received: u64, replies: &[[u8; 16]]) {
+    let frames = served.sink.frames();
+    let expected = counts(received, (replies.len() as u64).saturating_add(1));
+    assert_eq!(rt; (served.outcome, served.transcript), (Ok(()), expected));
+    assert_eq!(rt; frames.len(), replies.len().saturating_add(1));
+    let first = frames.iter().next().expect(rt, "the handshake's reply");
+    assert_eq!(rt; first.as_slice(), ACCEPTED.as_slice());
+    for reply in replies {
+        let listed = replies.iter().filter(|other| *other == reply).count();
+        let sent = frames
+            .iter()
+            .filter(|frame| frame.as_slice() == reply.as_slice())
+            .count();
+        assert_eq!(rt; sent, listed);
+    }
+}
+
+#[test]
+fn a_lookup_is_answered_by_another_thread(rt: HostRuntime) -> Result<(), Fail> {
+    let plan = Plan {
+        way: Way::Mount,
+        n_threads: 2,
+        awaited: 1,
+        least_held: 0,
+    };
+    let messages: [&[u8]; 3] = [&INIT_7_8, &lookup_of(2, SOON), &lookup_of(3, HELD)];
+    let served = serve(&rt, plan, &messages)?;
+    let replies = [error_reply(2, ENOENT), error_reply(3, ENOENT)];
+    has_replied(&rt, &served, 3, &replies);
+    assert_eq!(rt; served.tally, all_queued(rt.alloc(), 1));
+    Ok(())
+}
+
+#[test]
+fn two_lookups_under_one_id_are_answered_later(rt: HostRuntime) -> Result<(), Fail> {
+    let plan = Plan {
+        way: Way::NewAndRun,
+        n_threads: 2,
+        awaited: 2,
+        least_held: 0,
+    };
+    let messages: [&[u8]; 4] = [
+        &INIT_7_8,
+        &lookup_of(2, SOON),
+        &lookup_of(2, SOON),
+        &lookup_of(3, HELD),
+    ];
+    let served = serve(&rt, plan, &messages)?;
+    let replies = [
+        error_reply(2, ENOENT),
+        error_reply(2, ENOENT),
+        error_reply(3, ENOENT),
+    ];
+    has_replied(&rt, &served, 4, &replies);
+    assert_eq!(rt; served.tally, all_queued(rt.alloc(), 2));
+    Ok(())
+}
+
+#[test]
+fn one_thread_puts_no_lookup_off(rt: HostRuntime) -> Result<(), Fail> {
+    let plan = Plan {
+        way: Way::Mount,
+        n_threads: 1,
+        awaited: 0,
+        least_held: 0,
+    };
+    let messages: [&[u8]; 4] = [
+        &INIT_7_8,
+        &lookup_of(2, SOON),
+        &lookup_of(3, LAST),
+        &lookup_of(4, HELD),
+    ];
+    let served = serve(&rt, plan, &messages)?;
+    let replies = [
+        error_reply(2, ENOENT),
+        error_reply(3, ENOENT),
+        error_reply(4, ENOENT),
+    ];
+    has_replied(&rt, &served, 4, &replies);
+    for (frame, reply) in served.sink.frames().iter().skip(1).zip(&replies) {
+        assert_eq!(rt; frame.as_slice(), reply.as_slice());
+    }
+    let expected = Tally {
+        sent: 0,
+        shut: 2,
+        closed: Vec::new(rt.alloc()),
+    };
+    assert_eq!(rt; served.tally, Some(expected));
+    Ok(())
+}
+
+#[test]
+fn a_lookup_after_the_end_is_told_how_many_were_taken(rt: HostRuntime) -> Result<(), Fail> {
+    // Once both threads hold a lookup, the methods of the others have returned.
+    let plan = Plan {
+        way: Way::NewAndRun,
+        n_threads: 2,
+        awaited: 1,
+        least_held: 2,
+    };
+    let messages: [&[u8]; 5] = [
+        &INIT_7_8,
+        &lookup_of(2, SOON),
+        &lookup_of(3, LAST),
+        &lookup_of(4, HELD),
+        &lookup_of(5, HELD),
+    ];
+    let served = serve(&rt, plan, &messages)?;
+    let replies = [
+        error_reply(2, ENOENT),
+        error_reply(4, ENOENT),
+        error_reply(5, ENOENT),
+    ];
+    has_replied(&rt, &served, 5, &replies);
+    let expected = Tally {
+        sent: 1,
+        shut: 0,
+        closed: [4].to_vec(rt.alloc())?,
+    };
+    assert_eq!(rt; served.tally, Some(expected));
+    Ok(())
+}
+
+#[test]
+fn what_is_answered_at_once_keeps_its_frame(rt: HostRuntime) -> Result<(), Fail> {
+    let plan = Plan {
+        way: Way::Mount,
+        n_threads: 2,
+        awaited: 2,
+        least_held: 0,
+    };
+    let messages: [&[u8]; 5] = [
+        &INIT_7_8,
+        &lookup_of(2, SOON),
+        &getattr(3, 0),
+        &lookup_of(4, SOON),
+        &lookup_of(5, HELD),
+    ];
+    let served = serve(&rt, plan, &messages)?;
+    let replies = [
+        error_reply(2, ENOENT),
+        error_reply(3, ENOSYS),
+        error_reply(4, ENOENT),
+        error_reply(5, ENOENT),
+    ];
+    has_replied(&rt, &served, 5, &replies);
+    assert_eq!(rt; served.tally, all_queued(rt.alloc(), 2));
+    Ok(())
+}
