@@ -1,12 +1,17 @@
-//! How a crate of one's own uses the library: a tree with one file, and a session of it, which only reads it.
+//! How a crate of one's own uses the library: a tree with one file, and a session of it, which only reads it; and a
+//! filesystem whose replies come later than their methods.
 //! Whoever reads this may rely on it: every answer is the one that `fuse_read_only` promises for the tree `one_file` of
 //! `specs/OneFile.antt`.
 #![tactic(auto)]
 
+#[cfg(test)]
+mod lock_tests;
 mod one_file;
+mod one_lock;
 mod session;
 #[cfg(test)]
 mod tests;
 
 pub use one_file::OneFile;
+pub use one_lock::OneLock;
 pub use session::serve_one_file;

@@ -7,7 +7,7 @@ use std::test::Fail;
 
 /// INIT of version 7.8 with the id 0xdeadbeefbaadf00d and a readahead of 4096: `struct fuse_in_header`, then
 /// `struct fuse_init_in`.
-const INIT: [u8; 56] = [
+pub(crate) const INIT: [u8; 56] = [
     56, 0, 0, 0, 26, 0, 0, 0, 0x0d, 0xf0, 0xad, 0xba, 0xef, 0xbe, 0xad, 0xde, 0, 0, 0, 0, 0, 0, 0,
     0, 0, 0, 0, 0, 0, 0, 0, 0, 0, 0, 0, 0, 0, 0, 0, 0, 7, 0, 0, 0, 8, 0, 0, 0, 0, 0x10, 0, 0, 0, 0,
     0, 0,
@@ -59,7 +59,7 @@ const DESTROY: [u8; 40] = [
 
 /// The reply to that INIT: version 7.40, 16 requests in the background, congestion at 12, writes of 16 MiB. A kernel below
 /// 7.23 gets 24 bytes of `struct fuse_init_out`.
-const ACCEPTED: [u8; 40] = [
+pub(crate) const ACCEPTED: [u8; 40] = [
     40, 0, 0, 0, 0, 0, 0, 0, 0x0d, 0xf0, 0xad, 0xba, 0xef, 0xbe, 0xad, 0xde, 7, 0, 0, 0, 40, 0, 0,
     0, 0, 0x10, 0, 0, 0, 0, 0, 0, 16, 0, 12, 0, 0, 0, 0, 1,
 ];
@@ -100,7 +100,7 @@ const NOT_MADE: [u8; 16] = [16, 0, 0, 0, 0xe2, 0xff, 0xff, 0xff, 7, 0, 0, 0, 0, 
 const DONE: [u8; 16] = [16, 0, 0, 0, 0, 0, 0, 0, 8, 0, 0, 0, 0, 0, 0, 0];
 
 /// A source of these messages.
-fn source_of(alloc: Global, messages: &[&[u8]]) -> Result<MemorySource, AllocError> {
+pub(crate) fn source_of(alloc: Global, messages: &[&[u8]]) -> Result<MemorySource, AllocError> {
     let mut turns = Vec::new(alloc);
     for message in messages {
         let mut bytes = Vec::new(alloc);

@@ -1,0 +1,13 @@
+-- What the reply was spent into is the frame of its token.
+use Rattle.std.proofs.Common.{◌∙◌, ap, ℕ}
+use Rattle.fuse_reply.specs.Answer.Answer.{Error}
+use Rattle.fuse_reply.specs.Frame.{reply}
+use Rattle.fuse_reply.specs.declared.out.Out.TheVariants.{Frame}
+use Rattle.fuse_reply.proofs.LateReplies.{frame_for}
+use Rattle.uses.specs.OneLock.{ENOLCK}
+use Rattle.uses.proofs.one_lock.refuse.Goals as goal
+
+pub settle-requires : goal.settle-requires
+settle-requires g c =
+    frame_for c.reply-reply.result.1.id.0 (Error ENOLCK) c.error.result
+    (c.error.ensures.reply ∙ ap (λ (n : ℕ). Frame (reply n (Error ENOLCK))) c.reply-reply.ensures.id) c.error.ensures.answer

@@ -1,0 +1,52 @@
+-- A filesystem with one lock, for which its callers wait.
+use Rattle.std.specs.Prelude.{◌≡◌, ◌⊎◌, ℕ, Bool, true, false, Result, Ok}
+use Rattle.fuse_request.specs.Call.{Call}
+use Rattle.fuse_request.specs.Call.Call.{SetLk}
+use Rattle.fuse_reply.specs.Answer.{Answer}
+use Rattle.fuse_reply.specs.Answer.Answer.{Empty, Error}
+use Rattle.fuse_reply.specs.Door.{DoorSeen}
+use Rattle.fuse_reply.specs.Frame.{reply}
+use Rattle.fuse_reply.specs.declared.door.NoDoor.{NoDoor}
+use Rattle.fuse_reply.specs.declared.out.Out.{Out}
+use Rattle.fuse_reply.specs.declared.out.Out.TheVariants.{Frame}
+use Rattle.fuse_session.specs.Defaults.{default_answer, default_mark}
+use Rattle.fuse_session.specs.Owed.{IsPutOff}
+use Rattle.fuse_session.specs.Promise.{Promise}
+
+-- it would have to wait (`asm-generic/errno-base.h`, `asm-generic/errno.h`)
+abbrev pub EAGAIN : ℕ
+EAGAIN = 11
+
+-- nobody could give the lock up while it waits
+abbrev pub EDEADLK : ℕ
+EDEADLK = 35
+
+-- no more can wait
+abbrev pub ENOLCK : ℕ
+ENOLCK = 37
+
+-- how a call for the lock fails: it does not wait for one that is held; or it would, and can't
+abbrev pub MayFail : (sleep : Bool) → Answer → Type 0
+MayFail false a = a ≡ Error EAGAIN
+MayFail true a = (a ≡ Error EDEADLK) ⊎ (a ≡ Error ENOLCK)
+
+-- all else is answered by default
+abbrev pub MayHave : Call → Answer → Type 0
+MayHave (SetLk ino fh owner start end typ pid sleep) a = (a ≡ Empty) ⊎ MayFail sleep a
+MayHave c a = default_answer c ≡ a
+
+-- every kernel is accepted, with what is negotiated left as it is; nothing happens when the session is over
+abbrev pub promise : {F : Type 0} → Promise F
+promise = record {
+  may_init = λ old request before result new after. (result ≡ Ok tt) × (after ≡ before) × (new ≡ old);
+  may_answer = λ fs request call a. MayHave call a;
+  may_note = λ fs request call mark. mark ≡ default_mark;
+  may_destroy = λ old new. new ≡ old;
+  defers = true;
+}
+
+-- what comes of waiting for the lock: it is held from now on, or can't be waited for, or the reply is put off
+abbrev pub ComesOfWaiting : (id : ℕ) → Result DoorSeen NoDoor → Out → Type 0
+ComesOfWaiting id door out =
+    (out ≡ Frame (reply id Empty)) ⊎ (out ≡ Frame (reply id (Error EDEADLK))) ⊎ (out ≡ Frame (reply id (Error ENOLCK)))
+    ⊎ IsPutOff door id out

@@ -1,0 +1,627 @@
+// A filesystem with one lock, whose callers wait for it without a thread.
+ghost use Rattle.std.specs.Prelude.{true, refl};
+ghost use Rattle.fuse_reply.specs.Late.{IsFrameFor};
+ghost use Rattle.uses.specs.OneLock.{ComesOfWaiting, promise};
+
+use fuse_config::KernelConfig;
+use fuse_notify::PollNotifier;
+use fuse_reply::{
+    LateRefusal, Later, NoDoor, Replied, ReplyAttr, ReplyBmap, ReplyCreate, ReplyData,
+    ReplyDirectory, ReplyDirectoryPlus, ReplyEmpty, ReplyEntry, ReplyIoctl, ReplyLock, ReplyLseek,
+    ReplyOpen, ReplyPoll, ReplyStatfs, ReplyWrite, ReplyXattr,
+};
+use fuse_request::{ForgetList, Request};
+use fuse_session::{Filesystem, defaults};
+use fuse_wire::{
+    AccessFlags, BsdFileFlags, CopyFileRangeFlags, Errno, FileHandle, INodeNo, IoctlFlags,
+    LockOwner, OpenFlags, PollEvents, PollFlags, RenameFlags, SystemTime, TimeOrNow, WriteFlags,
+};
+use std::alloc::{AllocFailed, Global};
+use std::collections::VecDeque;
+use std::sync::{Mutex, Wait};
+use std::thread;
+
+/// The type of a lock that is given up: `F_UNLCK`.
+const UNLOCKED: i32 = 2;
+
+/// A filesystem with one lock for all its files, which answers all else by default. Whoever waits for the lock (SETLKW)
+/// waits without a thread: the reply is put off, and the call that gives the lock up sends it.
+///
+/// - `DEFERS` is true, and the promise says the same. So each reply has a door where several threads serve.
+/// - `defer` spends a reply that has a door into two things. The `Replied` is what the method returns: it says that the
+///   frame comes later. The `Later` is a token, which is kept. A reply without a door comes back, with the reason, and
+///   is answered now: `Shut` on one thread, where nobody else could give the lock up meanwhile, and `Starved` where no
+///   memory was to be had.
+/// - A token may not be dropped, so that no reply is forgotten. It waits on a shelf, behind a lock, where each thread
+///   finds it. No closure of a thread can own one.
+/// - Whoever takes it off parts it into the reply and the token to send by (`reply`), spends the reply into its answer,
+///   and sends that (`send`), again where the line to the sender was full.
+/// - Where the run has ended `send` hands both back with a note, by which they are let go (`retire`). So does `close`,
+///   with all that wait still when the session is over.
+pub struct OneLock<R> {
+    rt: R,
+    desk: Mutex<Desk>,
+}
+
+/// Whether the lock is held, and the replies that wait for it, the first to come first.
+struct Desk {
+    is_held: bool,
+    waiting: VecDeque<Later<ReplyEmpty>>,
+}
+
+/// Sends the frame by its token, again while the line is full. Where the run has ended, both are let go.
+fn settle<R: Wait>(rt: &R, token: Later<()>, replied: Replied)
+    requires { IsFrameFor token.id.0 replied }
+{
+    let mut left = token;
+    let mut frame = replied;
+    for _ in rt.forever() {
+        match left.send(rt, frame) {
+            Ok(()) => return,
+            Err(LateRefusal::Full(token, replied)) => {
+                left = token;
+                frame = replied;
+                thread::yield_now();
+            }
+            Err(LateRefusal::Closed(token, replied, note)) => {
+                token.retire(replied, &note);
+                return;
+            }
+        }
+    }
+    unreachable!()
+}
+
+/// Answers that the lock is held from now on.
+fn grant<R: Wait>(rt: &R, later: Later<ReplyEmpty>) {
+    let (reply, token) = later.reply();
+    settle(rt, token, reply.ok());
+}
+
+/// Answers that no more can wait for the lock.
+fn refuse<R: Wait>(rt: &R, later: Later<ReplyEmpty>) {
+    let (reply, token) = later.reply();
+    settle(rt, token, reply.error(Errno::ENOLCK));
+}
+
+impl<R: Wait> OneLock<R> {
+    /// The lock is free.
+    pub fn new(rt: R, alloc: Global) -> OneLock<R> {
+        OneLock {
+            rt,
+            desk: Mutex::new(Desk {
+                is_held: false,
+                waiting: VecDeque::new(alloc),
+            }),
+        }
+    }
+
+    /// Whether the lock was free. It is held from now on.
+    pub(crate) fn takes(&self) -> bool {
+        let mut desk = self.desk.lock(&self.rt);
+        let was_free = !desk.is_held;
+        desk.is_held = true;
+        was_free
+    }
+
+    /// Takes the lock, or puts the reply off until it is free. A reply that can't be put off is refused: by EDEADLK where
+    /// nobody else is served meanwhile, and by ENOLCK where there is no memory.
+    fn wait_for(&self, reply: ReplyEmpty) -> Replied
+        ensures { ComesOfWaiting reply.id reply.door result }
+    {
+        let mut desk = self.desk.lock(&self.rt);
+        if !desk.is_held {
+            desk.is_held = true;
+            return reply.ok();
+        }
+        match reply.defer() {
+            Ok((replied, later)) => {
+                if let Err(AllocFailed { value: later }) = desk.waiting.push_back(later) {
+                    refuse(&self.rt, later);
+                }
+                replied
+            }
+            Err((reply, NoDoor::Shut)) => reply.error(Errno::EDEADLK),
+            Err((reply, NoDoor::Starved)) => reply.error(Errno::ENOLCK),
+        }
+    }
+
+    /// The reply that waits longest, whose lock it is from now on. Where none waits, the lock is free.
+    fn next(&self) -> Option<Later<ReplyEmpty>> {
+        let mut desk = self.desk.lock(&self.rt);
+        let next = desk.waiting.pop_front();
+        desk.is_held = next.is_some();
+        next
+    }
+
+    /// Gives the lock up.
+    fn give_up(&self) {
+        if let Some(later) = self.next() {
+            grant(&self.rt, later);
+        }
+    }
+
+    /// Lets go of the replies that wait still, once the session is over.
+    pub fn close(self)
+    where
+        R: Drop,
+    {
+        let OneLock { rt, desk } = self;
+        let Desk {
+            is_held: _,
+            mut waiting,
+        } = desk.into_inner();
+        while let Some(later) = waiting.pop_front() {
+            refuse(&rt, later);
+        }
+        waiting.destroy_empty();
+    }
+}
+
+impl<R: Wait + Send + Sync> Filesystem for OneLock<R> {
+    ghost promise = { promise };
+
+    const DEFERS: bool = true;
+
+    ghost DEFERS = { true };
+
+    fn init(&mut self, _request: &Request, _config: &mut KernelConfig) -> Result<(), Errno> {
+        defaults::init()
+    }
+
+    fn lookup(
+        &self,
+        _request: &Request,
+        _parent: INodeNo,
+        _name: &[u8],
+        reply: ReplyEntry,
+    ) -> Replied {
+        defaults::lookup(reply)
+    }
+
+    fn forget(&self, _request: &Request, _ino: INodeNo, _nlookup: u64) -> u64 {
+        defaults::forget()
+    }
+
+    fn getattr(
+        &self,
+        _request: &Request,
+        _ino: INodeNo,
+        _fh: Option<FileHandle>,
+        reply: ReplyAttr,
+    ) -> Replied {
+        defaults::getattr(reply)
+    }
+
+    fn setattr(
+        &self,
+        _request: &Request,
+        _ino: INodeNo,
+        _mode: Option<u32>,
+        _uid: Option<u32>,
+        _gid: Option<u32>,
+        _size: Option<u64>,
+        _atime: Option<TimeOrNow>,
+        _mtime: Option<TimeOrNow>,
+        _ctime: Option<SystemTime>,
+        _fh: Option<FileHandle>,
+        _crtime: Option<SystemTime>,
+        _chgtime: Option<SystemTime>,
+        _bkuptime: Option<SystemTime>,
+        _flags: Option<BsdFileFlags>,
+        reply: ReplyAttr,
+    ) -> Replied {
+        defaults::setattr(reply)
+    }
+
+    fn readlink(&self, _request: &Request, _ino: INodeNo, reply: ReplyData) -> Replied {
+        defaults::readlink(reply)
+    }
+
+    fn symlink(
+        &self,
+        _request: &Request,
+        _parent: INodeNo,
+        _link_name: &[u8],
+        _target: &[u8],
+        reply: ReplyEntry,
+    ) -> Replied {
+        defaults::symlink(reply)
+    }
+
+    fn mknod(
+        &self,
+        _request: &Request,
+        _parent: INodeNo,
+        _name: &[u8],
+        _mode: u32,
+        _umask: u32,
+        _rdev: u32,
+        reply: ReplyEntry,
+    ) -> Replied {
+        defaults::mknod(reply)
+    }
+
+    fn mkdir(
+        &self,
+        _request: &Request,
+        _parent: INodeNo,
+        _name: &[u8],
+        _mode: u32,
+        _umask: u32,
+        reply: ReplyEntry,
+    ) -> Replied {
+        defaults::mkdir(reply)
+    }
+
+    fn unlink(
+        &self,
+        _request: &Request,
+        _parent: INodeNo,
+        _name: &[u8],
+        reply: ReplyEmpty,
+    ) -> Replied {
+        defaults::unlink(reply)
+    }
+
+    fn rmdir(
+        &self,
+        _request: &Request,
+        _parent: INodeNo,
+        _name: &[u8],
+        reply: ReplyEmpty,
+    ) -> Replied {
+        defaults::rmdir(reply)
+    }
+
+    fn rename(
+        &self,
+        _request: &Request,
+        _parent: INodeNo,
+        _name: &[u8],
+        _newparent: INodeNo,
+        _newname: &[u8],
+        _flags: RenameFlags,
+        reply: ReplyEmpty,
+    ) -> Replied {
+        defaults::rename(reply)
+    }
+
+    fn link(
+        &self,
+        _request: &Request,
+        _ino: INodeNo,
+        _newparent: INodeNo,
+        _newname: &[u8],
+        reply: ReplyEntry,
+    ) -> Replied {
+        defaults::link(reply)
+    }
+
+    fn open(
+        &self,
+        _request: &Request,
+        _ino: INodeNo,
+        _flags: OpenFlags,
+        reply: ReplyOpen,
+    ) -> Replied {
+        defaults::open(reply)
+    }
+
+    fn read(
+        &self,
+        _request: &Request,
+        _ino: INodeNo,
+        _fh: FileHandle,
+        _offset: u64,
+        _size: u32,
+        _flags: OpenFlags,
+        _lock_owner: Option<LockOwner>,
+        reply: ReplyData,
+    ) -> Replied {
+        defaults::read(reply)
+    }
+
+    fn write(
+        &self,
+        _request: &Request,
+        _ino: INodeNo,
+        _fh: FileHandle,
+        _offset: u64,
+        _written: &[u8],
+        _write_flags: WriteFlags,
+        _flags: OpenFlags,
+        _lock_owner: Option<LockOwner>,
+        reply: ReplyWrite,
+    ) -> Replied {
+        defaults::write(reply)
+    }
+
+    fn statfs(&self, _request: &Request, _ino: INodeNo, reply: ReplyStatfs) -> Replied {
+        defaults::statfs(reply)
+    }
+
+    fn release(
+        &self,
+        _request: &Request,
+        _ino: INodeNo,
+        _fh: FileHandle,
+        _flags: OpenFlags,
+        _lock_owner: Option<LockOwner>,
+        _flush: bool,
+        reply: ReplyEmpty,
+    ) -> Replied {
+        defaults::release(reply)
+    }
+
+    fn fsync(
+        &self,
+        _request: &Request,
+        _ino: INodeNo,
+        _fh: FileHandle,
+        _datasync: bool,
+        reply: ReplyEmpty,
+    ) -> Replied {
+        defaults::fsync(reply)
+    }
+
+    fn setxattr(
+        &self,
+        _request: &Request,
+        _ino: INodeNo,
+        _name: &[u8],
+        _value: &[u8],
+        _flags: i32,
+        _position: u32,
+        reply: ReplyEmpty,
+    ) -> Replied {
+        defaults::setxattr(reply)
+    }
+
+    fn getxattr(
+        &self,
+        _request: &Request,
+        _ino: INodeNo,
+        _name: &[u8],
+        _size: u32,
+        reply: ReplyXattr,
+    ) -> Replied {
+        defaults::getxattr(reply)
+    }
+
+    fn listxattr(
+        &self,
+        _request: &Request,
+        _ino: INodeNo,
+        _size: u32,
+        reply: ReplyXattr,
+    ) -> Replied {
+        defaults::listxattr(reply)
+    }
+
+    fn removexattr(
+        &self,
+        _request: &Request,
+        _ino: INodeNo,
+        _name: &[u8],
+        reply: ReplyEmpty,
+    ) -> Replied {
+        defaults::removexattr(reply)
+    }
+
+    fn flush(
+        &self,
+        _request: &Request,
+        _ino: INodeNo,
+        _fh: FileHandle,
+        _lock_owner: LockOwner,
+        reply: ReplyEmpty,
+    ) -> Replied {
+        defaults::flush(reply)
+    }
+
+    fn opendir(
+        &self,
+        _request: &Request,
+        _ino: INodeNo,
+        _flags: OpenFlags,
+        reply: ReplyOpen,
+    ) -> Replied {
+        defaults::opendir(reply)
+    }
+
+    fn readdir(
+        &self,
+        _request: &Request,
+        _ino: INodeNo,
+        _fh: FileHandle,
+        _offset: u64,
+        reply: ReplyDirectory,
+    ) -> Replied {
+        defaults::readdir(reply)
+    }
+
+    fn releasedir(
+        &self,
+        _request: &Request,
+        _ino: INodeNo,
+        _fh: FileHandle,
+        _flags: OpenFlags,
+        reply: ReplyEmpty,
+    ) -> Replied {
+        defaults::releasedir(reply)
+    }
+
+    fn fsyncdir(
+        &self,
+        _request: &Request,
+        _ino: INodeNo,
+        _fh: FileHandle,
+        _datasync: bool,
+        reply: ReplyEmpty,
+    ) -> Replied {
+        defaults::fsyncdir(reply)
+    }
+
+    fn getlk(
+        &self,
+        _request: &Request,
+        _ino: INodeNo,
+        _fh: FileHandle,
+        _lock_owner: LockOwner,
+        _start: u64,
+        _end: u64,
+        _typ: i32,
+        _pid: u32,
+        reply: ReplyLock,
+    ) -> Replied {
+        defaults::getlk(reply)
+    }
+
+    fn setlk(
+        &self,
+        _request: &Request,
+        _ino: INodeNo,
+        _fh: FileHandle,
+        _lock_owner: LockOwner,
+        _start: u64,
+        _end: u64,
+        typ: i32,
+        _pid: u32,
+        sleep: bool,
+        reply: ReplyEmpty,
+    ) -> Replied {
+        if typ == UNLOCKED {
+            self.give_up();
+            return reply.ok();
+        }
+        if sleep {
+            self.wait_for(reply)
+        } else if self.takes() {
+            reply.ok()
+        } else {
+            reply.error(Errno::EAGAIN)
+        }
+    }
+
+    fn access(
+        &self,
+        _request: &Request,
+        _ino: INodeNo,
+        _mask: AccessFlags,
+        reply: ReplyEmpty,
+    ) -> Replied {
+        defaults::access(reply)
+    }
+
+    fn create(
+        &self,
+        _request: &Request,
+        _parent: INodeNo,
+        _name: &[u8],
+        _mode: u32,
+        _umask: u32,
+        _flags: i32,
+        reply: ReplyCreate,
+    ) -> Replied {
+        defaults::create(reply)
+    }
+
+    fn bmap(
+        &self,
+        _request: &Request,
+        _ino: INodeNo,
+        _blocksize: u32,
+        _idx: u64,
+        reply: ReplyBmap,
+    ) -> Replied {
+        defaults::bmap(reply)
+    }
+
+    fn ioctl(
+        &self,
+        _request: &Request,
+        _ino: INodeNo,
+        _fh: FileHandle,
+        _flags: IoctlFlags,
+        _cmd: u32,
+        _in_data: &[u8],
+        _out_size: u32,
+        reply: ReplyIoctl,
+    ) -> Replied {
+        defaults::ioctl(reply)
+    }
+
+    fn poll(
+        &self,
+        _request: &Request,
+        _ino: INodeNo,
+        _fh: FileHandle,
+        _ph: PollNotifier,
+        _events: PollEvents,
+        _flags: PollFlags,
+        reply: ReplyPoll,
+    ) -> Replied {
+        defaults::poll(reply)
+    }
+
+    fn batch_forget(&self, _request: &Request, _nodes: ForgetList<'_>) -> u64 {
+        defaults::forget()
+    }
+
+    fn fallocate(
+        &self,
+        _request: &Request,
+        _ino: INodeNo,
+        _fh: FileHandle,
+        _offset: u64,
+        _length: u64,
+        _mode: i32,
+        reply: ReplyEmpty,
+    ) -> Replied {
+        defaults::fallocate(reply)
+    }
+
+    fn readdirplus(
+        &self,
+        _request: &Request,
+        _ino: INodeNo,
+        _fh: FileHandle,
+        _offset: u64,
+        reply: ReplyDirectoryPlus,
+    ) -> Replied {
+        defaults::readdirplus(reply)
+    }
+
+    fn lseek(
+        &self,
+        _request: &Request,
+        _ino: INodeNo,
+        _fh: FileHandle,
+        _offset: i64,
+        _whence: i32,
+        reply: ReplyLseek,
+    ) -> Replied {
+        defaults::lseek(reply)
+    }
+
+    fn copy_file_range(
+        &self,
+        _request: &Request,
+        _ino_in: INodeNo,
+        _fh_in: FileHandle,
+        _offset_in: u64,
+        _ino_out: INodeNo,
+        _fh_out: FileHandle,
+        _offset_out: u64,
+        _len: u64,
+        _flags: CopyFileRangeFlags,
+        reply: ReplyWrite,
+    ) -> Replied {
+        defaults::copy_file_range(reply)
+    }
+
+    fn destroy(&mut self) {}
+
+    ghost deferral = { refl };
+}
