@@ -1,6 +1,5 @@
 -- That each event leaves each message in one place.
-use Rattle.std.proofs.Common.{◌≡◌, ◌+◌, ◌≤◌, ℕ, List, [], ◌∷◌, ◌++◌, Some, None, Option, set, length, nat_lt, if◌then◌else◌}
-use Rattle.std.proofs.Common.{Result, Ok, Err, IfOk, IfSome}
+use Rattle.std.proofs.Common.{◌≡◌, ◌+◌, ◌≤◌, ℕ, List, [], ◌∷◌, ◌++◌, Some, set, length, nat_lt, if◌then◌else◌}
 use Rattle.std.proofs.Common.{Bool, true, false, sym, ap, ◌∙◌, refl, subst, arith}
 use Rattle.std.specs.List.{All, sum_by, slice_get}
 use Rattle.std.proofs.lemmas.List.{length_push}
@@ -21,7 +20,7 @@ use Rattle.fuse_workers.specs.declared.state.Job.{Job}
 use Rattle.fuse_workers.specs.declared.state.Mark.{Mark}
 use Rattle.fuse_workers.specs.declared.state.SentOut.{SentOut}
 use Rattle.fuse_workers.specs.declared.state.State.{State}
-use Rattle.fuse_workers.specs.Step.{Happens, Follows, HandAnswers, Runs, StandsFor, empty, job, with_hand, went}
+use Rattle.fuse_workers.specs.Step.{Happens, HandAnswers, Runs, StandsFor, empty, job, with_hand, went}
 use Rattle.fuse_workers.specs.Balanced.{Balanced, KeepsNumber, HandKeepsNumber, ParcelKeepsNumber, once_if, in_hand, on_parcel, settled}
 use Rattle.fuse_workers.proofs.LateFrames.{Matched-late, Matched-marked}
 
@@ -224,12 +223,6 @@ Happens-balanced s Send t h b = subst Balanced (sym h.3) (balanced_send s h.0 h.
 Happens-balanced s (Own m out) t h b = subst Balanced (sym h.2) (balanced_own s m out h.1 b)
 Happens-balanced s (Late late) t h b = subst Balanced (sym h.1) (balanced_late s late b)
 Happens-balanced s (Notify f) t h b = subst Balanced (sym h.1) (balanced_notify s f b)
-
-pub Follows-balanced : {E : Type 0} (s : State) (event : Event) (result : Result (Option State) E) → IfOk result (Follows s event) → Balanced s
-    → IfOk result (λ after. IfSome after Balanced)
-Follows-balanced s event (Ok (Some t)) h b = Happens-balanced s event t h b
-Follows-balanced s event (Ok None) h b = tt
-Follows-balanced s event (Err e) h b = tt
 
 pub Runs-balanced : (events : List Event) (s t : State) → Runs s events t → Balanced s → Balanced t
 Runs-balanced [] s t r b = subst Balanced (sym r) b

@@ -1,5 +1,5 @@
 -- That an event makes one state of a state, and what that says of several events.
-use Rattle.std.proofs.Common.{◌≡◌, ◌<◌, ◌+◌, ◌≤◌, ℕ, Option, Some, None, List, [], ◌∷◌, ◌++◌, drop, get_or, length, sym, ◌∙◌, ap, subst, refl}
+use Rattle.std.proofs.Common.{◌≡◌, ◌<◌, ◌+◌, ◌≤◌, ℕ, Bool, true, false, Option, Some, None, List, [], ◌∷◌, ◌++◌, drop, get_or, length, sym, ◌∙◌, ap, subst, refl}
 use Rattle.std.proofs.lemmas.List.{drop_all, drop_more}
 use Rattle.std.proofs.lemmas.Option.{same_Some}
 use Rattle.fuse_wire.specs.declared.newtypes.RequestId.{RequestId}
@@ -11,7 +11,7 @@ use Rattle.fuse_workers.specs.declared.event.Event.TheVariants.{Receive, Take, A
 use Rattle.fuse_workers.specs.declared.state.Hand.TheVariants.{Empty, Asked, Answered}
 use Rattle.fuse_workers.specs.declared.state.Job.{Job}
 use Rattle.fuse_workers.specs.declared.state.State.{State}
-use Rattle.fuse_workers.specs.Step.{Follows, HandAnswers, Happens, Runs, with_hand, went}
+use Rattle.fuse_workers.specs.Step.{HandAnswers, Happens, MayHappen, Runs, with_hand, went}
 
 same_first : {X : Type 0} (xs us vs : List X) (x y : X) → xs ≡ x ∷ us → xs ≡ y ∷ vs → x ≡ y
 same_first xs us vs x y a b = let both : x ∷ us ≡ y ∷ vs = sym a ∙ b in cc
@@ -50,10 +50,10 @@ Happens-one s (Late late) t u h k = h.1 ∙ sym k.1
 Happens-one s (Notify f) t u h k = h.1 ∙ sym k.1
 
 -- a worker that leaves its answer for later has answered by a mark
-pub Follows-deferred : (s : State) (worker seq : ℕ) (id : RequestId) (after : Option State) → Follows s (Answer worker (Deferred seq id)) after
-    → Follows s (Defer worker seq id) after
-Follows-deferred s worker seq id (Some t) h = h
-Follows-deferred s worker seq id None h = h
+pub MayHappen-deferred : (s : State) (worker seq : ℕ) (id : RequestId) (t : State) (happened : Bool)
+    → MayHappen s (Answer worker (Deferred seq id)) t happened → MayHappen s (Defer worker seq id) t happened
+MayHappen-deferred s worker seq id t true h = h
+MayHappen-deferred s worker seq id t false h = h
 
 -- what comes after the first of several events
 pub Runs-after : (s next t : State) (event : Event) (events : List Event) → Happens s event next → Runs s (event ∷ events) t → Runs next events t

@@ -1,6 +1,6 @@
 -- What may happen on any number of workers, one step after another, and what each step makes of the state. The lists stand for what
 -- the threads share: a line of jobs, a hand for each worker, and a line of parcels for whoever sends.
-use Rattle.std.specs.Prelude.{◌≡◌, ◌<◌, ◌++◌, ℕ, List, [], ◌∷◌, Option, Some, None, Ok, length, replicate, slice_get, slice_set, if◌then◌else◌}
+use Rattle.std.specs.Prelude.{◌≡◌, ◌<◌, ◌++◌, ℕ, Bool, true, false, List, [], ◌∷◌, Option, Some, None, Ok, length, replicate, slice_get, slice_set, if◌then◌else◌}
 use Rattle.fuse_request.specs.Header.{header}
 use Rattle.fuse_request.specs.declared.any_request.Header.{Header}
 use Rattle.fuse_reply.specs.declared.out.Out.{Out}
@@ -97,6 +97,11 @@ Happens s (Notify f) t = HasRoom s.line × (t ≡ record s { line = s.line ++ No
 abbrev pub Follows : State → Event → Option State → Type 0
 Follows s event (Some t) = Happens s event t
 Follows s event None = (t : State) → ¬ (Happens s event t)
+
+-- whether the event may happen, and then it makes the other state of the first
+abbrev pub MayHappen : State → Event → State → Bool → Type 0
+MayHappen s event t true = Happens s event t
+MayHappen s event t false = (u : State) → ¬ (Happens s event u)
 
 -- these events may happen one after another, and make the other state of the first
 abbrev pub Runs : State → List Event → State → Type 0

@@ -1,51 +1,61 @@
-// Lists that are made from others.
+// Lists that change at one place.
 ghost use Rattle.std.specs.Prelude.{◌≡◌, ◌<◌, ◌∷◌, ◌++◌, [], length, IfOk, MatchOption};
 ghost use Rattle.std.specs.Prelude.{Some, remove, slice_get, slice_set};
 
 use fuse_wire::{Items, NoMemory};
+use std::alloc::Global;
 use std::mem;
 
-/// The list with one item more at its end.
-pub(crate) fn pushed<T: Drop>(items: Items<T>, item: T) -> Result<Items<T>, NoMemory>
-    ensures { IfOk result (λ longer. longer ≡ items ++ item ∷ []) }
+/// The vector of a list, which is empty then. This takes no memory.
+fn take_out<T: Drop>(alloc: Global, items: &mut Items<T>) -> Vec<T>
+    ensures { result.items ≡ items.old }
 {
-    let mut items = items.into_vec();
-    match items.push(item) {
-        Ok(()) => Ok(Items::from_vec(items)),
-        Err(_) => Err(NoMemory),
-    }
+    mem::replace(items, Items::from_vec(Vec::new(alloc))).into_vec()
 }
 
-/// The first item, and the others.
-pub(crate) fn first<T: Drop>(items: Items<T>) -> Option<(T, Items<T>)>
-    ensures { MatchOption result (items ≡ []) (λ parts. items ≡ parts.0 ∷ parts.1) }
+/// Puts an item at the end. Where there is no memory for it, it is let go.
+pub(crate) fn push<T: Drop>(alloc: Global, items: &mut Items<T>, item: T) -> Result<(), NoMemory>
+    ensures { IfOk result (λ _. items.new ≡ items.old ++ item ∷ []) }
 {
-    let mut items = items.into_vec();
-    if items.is_empty() {
+    let mut list = take_out(alloc, items);
+    let is_put = list.push(item).is_ok();
+    *items = Items::from_vec(list);
+    if is_put { Ok(()) } else { Err(NoMemory) }
+}
+
+/// Takes the first item off, if there is one.
+pub(crate) fn take_first<T: Drop>(alloc: Global, items: &mut Items<T>) -> Option<T>
+    ensures { MatchOption result (items.old ≡ []) (λ first. items.old ≡ first ∷ items.new) }
+{
+    if items.as_slice().is_empty() {
         return None;
     }
-    let first = items.remove(0);
-    Some((first, Items::from_vec(items)))
+    let mut list = take_out(alloc, items);
+    let first = list.remove(0);
+    *items = Items::from_vec(list);
+    Some(first)
 }
 
-/// The item at a place, and the list without it.
-pub(crate) fn removed<T: Drop>(items: Items<T>, place: usize) -> (T, Items<T>)
-    requires { place < length items }
-    ensures item { slice_get items place ≡ Some result.0 }
-    ensures rest { result.1 ≡ remove items place }
+/// Takes the item at a place out.
+pub(crate) fn take_at<T: Drop>(alloc: Global, items: &mut Items<T>, place: usize) -> T
+    requires { place < length items.old }
+    ensures item { slice_get items.old place ≡ Some result }
+    ensures rest { items.new ≡ remove items.old place }
 {
-    let mut items = items.into_vec();
-    let item = items.remove(place);
-    (item, Items::from_vec(items))
+    let mut list = take_out(alloc, items);
+    let item = list.remove(place);
+    *items = Items::from_vec(list);
+    item
 }
 
-/// The item at a place, and the list with another one there.
-pub(crate) fn exchanged<T: Drop>(items: Items<T>, place: usize, item: T) -> (T, Items<T>)
-    requires { place < length items }
-    ensures old { slice_get items place ≡ Some result.0 }
-    ensures new { result.1 ≡ slice_set items place item }
+/// Puts an item in the place of another, which comes back.
+pub(crate) fn exchange<T: Drop>(alloc: Global, items: &mut Items<T>, place: usize, item: T) -> T
+    requires { place < length items.old }
+    ensures old { slice_get items.old place ≡ Some result }
+    ensures new { items.new ≡ slice_set items.old place item }
 {
-    let mut items = items.into_vec();
-    let old = mem::replace(&mut items[place], item);
-    (old, Items::from_vec(items))
+    let mut list = take_out(alloc, items);
+    let other = mem::replace(&mut list[place], item);
+    *items = Items::from_vec(list);
+    other
 }

@@ -1,12 +1,13 @@
 // The steps of a run, one after another.
-ghost use Rattle.std.specs.Prelude.{◌≡◌, ◌↔◌, ℕ, List, Bool, IsTrue, IfOk, IfSome, length};
+ghost use Rattle.std.specs.Prelude.{◌≡◌, ◌↔◌, ◌++◌, ◌∷◌, ℕ, List, [], Bool, IsTrue, IfOk, IfSome, MatchBool, length};
 ghost use Rattle.fuse_reply.specs.declared.out.Out.{Out as Goes};
 ghost use Rattle.fuse_workers.specs.Balanced.{Balanced};
 ghost use Rattle.fuse_workers.specs.Owing.{EachOwed, OwedApart, passes};
-ghost use Rattle.fuse_workers.specs.Step.{Follows, LeadsTo, StandsFor, empty, late_went, marked, went};
+ghost use Rattle.fuse_workers.specs.Step.{Follows, HasRoom, LeadsTo, MayHappen, StandsFor};
+ghost use Rattle.fuse_workers.specs.Step.{empty, late_went, marked, went};
 
 use crate::copied::Copied;
-use crate::lists::{exchanged, first, pushed, removed};
+use crate::lists::{exchange, push, take_at, take_first};
 use crate::marks::{first_held, is_unused, tag_of, tag_of_late};
 use crate::{Event, Hand, Job, LINE_PLACES, Mark, SentOut, State};
 use fuse_reply::{LateFrame, NoticeFrame, Out, Parcel};
@@ -21,8 +22,12 @@ pub fn step(alloc: Global, state: &State, event: &Event) -> Result<Option<State>
     ensures follows { IfOk result (Follows state.now event.now) }
     ensures balanced { Balanced state.now → IfOk result (λ after. IfSome after Balanced) }
 {
-    let start = state.copied(alloc)?;
-    after(alloc, start, event)
+    let mut next = state.copied(alloc)?;
+    if apply(alloc, &mut next, event)? {
+        Ok(Some(next))
+    } else {
+        Ok(None)
+    }
 }
 
 /// The state after these events, one after another, or None where one of them cannot happen.
@@ -45,20 +50,21 @@ pub fn run(alloc: Global, state: &State, events: &[Event]) -> Result<Option<Stat
     Ok(Some(reached))
 }
 
-/// The state after an event, which is made of this one.
-fn after(alloc: Global, state: State, event: &Event) -> Result<Option<State>, NoMemory>
-    ensures { IfOk result (Follows state event.now) }
+/// Lets an event happen, and says whether it can. A state that it can't happen in, or that memory was wanting for, is of no
+/// more use.
+fn apply(alloc: Global, state: &mut State, event: &Event) -> Result<bool, NoMemory>
+    ensures { IfOk result (MayHappen state.old event.now state.new) }
 {
     match event {
-        Event::Receive(message) => received(alloc, state, message),
-        Event::Take(worker) => Ok(taken(state, *worker)),
-        Event::Answer(worker, out) => Ok(answered(state, *worker, out.copied(alloc)?)),
-        Event::Defer(worker, seq, id) => Ok(deferred(state, *worker, *seq, *id)),
-        Event::Push(worker) => put(state, *worker),
-        Event::Send => sent(state),
-        Event::Own(message, out) => owned(alloc, state, message, out.copied(alloc)?),
-        Event::Late(frame) => came_later(state, frame.clone()?),
-        Event::Notify(frame) => notified(state, frame.clone()?),
+        Event::Receive(message) => receive(alloc, state, message),
+        Event::Take(worker) => Ok(take(alloc, state, *worker)),
+        Event::Answer(worker, out) => Ok(answer(alloc, state, *worker, out.copied(alloc)?)),
+        Event::Defer(worker, seq, id) => Ok(defer(alloc, state, *worker, *seq, *id)),
+        Event::Push(worker) => put(alloc, state, *worker),
+        Event::Send => send(alloc, state),
+        Event::Own(message, out) => own(alloc, state, message, out.copied(alloc)?),
+        Event::Late(frame) => queue(alloc, state, Parcel::Late(frame.clone()?)),
+        Event::Notify(frame) => queue(alloc, state, Parcel::Notice(frame.clone()?)),
     }
 }
 
@@ -69,199 +75,154 @@ fn next_number(state: &State) -> u64
     state.received.as_slice().len() as u64
 }
 
+/// Puts a parcel on the line, where there is a place for it, and says whether it did.
+fn queue(alloc: Global, state: &mut State, parcel: Parcel) -> Result<bool, NoMemory>
+    ensures { IfOk result (λ queued. MatchBool queued
+        (HasRoom state.old.line × (state.new ≡ record state.old { line = state.old.line ++ parcel ∷ [] }))
+        (¬ (HasRoom state.old.line))) }
+{
+    if state.line.as_slice().len() >= LINE_PLACES {
+        return Ok(false);
+    }
+    push(alloc, &mut state.line, parcel)?;
+    Ok(true)
+}
+
 /// A message comes, and becomes a job.
-fn received(alloc: Global, state: State, message: &Items<u8>) -> Result<Option<State>, NoMemory>
-    ensures { IfOk result (Follows state (Event.Receive message.now)) }
+fn receive(alloc: Global, state: &mut State, message: &Items<u8>) -> Result<bool, NoMemory>
+    ensures { IfOk result (MayHappen state.old (Event.Receive message.now) state.new) }
 {
     if state.jobs.as_slice().len() >= LINE_PLACES {
-        return Ok(None);
+        return Ok(false);
     }
-    let seq = next_number(&state);
     let job = Job {
-        seq,
+        seq: next_number(state),
         message: message.copied(alloc)?,
     };
-    Ok(Some(State {
-        received: pushed(state.received, message.copied(alloc)?)?,
-        jobs: pushed(state.jobs, job)?,
-        ..state
-    }))
+    push(alloc, &mut state.jobs, job)?;
+    push(alloc, &mut state.received, message.copied(alloc)?)?;
+    Ok(true)
 }
 
 /// A message comes with what goes out for it.
-fn owned(
-    alloc: Global,
-    state: State,
-    message: &Items<u8>,
-    out: Out,
-) -> Result<Option<State>, NoMemory>
-    ensures { IfOk result (Follows state (Event.Own message.now out)) }
+fn own(alloc: Global, state: &mut State, message: &Items<u8>, out: Out) -> Result<bool, NoMemory>
+    ensures { IfOk result (MayHappen state.old (Event.Own message.now out) state.new) }
 {
-    let seq = next_number(&state);
-    if state.line.as_slice().len() >= LINE_PLACES || !stands_for(seq, message.as_slice(), &out) {
-        return Ok(None);
+    let seq = next_number(state);
+    if !stands_for(seq, message.as_slice(), &out)
+        || !queue(alloc, state, Parcel::Prompt(seq, out))?
+    {
+        return Ok(false);
     }
-    Ok(Some(State {
-        received: pushed(state.received, message.copied(alloc)?)?,
-        line: pushed(state.line, Parcel::Prompt(seq, out))?,
-        ..state
-    }))
+    push(alloc, &mut state.received, message.copied(alloc)?)?;
+    Ok(true)
 }
 
 /// A worker takes a job.
-fn taken(state: State, worker: usize) -> Option<State>
-    ensures { Follows state (Event.Take worker) result }
+fn take(alloc: Global, state: &mut State, worker: usize) -> bool
+    ensures { MayHappen state.old (Event.Take worker) state.new result }
 {
     let Some(Hand::Empty) = state.hands.as_slice().get(worker) else {
-        return None;
+        return false;
     };
-    let Some((job, jobs)) = first(state.jobs) else {
-        return None;
+    let Some(job) = take_first(alloc, &mut state.jobs) else {
+        return false;
     };
-    let (_, hands) = exchanged(state.hands, worker, Hand::Asked(job));
-    Some(State {
-        jobs,
-        hands,
-        ..state
-    })
+    exchange(alloc, &mut state.hands, worker, Hand::Asked(job));
+    true
 }
 
 /// A worker answers its job.
-fn answered(state: State, worker: usize, out: Out) -> Option<State>
-    ensures { Follows state (Event.Answer worker out) result }
+fn answer(alloc: Global, state: &mut State, worker: usize, out: Out) -> bool
+    ensures { MayHappen state.old (Event.Answer worker out) state.new result }
 {
     let Some(Hand::Asked(job)) = state.hands.as_slice().get(worker) else {
-        return None;
+        return false;
     };
     let seq = job.seq;
     if !stands_for(seq, job.message.as_slice(), &out) {
-        return None;
+        return false;
     }
-    let (_, hands) = exchanged(state.hands, worker, Hand::Answered(seq, out));
-    Some(State { hands, ..state })
+    exchange(alloc, &mut state.hands, worker, Hand::Answered(seq, out));
+    true
 }
 
 /// A worker leaves the answer of its job for later.
-fn deferred(state: State, worker: usize, seq: u64, id: RequestId) -> Option<State>
-    ensures { Follows state (Event.Defer worker seq id) result }
+fn defer(alloc: Global, state: &mut State, worker: usize, seq: u64, id: RequestId) -> bool
+    ensures { MayHappen state.old (Event.Defer worker seq id) state.new result }
 {
-    answered(state, worker, Out::Deferred(seq, id))
+    answer(alloc, state, worker, Out::Deferred(seq, id))
 }
 
 /// A worker puts what it has answered on the line.
-fn put(state: State, worker: usize) -> Result<Option<State>, NoMemory>
-    ensures { IfOk result (Follows state (Event.Push worker)) }
+fn put(alloc: Global, state: &mut State, worker: usize) -> Result<bool, NoMemory>
+    ensures { IfOk result (MayHappen state.old (Event.Push worker) state.new) }
 {
-    if worker >= state.hands.as_slice().len() || state.line.as_slice().len() >= LINE_PLACES {
-        return Ok(None);
+    if worker >= state.hands.as_slice().len() {
+        return Ok(false);
     }
-    let (hand, hands) = exchanged(state.hands, worker, Hand::Empty);
-    let Hand::Answered(seq, out) = hand else {
-        return Ok(None);
-    };
-    Ok(Some(State {
-        hands,
-        line: pushed(state.line, Parcel::Prompt(seq, out))?,
-        ..state
-    }))
-}
-
-/// A reply comes later.
-fn came_later(state: State, frame: LateFrame) -> Result<Option<State>, NoMemory>
-    ensures { IfOk result (Follows state (Event.Late frame)) }
-{
-    if state.line.as_slice().len() >= LINE_PLACES {
-        return Ok(None);
+    match exchange(alloc, &mut state.hands, worker, Hand::Empty) {
+        Hand::Answered(seq, out) => queue(alloc, state, Parcel::Prompt(seq, out)),
+        Hand::Empty | Hand::Asked(_) => Ok(false),
     }
-    Ok(Some(State {
-        line: pushed(state.line, Parcel::Late(frame))?,
-        ..state
-    }))
-}
-
-/// A notice comes.
-fn notified(state: State, frame: NoticeFrame) -> Result<Option<State>, NoMemory>
-    ensures { IfOk result (Follows state (Event.Notify frame)) }
-{
-    if state.line.as_slice().len() >= LINE_PLACES {
-        return Ok(None);
-    }
-    Ok(Some(State {
-        line: pushed(state.line, Parcel::Notice(frame))?,
-        ..state
-    }))
 }
 
 /// The first parcel is sent.
-fn sent(state: State) -> Result<Option<State>, NoMemory>
-    ensures { IfOk result (Follows state Event.Send) }
+fn send(alloc: Global, state: &mut State) -> Result<bool, NoMemory>
+    ensures { IfOk result (MayHappen state.old Event.Send state.new) }
 {
-    let Some((parcel, line)) = first(state.line) else {
-        return Ok(None);
+    let Some(parcel) = take_first(alloc, &mut state.line) else {
+        return Ok(false);
     };
-    let state = State { line, ..state };
-    Ok(Some(leave(state, parcel)?))
+    leave(alloc, state, parcel)?;
+    Ok(true)
 }
 
 /// A parcel has left the line.
-fn leave(state: State, parcel: Parcel) -> Result<State, NoMemory>
-    ensures { IfOk result (λ after. after ≡ went parcel state) }
+fn leave(alloc: Global, state: &mut State, parcel: Parcel) -> Result<(), NoMemory>
+    ensures { IfOk result (λ _. state.new ≡ went parcel state.old) }
 {
     match parcel {
-        Parcel::Prompt(seq, out) => settle(state, seq, out),
-        Parcel::Late(frame) => match_late(state, frame),
-        Parcel::Notice(_) => Ok(state),
+        Parcel::Prompt(seq, out) => settle(alloc, state, seq, out),
+        Parcel::Late(frame) => match_late(alloc, state, frame),
+        Parcel::Notice(_) => Ok(()),
     }
 }
 
 /// A late frame is sent where a mark for it is unused, and else it is held.
-fn match_late(state: State, frame: LateFrame) -> Result<State, NoMemory>
-    ensures { IfOk result (λ after. after ≡ late_went frame state) }
+fn match_late(alloc: Global, state: &mut State, frame: LateFrame) -> Result<(), NoMemory>
+    ensures { IfOk result (λ _. state.new ≡ late_went frame state.old) }
 {
-    if is_unused(
-        tag_of_late(&frame),
-        state.marks.as_slice(),
-        state.late.as_slice(),
-    ) {
-        return Ok(State {
-            late: pushed(state.late, frame)?,
-            ..state
-        });
+    let tag = tag_of_late(&frame);
+    if is_unused(tag, state.marks.as_slice(), state.late.as_slice()) {
+        push(alloc, &mut state.late, frame)
+    } else {
+        push(alloc, &mut state.held, frame)
     }
-    Ok(State {
-        held: pushed(state.held, frame)?,
-        ..state
-    })
 }
 
 /// A mark comes, and lets the first frame go that is held for it.
-fn mark(state: State, mark: Mark) -> Result<State, NoMemory>
-    ensures { IfOk result (λ after. after ≡ marked mark state) }
+fn mark(alloc: Global, state: &mut State, mark: Mark) -> Result<(), NoMemory>
+    ensures { IfOk result (λ _. state.new ≡ marked mark state.old) }
 {
-    let marks = pushed(state.marks, mark)?;
-    let Some(place) = first_held(tag_of(mark), state.held.as_slice()) else {
-        return Ok(State { marks, ..state });
-    };
-    let (frame, held) = removed(state.held, place);
-    Ok(State {
-        marks,
-        held,
-        late: pushed(state.late, frame)?,
-        ..state
-    })
+    push(alloc, &mut state.marks, mark)?;
+    match first_held(tag_of(mark), state.held.as_slice()) {
+        Some(place) => {
+            let frame = take_at(alloc, &mut state.held, place);
+            push(alloc, &mut state.late, frame)
+        }
+        None => Ok(()),
+    }
 }
 
 /// What goes out for a message is sent, or is a mark of what comes later.
-fn settle(state: State, seq: u64, out: Out) -> Result<State, NoMemory>
-    ensures { IfOk result (λ after. after ≡ went (Parcel.Prompt seq out) state) }
+fn settle(alloc: Global, state: &mut State, seq: u64, out: Out) -> Result<(), NoMemory>
+    ensures { IfOk result (λ _. state.new ≡ went (Parcel.Prompt seq out) state.old) }
 {
-    if let Out::Deferred(seq, id) = out {
-        return mark(state, Mark { seq, id });
+    match out {
+        Out::Deferred(seq, id) => mark(alloc, state, Mark { seq, id }),
+        Out::Frame(_) | Out::Note(_, _) => push(alloc, &mut state.sent, SentOut { seq, out }),
     }
-    Ok(State {
-        sent: pushed(state.sent, SentOut { seq, out })?,
-        ..state
-    })
 }
 
 /// Whether this may go out for a message: a mark has the message's number, and the id of its header, which is good.

@@ -1,9 +1,12 @@
 use Rattle.std.proofs.Common.{sym, subst}
 use Rattle.fuse_workers.specs.Balanced.{Balanced}
-use Rattle.fuse_workers.proofs.Balancing.{Follows-balanced}
+use Rattle.fuse_workers.specs.Step.{MayHappen}
+use Rattle.fuse_workers.proofs.Balancing.{Happens-balanced}
 use Rattle.fuse_workers.proofs.stepping.step.Goals as goal
 
-pub returns-clause-balanced : goal.returns-clause-balanced
-returns-clause-balanced c balanced =
-    let same = c.in_ok-start.ensures in
-    Follows-balanced c.in_ok-start.start c.args.event.now c.after.result c.after.ensures (subst Balanced (sym same) balanced)
+pub returns-then-branch-clause-balanced : goal.returns-then-branch-clause-balanced
+returns-then-branch-clause-balanced c balanced =
+    let before = c.in_ok-next.next in
+    let after = c.apply.new.state in
+    let happens = subst (MayHappen before c.args.event.now after) c.if-branch.true c.in_ok-apply.ensures in
+    Happens-balanced before c.args.event.now after happens (subst Balanced (sym c.in_ok-next.ensures) balanced)
