@@ -1,14 +1,16 @@
 // What a thread answers messages with.
-ghost use Rattle.std.specs.Prelude.{◌≡◌, IfOk};
+ghost use Rattle.std.specs.Prelude.{◌≡◌, None, IfOk};
 ghost use Rattle.fuse_notify.specs.Queueing.{fresh_door};
+ghost use Rattle.fuse_reply.specs.EndMark.{mark};
 ghost use Rattle.fuse_workers.specs.Answering.{DoorFits, IsRequest};
-ghost use Rattle.fuse_workers.specs.Lines.{fresh_doors};
 ghost use Rattle.fuse_workers.specs.Threads.{answering};
 
 use crate::Work;
 use crate::doors::Doors;
+use crate::ending::Ending;
+use crate::run_line::RunLine;
 use fuse_notify::Notifier;
-use fuse_reply::{Door, NoDoor, Out};
+use fuse_reply::{Door, NoDoor, Out, Parcel};
 use fuse_wire::NoMemory;
 use std::alloc::AllocGlobal;
 use std::marker::Model;
@@ -47,6 +49,22 @@ fn door_for<W: Work>(doors: &mut Doors, seq: u64) -> Result<Door, NoDoor>
 }
 
 impl Answerer {
+    /// What answers with doors to this line, and with shares of the mark of this end.
+    pub(crate) fn new(
+        frames: &mut RunLine<Parcel>,
+        ending: &mut Ending,
+    ) -> Result<Answerer, NoMemory>
+        ensures same { (frames.new ≡ frames.old) × (ending.new ≡ ending.old) }
+        ensures fresh { IfOk result (λ made. made ≡ record {
+          notifier = fresh_door frames.old.line;
+          doors = record { pass = fresh_door frames.old.line; mark = mark ending.old.name ending.old.known None };
+        }) }
+    {
+        let notifier = frames.notifier()?;
+        let doors = frames.doors(ending.share()?)?;
+        Ok(Answerer { notifier, doors })
+    }
+
     /// Answers the message of this number.
     #[inline(always)]
     pub(crate) fn answer<R: Wait + AllocGlobal, W: Work>(

@@ -8,13 +8,11 @@ ghost use Rattle.fuse_workers.specs.Book.{EachWaiting, IsBookOf};
 ghost use Rattle.fuse_workers.specs.Book.{frames_waiting, how_many, marks_waiting, tagged, waiting};
 ghost use Rattle.fuse_workers.specs.Matched.{Tag, same};
 
+use crate::marks::Key;
 use crate::unmatched::{Unmatched, with_frame, with_mark};
 use fuse_wire::RequestId;
 use std::alloc::Global;
 use std::collections::HashMap;
-
-/// The number of a message, and the id of its request.
-type Key = (u64, u64);
 
 /// What waits, by what it waits for.
 type Waiting<F> = HashMap<Key, Unmatched<F>>;

@@ -35,6 +35,24 @@ impl Model for Lines {
 }
 
 impl Lines {
+    /// Takes the memory of lines that nobody has used.
+    fn new(alloc: Global) -> Result<Lines, NoMemory>
+        ensures unused { IfOk result IsUnused }
+        ensures places { IfOk result (λ made. (made.frames.line.slots ≡ LINE_PLACES)
+            × (made.jobs.line.slots ≡ LINE_PLACES)) }
+    {
+        let mut frames = RunLine::new(alloc)?;
+        let jobs = RunLine::new(alloc)?;
+        let mut ending = Ending::new(alloc)?;
+        let answerer = Answerer::new(&mut frames, &mut ending)?;
+        Ok(Lines {
+            frames,
+            jobs,
+            answerer,
+            ending,
+        })
+    }
+
     /// What queues notices for whoever sends.
     pub fn notifier(&mut self) -> Result<Notifier, NoMemory>
         ensures same { self.new ≡ self.old }
@@ -72,17 +90,7 @@ impl Buffers {
             × (made.jobs.line.slots ≡ LINE_PLACES)) }
     {
         let receive = receive_buffer(alloc)?;
-        let mut frames = RunLine::new(alloc)?;
-        let jobs = RunLine::new(alloc)?;
-        let mut ending = Ending::new(alloc)?;
-        let notifier = frames.notifier()?;
-        let doors = frames.doors(ending.share()?)?;
-        let lines = Lines {
-            frames,
-            jobs,
-            answerer: Answerer { notifier, doors },
-            ending,
-        };
+        let lines = Lines::new(alloc)?;
         Ok(Buffers { receive, lines })
     }
 
