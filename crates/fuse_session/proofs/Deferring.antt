@@ -1,4 +1,4 @@
--- What a request came to by a door is what its message is owed.
+-- What a request came to, by a door or at once, is what its message is owed.
 use Rattle.std.proofs.Common.{◌≡◌, ◌∙◌, ℕ, Bool, Result, Ok, Err, inl, inr, sym, ap, subst}
 use Rattle.atomic_table.specs.Seated.{TableId}
 use Rattle.fuse_request.specs.Call.{Call}
@@ -35,3 +35,10 @@ owed-comes owes request (Broken e) defers line seq id door out later fits (inr p
 owed-comes owes request Ends defers line seq id door out later fits (inr put_off) = absurd put_off.0
 owed-comes owes request (Fixed errno) defers line seq id door out later fits (inr put_off) = absurd put_off.0
 owed-comes owes request (Forgets c) defers line seq id door out later fits (inr put_off) = absurd put_off.0
+
+-- what came where there is no door is owed, whatever the number
+pub owed-at-once : (owes : Owes) (request : Request) (v : Verdict) (seq id : ℕ) (none : NoDoor) (out : Out)
+    → ComesBy owes (Err none) request v id out → owes request v seq id out
+owed-at-once owes request v seq id none out (inl at_once) = at_once.1 seq
+owed-at-once owes request v seq id none out (inr put_off) =
+    absurd (let is : Err none ≡ Ok put_off.1.through = put_off.1.is_door in let no : ⊥ = cc in no)

@@ -99,16 +99,17 @@ impl<H: Handler> Service<H> {
         }
     }
 
-    /// What a request comes to, whose reply may come later through this door.
-    fn answer_by_door(
+    /// What a request comes to, whose reply may be given so.
+    #[inline(always)]
+    fn answer_by<G: Giving + Drop>(
         &self,
         alloc: Global,
         notifier: &mut Notifier,
-        door: Result<Door, NoDoor>,
+        giving: G,
         message: &[u8],
     ) -> Out
         requires message { IsRequest message.now }
-        ensures owed { ComesBy (H.owes self.now.handler) door (request_of (header_fields message.now))
+        ensures owed { ComesBy (H.owes self.now.handler) (G.door giving) (request_of (header_fields message.now))
             (verdict self.now.rule.acl self.now.rule.owner message.now) (id_of message.now) result }
         ensures line { notifier.new.line ≡ notifier.old.line }
     {
@@ -124,7 +125,7 @@ impl<H: Handler> Service<H> {
             node: request.nodeid(),
             request: request.request(),
         };
-        self.serve(&asked, ByDoor { door }, notifier, &operation)
+        self.serve(&asked, giving, notifier, &operation)
     }
 }
 
@@ -143,19 +144,7 @@ impl<H: Handler + Sync> Work for Service<H> {
         _seq: u64,
         message: &[u8],
     ) -> Out {
-        let request = AnyRequest::from_checked(message);
-        let (alloc, id) = (rt.alloc(), request.unique());
-        let operation = match self.rule.operation(&request) {
-            Ok(operation) => operation,
-            Err(error) => return refusal(alloc, id, error),
-        };
-        let asked = Asked {
-            alloc,
-            id,
-            node: request.nodeid(),
-            request: request.request(),
-        };
-        self.serve(&asked, AtOnce, notifier, &operation)
+        self.answer_by(rt.alloc(), notifier, AtOnce, message)
     }
 
     ghost owed_to_destroy = { λ service seq m is.
@@ -181,7 +170,7 @@ impl<H: Handler + Sync> Work for Shared<H> {
     ) -> Out {
         if H::DEFERS {
             self.service
-                .answer_by_door(rt.alloc(), notifier, door, message)
+                .answer_by(rt.alloc(), notifier, ByDoor { door }, message)
         } else {
             self.service.answer(rt, notifier, door, seq, message)
         }

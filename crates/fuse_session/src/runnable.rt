@@ -95,6 +95,7 @@ fn serve<R: Threads + Wait + AllocGlobal + Sync, FS: Filesystem, S: Source, K: S
     ensures recorded { NeverLater n_threads FS.promise.defers → result.transcript.unrecorded ≡ 0 }
 {
     if n_threads == Some(0) {
+        drop(buffers);
         return Served {
             outcome: Err(SessionError::Threads),
             transcript: shaken,
@@ -107,8 +108,9 @@ fn serve<R: Threads + Wait + AllocGlobal + Sync, FS: Filesystem, S: Source, K: S
         transcript,
         source,
         sink,
-        buffers: _,
+        buffers,
     } = answer_all(rt, shared, n_threads, source, sink, buffers);
+    drop(buffers);
     Served {
         outcome: run_outcome(end),
         transcript: shaken.and(transcript),

@@ -109,7 +109,8 @@ fn open<R: Wait + AllocGlobal, FS: Filesystem, S: Source, K: Sink>(
             Ok(Session { runnable, notifier })
         }
         Err(error) => {
-            let (source, sink, _, transcript) = channel.close(lines);
+            let (source, sink, buffers, transcript) = channel.close(lines);
+            drop(buffers);
             Err(destroyed(filesystem, source, sink, transcript, Err(error)))
         }
     }

@@ -13,5 +13,5 @@ returns-then-DEFERS-clause-owed g c =
     let id = id_of c.args.message.now in
     let later : g.H.Handler.DEFERS ≡ true = search rules in
     owed-comes (g.H.Handler.owes service.handler) request (verdict service.rule.acl service.rule.owner c.args.message.now)
-    g.H.Handler.DEFERS c.args.notifier.now.line c.args.seq id c.args.door c.answer_by_door.result
-    (λ call. g.met.H.Handler.owes_later service.handler request call c.args.seq id later) c.requires.door c.answer_by_door.ensures.owed
+    g.H.Handler.DEFERS c.args.notifier.now.line c.args.seq id c.args.door c.answer_by.result
+    (λ call. g.met.H.Handler.owes_later service.handler request call c.args.seq id later) c.requires.door c.answer_by.ensures.owed
