@@ -232,23 +232,27 @@ fn events_happen_where_they_may(rt: HostRuntime) -> Result<(), Fail> {
     Ok(())
 }
 
-/// How often this event happens, but at most this often, and the state after it.
-fn repeated(alloc: Global, event: &Event, most: u64) -> Result<(u64, State), NoMemory> {
-    let mut state = State::new(alloc, 1)?;
-    for times in 0..most {
-        match step(alloc, &state, event)? {
-            Some(next) => state = next,
-            None => return Ok((times, state)),
+/// Lets the event happen to the state, where it can, and says whether it did.
+fn happens(alloc: Global, state: &mut State, event: &Event) -> Result<bool, NoMemory> {
+    match step(alloc, state, event)? {
+        Some(next) => {
+            *state = next;
+            Ok(true)
         }
+        None => Ok(false),
     }
-    Ok((most, state))
 }
 
 /// How often the event of this letter happens, of 65 times, and the counts after it.
 fn filled<R: Wait + AllocGlobal>(rt: &R, letter: u8) -> Result<(u64, [usize; 7]), NoMemory> {
     let event = event(rt, letter)?;
-    let (times, state) = repeated(rt.alloc(), &event, 65)?;
-    Ok((times, counts(&state)))
+    let mut state = State::new(rt.alloc(), 1)?;
+    for times in 0..65 {
+        if !happens(rt.alloc(), &mut state, &event)? {
+            return Ok((times, counts(&state)));
+        }
+    }
+    Ok((65, counts(&state)))
 }
 
 #[test]
@@ -260,30 +264,31 @@ fn a_line_has_64_places(rt: HostRuntime) -> Result<(), Fail> {
 }
 
 /// Whether the message is all that there is, and the one job.
-fn is_one_job(after: &Option<State>) -> bool {
-    let Some(state) = after else {
-        return false;
-    };
+fn is_one_job(state: &State) -> bool {
     let Some(job) = state.jobs.as_slice().first() else {
         return false;
     };
     is_counted(state, "1100000") && job.seq == 0 && job.message.as_slice() == MESSAGE.as_slice()
 }
 
-/// What comes of one event, by a step and by a run.
-fn once(alloc: Global, event: Event) -> Result<(Option<State>, Option<State>), NoMemory> {
+/// Whether there is one job after an event. None: it can't happen.
+fn one_job_after(after: Option<State>) -> Option<bool> {
+    after.as_ref().map(is_one_job)
+}
+
+/// Whether one event makes one job, by a step and by a run.
+fn once(alloc: Global, event: Event) -> Result<[Option<bool>; 2], NoMemory> {
     let start = State::new(alloc, 1)?;
-    let stepped = step(alloc, &start, &event)?;
-    let ran = run(alloc, &start, &[event])?;
-    Ok((stepped, ran))
+    let stepped = one_job_after(step(alloc, &start, &event)?);
+    let ran = one_job_after(run(alloc, &start, &[event])?);
+    Ok([stepped, ran])
 }
 
 #[test]
 fn a_message_received_is_the_one_job(rt: HostRuntime) -> Result<(), Fail> {
     let alloc = rt.alloc();
-    let (stepped, ran) = once(alloc, Event::Receive(message(alloc)?))?;
-    assert!(rt; is_one_job(&stepped) && is_one_job(&ran));
-    let (stepped, ran) = once(alloc, Event::Take(0))?;
-    assert!(rt; stepped.is_none() && ran.is_none());
+    let made = once(alloc, Event::Receive(message(alloc)?))?;
+    assert_eq!(rt; made, [Some(true); 2]);
+    assert_eq!(rt; once(alloc, Event::Take(0))?, [None; 2]);
     Ok(())
 }

@@ -3,10 +3,10 @@ ghost use Rattle.std.specs.Prelude.{None};
 ghost use Rattle.fuse_workers.specs.Lines.{IsUnused};
 
 use crate::deferring::{Deferring, Plan, Tally};
-use crate::runs::{Said, counts, letter, message, read_frames, taking, turns};
+use crate::runs::{Ran, Said, counts, message, read_frames, taking, turns, without_memory};
 use fuse_request::opcode::FUSE_STATFS;
 use fuse_wire::{MemorySink, MemorySource, NoMemory, Noting, RequestId, Sending, Sink, Turn};
-use fuse_workers::{Buffers, RunEnd, Transcript, run_workers};
+use fuse_workers::{Buffers, Transcript, run_workers};
 use std::alloc::{AllocGlobal, Global};
 use std::sync::atomic::{AtomicU64, Ordering};
 use std::sync::{Arc, Wait};
@@ -35,13 +35,13 @@ fn run_beside<R: Threads + Wait + AllocGlobal + Sync, K: Sink + Send + Drop>(
     source: MemorySource,
     sink: K,
     buffers: Buffers,
-) -> RunEnd<MemorySource, K>
+) -> Ran<MemorySource, K>
     requires { IsUnused buffers }
 {
     thread::scope(
         thread::scope_env(),
         rt,
-        |scope| -> RunEnd<MemorySource, K>
+        |scope| -> Ran<MemorySource, K>
             requires { IsUnused buffers }
         {
             for seed in 1..=threads {
@@ -49,7 +49,7 @@ fn run_beside<R: Threads + Wait + AllocGlobal + Sync, K: Sink + Send + Drop>(
             }
             let ran = run_workers(rt, work, source, sink, buffers, workers);
             work.end();
-            ran
+            without_memory(ran)
         },
     )
 }
@@ -82,22 +82,16 @@ fn run_later<R: Threads + Wait + AllocGlobal + Sync>(
     ids: u64,
 ) -> Result<CameLater, NoMemory> {
     let alloc = rt.alloc();
-    let buffers = Buffers::new(alloc)?;
-    let full = counter(alloc)?;
     let source = MemorySource::new(turns);
+    let full = counter(alloc)?;
+    let buffers = Buffers::new(alloc)?;
     let work = Deferring::new(alloc, plan, full);
-    let RunEnd {
-        end,
-        transcript,
-        source: _,
-        sink,
-        buffers: _,
-    } = run_beside(rt, &work, workers, threads, source, taking(alloc), buffers);
-    let tally = work.finish(rt, transcript.received);
+    let ran = run_beside(rt, &work, workers, threads, source, taking(alloc), buffers);
+    let tally = work.finish(rt, ran.transcript.received);
     Ok(CameLater {
-        end: letter(&end),
-        transcript,
-        said: read_frames(alloc, sink.frames(), ids)?,
+        end: ran.end,
+        transcript: ran.transcript,
+        said: read_frames(alloc, ran.sink.frames(), ids)?,
         tally,
     })
 }
@@ -302,19 +296,42 @@ impl Sink for HeldSink {
     }
 }
 
-/// What becomes of 67 messages, the first of whose frames is held in the sink until a late frame found the line full, and
-/// how often one did.
-fn run_full<R: Threads + Wait + AllocGlobal + Sync>(rt: &R) -> Result<(CameLater, u64), NoMemory> {
+/// What became of a run, where the sink held its first frame back until a late frame found the line full.
+fn held_back(
+    alloc: Global,
+    ran: Ran<MemorySource, HeldSink>,
+    tally: Tally,
+) -> Result<CameLater, NoMemory> {
+    let Ran {
+        end,
+        transcript,
+        source,
+        sink,
+    } = ran;
+    drop(source);
+    Ok(CameLater {
+        end,
+        transcript,
+        said: read_frames(alloc, sink.inner.frames(), 67)?,
+        tally,
+    })
+}
+
+/// What becomes of 67 messages, the first of whose frames is held in the sink until a late frame found the line full.
+/// How often one did is counted.
+fn run_full<R: Threads + Wait + AllocGlobal + Sync>(
+    rt: &R,
+    full: &Arc<AtomicU64, Global>,
+) -> Result<CameLater, NoMemory> {
     let alloc = rt.alloc();
-    let buffers = Buffers::new(alloc)?;
-    let full = counter(alloc)?;
+    let source = MemorySource::new(turns(alloc, 67, None)?);
     let sink = HeldSink {
         inner: taking(alloc),
         faults: 0,
-        full: Arc::try_clone(&full)?,
+        full: Arc::try_clone(full)?,
     };
-    let theirs = Arc::try_clone(&full)?;
-    let source = MemorySource::new(turns(alloc, 67, None)?);
+    let theirs = Arc::try_clone(full)?;
+    let buffers = Buffers::new(alloc)?;
     // With no worker the parcels come in order: the first frame, and then 65 marks. Where 65 tokens lie on the shelf, 64
     // of the marks were pushed behind that frame, which the sender has taken.
     let plan = Plan {
@@ -328,18 +345,13 @@ fn run_full<R: Threads + Wait + AllocGlobal + Sync>(rt: &R) -> Result<(CameLater
     let work = Deferring::new(alloc, plan, theirs);
     let ran = run_beside(rt, &work, 0, 1, source, sink, buffers);
     let tally = work.finish(rt, ran.transcript.received);
-    let became = CameLater {
-        end: letter(&ran.end),
-        transcript: ran.transcript,
-        said: read_frames(alloc, ran.sink.inner.frames(), 67)?,
-        tally,
-    };
-    Ok((became, full.load(Ordering::SeqCst)))
+    held_back(alloc, ran, tally)
 }
 
 #[test]
 fn a_reply_that_finds_the_line_full_is_sent_again(rt: HostRuntime) -> Result<(), Fail> {
-    let (became, full) = run_full(&rt)?;
+    let full = counter(rt.alloc())?;
+    let became = run_full(&rt, &full)?;
     let tally = Tally {
         sent: 1,
         closed: 64,
@@ -348,6 +360,6 @@ fn a_reply_that_finds_the_line_full_is_sent_again(rt: HostRuntime) -> Result<(),
     assert_eq!(rt; became.tally, tally);
     assert_eq!(rt; became.transcript, counts(67, 3, 0));
     assert_eq!(rt; (replied(&became.said), became.said.other), (3, 0));
-    assert!(rt; full > 0);
+    assert!(rt; full.load(Ordering::SeqCst) > 0);
     Ok(())
 }

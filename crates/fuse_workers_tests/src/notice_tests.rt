@@ -1,5 +1,6 @@
 // Notices that a work queues while it answers.
-ghost use Rattle.std.specs.Prelude.{◌≡◌};
+ghost use Rattle.std.specs.Prelude.{IfOk};
+ghost use Rattle.fuse_workers.specs.Lines.{IsUnused};
 
 use crate::runs::{Said, counts, read_frames, run_on, taking, turns};
 use crate::telling::Telling;
@@ -11,14 +12,20 @@ use std::sync::Wait;
 use std::test::Fail;
 use std::thread::Threads;
 
-/// A notifier of the work's own, where it is to have one.
-fn own_notifier(buffers: &mut Buffers, is_own: bool) -> Result<Option<Notifier>, NoMemory>
-    ensures { buffers.new ≡ buffers.old }
+/// The memory of a run, with a notifier of the work's own, where it is to have one.
+fn with_notifier(alloc: Global, is_own: bool) -> Result<(Buffers, Option<Notifier>), NoMemory>
+    ensures { IfOk result (λ made. IsUnused made.0) }
 {
-    if is_own {
-        Ok(Some(buffers.notifier()?))
-    } else {
-        Ok(None)
+    let mut buffers = Buffers::new(alloc)?;
+    if !is_own {
+        return Ok((buffers, None));
+    }
+    match buffers.notifier() {
+        Ok(notifier) => Ok((buffers, Some(notifier))),
+        Err(NoMemory) => {
+            drop(buffers);
+            Err(NoMemory)
+        }
     }
 }
 
@@ -31,9 +38,9 @@ fn told_by<R: Threads + Wait + AllocGlobal + Sync>(
     is_own: bool,
 ) -> Result<(Transcript, Said, Vec<u64>), NoMemory> {
     let alloc = rt.alloc();
-    let mut buffers = Buffers::new(alloc)?;
-    let work = Telling::new(alloc, each, own_notifier(&mut buffers, is_own)?);
     let source = MemorySource::new(turns(alloc, count, None)?);
+    let (buffers, own) = with_notifier(alloc, is_own)?;
+    let work = Telling::new(alloc, each, own);
     let ran = run_on(rt, &work, workers, source, taking(alloc), buffers);
     let sent = read_frames(alloc, ran.sink.frames(), count)?;
     Ok((ran.transcript, sent, work.into_queued()))

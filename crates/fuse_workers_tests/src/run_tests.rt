@@ -1,8 +1,8 @@
 // Runs over memory that lose nothing, on one thread and on several.
 use crate::paced::paced;
 use crate::runs::{
-    Became, Said, WORKERS, all_well, counts, letter, message, read_frames, run_counting, run_of,
-    taking, turns,
+    Became, Said, WORKERS, all_well, counts, message, read_frames, run_counting, run_of, taking,
+    turns,
 };
 use crate::works::{Counting, Holding, Meeting};
 use fuse_request::opcode::{FUSE_DESTROY, FUSE_STATFS};
@@ -119,7 +119,7 @@ fn run_paced<R: Threads + Wait + AllocGlobal + Sync>(
         in_order = in_order && frame.as_slice() == empty_reply(id).as_slice();
         id = id.saturating_add(1);
     }
-    Ok((letter(&ran.end), ran.transcript, work.calls(), in_order))
+    Ok((ran.end, ran.transcript, work.calls(), in_order))
 }
 
 #[test]
@@ -146,7 +146,7 @@ fn run_meeting<R: Threads + Wait + AllocGlobal + Sync>(
     let source = MemorySource::new(turns(alloc, count, None)?);
     let ran = run_of(rt, &work, Some(workers), source, taking(alloc))?;
     let said = read_frames(alloc, ran.sink.frames(), count)?;
-    Ok((letter(&ran.end), ran.transcript, said))
+    Ok((ran.end, ran.transcript, said))
 }
 
 #[test]

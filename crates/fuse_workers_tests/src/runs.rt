@@ -49,20 +49,48 @@ pub(crate) fn counts(received: u64, frames: u64, lost: u64) -> Transcript {
     }
 }
 
+/// What is left of a run, but for its memory.
+#[derive(Drop)]
+pub(crate) struct Ran<S, K> {
+    /// How it ended, as a letter.
+    pub(crate) end: u8,
+    pub(crate) transcript: Transcript,
+    pub(crate) source: S,
+    pub(crate) sink: K,
+}
+
+/// Lets the memory of a run go.
+pub(crate) fn without_memory<S, K>(ran: RunEnd<S, K>) -> Ran<S, K> {
+    let RunEnd {
+        end,
+        transcript,
+        source,
+        sink,
+        buffers,
+    } = ran;
+    drop(buffers);
+    Ran {
+        end: letter(&end),
+        transcript,
+        source,
+        sink,
+    }
+}
+
 /// Runs a work over these devices on so many workers, or on the thread of its caller.
 pub(crate) fn run_on<
     R: Threads + Wait + AllocGlobal + Sync,
     W: Work,
     S: Source + Drop,
     K: Sink + Send + Drop,
->(rt: &R, work: &W, workers: Option<usize>, source: S, sink: K, buffers: Buffers) -> RunEnd<S, K>
+>(rt: &R, work: &W, workers: Option<usize>, source: S, sink: K, buffers: Buffers) -> Ran<S, K>
     requires prompt { W.DEFERS ≡ false }
     requires unused { IsUnused buffers }
 {
-    match workers {
+    without_memory(match workers {
         None => run_inline(rt, work, source, sink, buffers),
         Some(workers) => run_workers(rt, work, source, sink, buffers, workers),
-    }
+    })
 }
 
 /// The same in memory of its own.
@@ -71,7 +99,7 @@ pub(crate) fn run_of<
     W: Work,
     S: Source + Drop,
     K: Sink + Send + Drop,
->(rt: &R, work: &W, workers: Option<usize>, source: S, sink: K) -> Result<RunEnd<S, K>, NoMemory>
+>(rt: &R, work: &W, workers: Option<usize>, source: S, sink: K) -> Result<Ran<S, K>, NoMemory>
     requires { W.DEFERS ≡ false }
 {
     let buffers = Buffers::new(rt.alloc())?;
@@ -147,15 +175,14 @@ pub(crate) fn run_counting<R: Threads + Wait + AllocGlobal + Sync>(
 ) -> Result<(Became, MemorySource), NoMemory> {
     let work = Counting::new();
     let source = MemorySource::new(turns);
-    let RunEnd {
+    let Ran {
         end,
         transcript,
         source,
         sink,
-        buffers: _,
     } = run_of(rt, &work, workers, source, sink)?;
     let became = Became {
-        end: letter(&end),
+        end,
         transcript,
         calls: work.calls(),
         said: read_frames(rt.alloc(), sink.frames(), ids)?,
