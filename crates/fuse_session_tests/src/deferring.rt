@@ -14,7 +14,10 @@ use std::sync::{Arc, Mutex, Wait};
 use std::thread;
 
 /// How often is looked, at most, whether the late frames that are awaited were queued.
-const MOST_TURNS: u64 = 1_000_000;
+const MOST_TURNS: u64 = 10_000_000;
+
+/// Of a generator by multiplication (Knuth's MMIX), whose higher bits look random.
+const MULTIPLIER: u64 = 6_364_136_223_846_793_005;
 
 /// The name whose lookup is held until as many late frames were queued as are awaited.
 pub(crate) const HELD: u8 = b'h';
@@ -124,13 +127,15 @@ impl Shelf {
         }
     }
 
-    /// Answers lookups that were put off, until the session is over.
-    pub(crate) fn answer_later<R: Wait>(&self, rt: &R) {
+    /// Answers lookups that were put off, in an order that the seed gives, until the session is over.
+    pub(crate) fn answer_later<R: Wait>(&self, rt: &R, seed: u64) {
+        let mut state = seed;
         for _ in rt.forever() {
             if self.is_over.load(Ordering::SeqCst) {
                 return;
             }
-            match self.take(rt) {
+            state = state.wrapping_mul(MULTIPLIER).wrapping_add(1);
+            match self.take(rt, (state >> 32) as usize) {
                 Some(later) => self.counts.answer(rt, later),
                 None => thread::yield_now(),
             }
@@ -138,12 +143,17 @@ impl Shelf {
         unreachable!()
     }
 
-    /// A token that may be answered while the session runs.
-    fn take<R: Wait>(&self, rt: &R) -> Option<Token> {
+    /// A token that may be answered while the session runs: of those that lie there, the one at this place, counted round.
+    fn take<R: Wait>(&self, rt: &R, place: usize) -> Option<Token> {
         if self.held.load(Ordering::SeqCst) < self.least_held {
             return None;
         }
-        self.soon.lock(rt).pop()
+        let mut soon = self.soon.lock(rt);
+        let count = soon.len();
+        if count == 0 {
+            return None;
+        }
+        Some(soon.swap_remove(place % count))
     }
 
     /// The session is over.

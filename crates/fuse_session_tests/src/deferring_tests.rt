@@ -2,11 +2,11 @@
 use crate::deferring::{Deferring, HELD, LAST, SOON, Shelf, Tally, close, shared_shelf};
 use crate::probing::Probing;
 use crate::test_messages::{
-    ACCEPTED, ENOENT, ENOSYS, INIT_7_8, error_reply, getattr, lookup_of, source_of,
+    ACCEPTED, ENOENT, ENOSYS, INIT_7_8, error_reply, getattr, lookup_by, lookup_of, source_of, turn,
 };
 use fuse_config::{Config, SessionACL};
 use fuse_session::{Ended, Filesystem, Session, SessionError, Transcript, mount};
-use fuse_wire::{MemorySink, MemorySource};
+use fuse_wire::{Items, MemorySink, MemorySource};
 use std::alloc::{AllocError, AllocGlobal, Global};
 use std::process::Abort;
 use std::sync::{Arc, Wait};
@@ -87,20 +87,31 @@ fn serve_from<R: Threads + Wait + AllocGlobal + Send + Sync + Copy>(
     Ok((outcome, transcript, sink))
 }
 
-/// The same, while a thread of the test's own answers the lookups that are put off.
+/// The same, while so many threads of the test's own answer the lookups that are put off.
 fn serve_beside<R: Threads + Wait + AllocGlobal + Send + Sync + Copy>(
     rt: &R,
     way: Way,
+    threads: u64,
     shelf: &Arc<Shelf, Global>,
     source: MemorySource,
     config: &Config,
 ) -> Result<Ran, AllocError> {
     thread::scope(thread::scope_env(), rt, |scope| {
-        let _ = scope.spawn(move || shelf.answer_later(rt));
+        for seed in 1..=threads {
+            let _ = scope.spawn(move || shelf.answer_later(rt, seed));
+        }
         let ran = serve_from(rt, way, shelf, source, config);
         shelf.end();
         ran
     })
+}
+
+/// A configuration by which so many threads serve everybody.
+fn served_by(alloc: Global, n_threads: usize) -> Config {
+    let mut config = Config::new(alloc);
+    config.acl = SessionACL::All;
+    config.n_threads = Some(n_threads);
+    config
 }
 
 /// Serves these messages by the plan. What is left of the lookups that were put off is answered after that.
@@ -110,12 +121,10 @@ fn serve<R: Threads + Wait + AllocGlobal + Send + Sync + Copy>(
     messages: &[&[u8]],
 ) -> Result<Served, AllocError> {
     let alloc = rt.alloc();
-    let mut config = Config::new(alloc);
-    config.acl = SessionACL::All;
-    config.n_threads = Some(plan.n_threads);
+    let config = served_by(alloc, plan.n_threads);
     let source = source_of(alloc, messages)?;
     let shelf = shared_shelf(rt, alloc, plan.awaited, plan.least_held)?;
-    let ran = serve_beside(rt, plan.way, &shelf, source, &config);
+    let ran = serve_beside(rt, plan.way, 1, &shelf, source, &config);
     let tally = close(rt, shelf);
     let (outcome, transcript, sink) = ran?;
     Ok(Served {
@@ -295,5 +304,61 @@ fn what_is_answered_at_once_keeps_its_frame(rt: HostRuntime) -> Result<(), Fail>
     ];
     has_replied(&rt, &served, 5, &replies);
     assert_eq!(rt; served.tally, all_queued(rt.alloc(), 2));
+    Ok(())
+}
+
+/// How many lookups the long session puts off.
+const MANY: u64 = 100_000;
+
+/// INIT, lookups of the ids below a number that are put off, and one of that number that is held until they are answered.
+fn many_lookups(alloc: Global, many: u64) -> Result<MemorySource, AllocError> {
+    let mut turns = Vec::new(alloc);
+    turns.push(turn(alloc, &INIT_7_8)?)?;
+    for id in 0..many {
+        turns.push(turn(alloc, &lookup_by(id, SOON))?)?;
+    }
+    turns.push(turn(alloc, &lookup_by(many, HELD))?)?;
+    Ok(MemorySource::new(turns))
+}
+
+/// The id of a request, where the frame answers it by ENOENT.
+fn refused_id(frame: &[u8]) -> Option<u64> {
+    if frame.len() != 16 || frame[..8] != error_reply(0, ENOENT)[..8] {
+        return None;
+    }
+    let mut id = [0; 8];
+    id.copy_from_slice(&frame[8..16]);
+    Some(u64::from_le_bytes(id))
+}
+
+/// How many ids below a number these frames answer by ENOENT, and how many of the frames are another reply or a second one.
+fn refusals(alloc: Global, frames: &[Items<u8>], ids: u64) -> Result<(u64, u64), AllocError> {
+    let mut is_refused = vec![in alloc; false; ids as usize]?;
+    let (mut refused, mut other): (u64, u64) = (0, 0);
+    for frame in frames {
+        match refused_id(frame.as_slice()).and_then(|id| is_refused.get_mut(id as usize)) {
+            Some(is_refused) if !*is_refused => {
+                *is_refused = true;
+                refused = refused.saturating_add(1);
+            }
+            _ => other = other.saturating_add(1),
+        }
+    }
+    Ok((refused, other))
+}
+
+#[test]
+fn many_lookups_are_answered_by_four_threads(rt: HostRuntime) -> Result<(), Fail> {
+    let alloc = rt.alloc();
+    let source = many_lookups(alloc, MANY)?;
+    let config = served_by(alloc, 2);
+    let shelf = shared_shelf(&rt, alloc, MANY, 0)?;
+    let ran = serve_beside(&rt, Way::Mount, 4, &shelf, source, &config);
+    let tally = close(&rt, shelf);
+    let (outcome, transcript, sink) = ran?;
+    assert_eq!(rt; (outcome, transcript), (Ok(()), counts(MANY + 2, MANY + 2)));
+    // All but the handshake's reply.
+    assert_eq!(rt; refusals(alloc, sink.frames(), MANY + 1)?, (MANY + 1, 1));
+    assert_eq!(rt; tally, all_queued(alloc, MANY));
     Ok(())
 }

@@ -86,6 +86,15 @@ pub(crate) fn lookup_of(id: u8, name: u8) -> [u8; 42] {
     bytes
 }
 
+/// The same with an id of any size.
+pub(crate) fn lookup_by(id: u64, name: u8) -> [u8; 42] {
+    let mut bytes = lookup_of(0, name);
+    for (place, byte) in bytes.iter_mut().skip(8).zip(&id.to_le_bytes()) {
+        *place = *byte;
+    }
+    bytes
+}
+
 /// A LOOKUP whose name has no end.
 pub(crate) fn endless_lookup(id: u8, uid: u8) -> [u8; 44] {
     let mut bytes = [0; 44];
@@ -178,11 +187,16 @@ pub(crate) fn error_reply(id: u8, errno: u8) -> [u8; 16] {
     ]
 }
 
+/// The turn that gives this message.
+pub(crate) fn turn(alloc: Global, message: &[u8]) -> Result<Turn, AllocError> {
+    Ok(Turn::Message(Items::from_vec(message.to_vec(alloc)?)))
+}
+
 /// A source of these messages.
 pub(crate) fn source_of(alloc: Global, messages: &[&[u8]]) -> Result<MemorySource, AllocError> {
     let mut turns = Vec::new(alloc);
     for message in messages {
-        turns.push(Turn::Message(Items::from_vec(message.to_vec(alloc)?)))?;
+        turns.push(turn(alloc, message)?)?;
     }
     Ok(MemorySource::new(turns))
 }
@@ -198,9 +212,9 @@ pub(crate) enum Next<'a> {
 /// A source of these turns.
 pub(crate) fn turns_of(alloc: Global, turns: &[Next<'_>]) -> Result<MemorySource, AllocError> {
     let mut given = Vec::new(alloc);
-    for turn in turns {
-        given.push(match turn {
-            Next::Bytes(bytes) => Turn::Message(Items::from_vec(bytes.to_vec(alloc)?)),
+    for next in turns {
+        given.push(match next {
+            Next::Bytes(bytes) => turn(alloc, bytes)?,
             Next::Nothing => Turn::Retry,
             Next::Fault => Turn::Fail,
         })?;
