@@ -3,7 +3,7 @@ use Rattle.std.specs.Prelude.{◌≡◌, ◌<◌, ℕ, Bool, false, List, Option
 use Rattle.fuse_wire.specs.Sink.{Note}
 use Rattle.fuse_reply.specs.declared.out.Out.{Out}
 use Rattle.fuse_workers.specs.Incoming.{IsBroken}
-use Rattle.fuse_workers.specs.OneEach.{InOrder, Owing, UpToOrder}
+use Rattle.fuse_core.specs.OneEach.{InOrder, Owing, UpToOrder}
 use Rattle.fuse_workers.specs.OneEachLater.{OneEachLater}
 
 -- so many threads are more than one; where no number is given, one serves

@@ -6,7 +6,7 @@ use Rattle.fuse_wire.specs.Sink.{SinkState, Note, Appends}
 use Rattle.fuse_config.specs.declared.session_acl.SessionACL.{SessionACL}
 use Rattle.fuse_workers.specs.Incoming.{IsBroken, EndsWell}
 use Rattle.fuse_session.specs.Owed.{Owed}
-use Rattle.fuse_workers.specs.OneEach.{OneEach}
+use Rattle.fuse_core.specs.OneEach.{OneEach}
 use Rattle.fuse_workers.specs.OneEachLater.{OneEachLater}
 use Rattle.fuse_session.specs.Promise.{Promise}
 use Rattle.fuse_session.specs.Handshake.{Handshake}

@@ -10,7 +10,7 @@ use Rattle.fuse_request.specs.declared.error.RequestError.{RequestError}
 use Rattle.fuse_workers.specs.Hearing.{HearsLast, HearsOn, StopsWith}
 use Rattle.fuse_workers.specs.Incoming.{id_of, incoming}
 use Rattle.fuse_workers.specs.Incoming.Incoming.{Destroy as IsDestroy, Request}
-use Rattle.fuse_workers.specs.OneEach.{number_of}
+use Rattle.fuse_core.specs.OneEach.{number_of}
 use Rattle.fuse_workers.specs.Progress.{IntakeState, Receives}
 use Rattle.fuse_workers.specs.declared.caller.Stopped.{Stopped}
 use Rattle.fuse_workers.specs.declared.caller.Stopped.TheVariants.{Gone, Destroy, Broken, Failed}

@@ -1,8 +1,3 @@
-pub mod Determined
-pub mod Matching
-pub mod LateFrames
-pub mod Balancing
-pub mod Outgoing
 pub mod ItemLists
 pub mod Taking
 pub mod Moving
@@ -19,7 +14,6 @@ mod Relaying
 mod Hearing
 mod Conducting
 mod Assembling
-mod Bookkeeping
 mod Splitting
 mod LateReplies
 mod ServingAlone

@@ -4,7 +4,7 @@ use Rattle.std.specs.Prelude.{Some, slice_get, remove}
 use Rattle.fuse_wire.specs.Sink.{Note}
 use Rattle.fuse_reply.specs.declared.out.Out.{Out}
 use Rattle.fuse_reply.specs.declared.out.Out.TheVariants.{Frame, Note as Noted}
-use Rattle.fuse_workers.specs.OneEach.{InOrder, OneEach, Owing, number_of}
+use Rattle.fuse_core.specs.OneEach.{InOrder, OneEach, Owing, number_of}
 
 -- one message that a frame was written for
 pub InOrder-framed : (owed : Owing) (place : ℕ) (m f : List ℕ) → owed (number_of place) m (Frame f) → InOrder owed place (m ∷ []) (f ∷ []) [] []

@@ -16,7 +16,7 @@ use Rattle.fuse_workers.specs.Alone.{AnswersLast, ServesAlone, TurnAlone}
 use Rattle.fuse_workers.specs.Conducting.{AnsweredBy, answered_last}
 use Rattle.fuse_workers.specs.Hearing.{HearsLast, HearsOn}
 use Rattle.fuse_workers.specs.Lines.{lates_in, notices_in}
-use Rattle.fuse_workers.specs.OneEach.{Owing, number_of}
+use Rattle.fuse_core.specs.OneEach.{Owing, number_of}
 use Rattle.fuse_workers.specs.Pairing.{Pairs, numbered, outs_of}
 use Rattle.fuse_workers.specs.Progress.{IntakeState, RelayState}
 use Rattle.fuse_workers.specs.Relays.{Relays}

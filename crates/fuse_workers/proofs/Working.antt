@@ -12,8 +12,8 @@ use Rattle.fuse_reply.specs.Parcel.{is_prompt}
 use Rattle.fuse_reply.specs.declared.out.Out.{Out}
 use Rattle.fuse_reply.specs.declared.parcel.Parcel.{Parcel}
 use Rattle.fuse_reply.specs.declared.parcel.Parcel.TheVariants.{Prompt}
-use Rattle.fuse_workers.specs.declared.state.Job.{Job}
-use Rattle.fuse_workers.specs.OneEach.{Owing, number_of}
+use Rattle.fuse_core.specs.declared.state.Job.{Job}
+use Rattle.fuse_core.specs.OneEach.{Owing, number_of}
 use Rattle.fuse_workers.specs.Pairing.{InTurn, Pairs, numbered, outs_of}
 use Rattle.fuse_workers.specs.Threads.{Answers, IsCaller, IsServed, pair_of}
 use Rattle.fuse_workers.proofs.Pairing.{Answers-prompt, InTurn-append, InTurn-one, Pairs-append, Pairs-in_turn, Pairs-left, Pairs-one, Pairs-outs}

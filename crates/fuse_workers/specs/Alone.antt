@@ -6,7 +6,7 @@ use Rattle.fuse_reply.specs.declared.parcel.Parcel.TheVariants.{Prompt}
 use Rattle.fuse_workers.specs.Conducting.{HandsOn, answered_last}
 use Rattle.fuse_workers.specs.Hearing.{HearsLast, HearsOn}
 use Rattle.fuse_workers.specs.Lines.{lates_in, notices_in}
-use Rattle.fuse_workers.specs.OneEach.{Owing, number_of}
+use Rattle.fuse_core.specs.OneEach.{Owing, number_of}
 use Rattle.fuse_workers.specs.Progress.{IntakeState, RelayState}
 use Rattle.fuse_workers.specs.Relays.{SendsOut}
 use Rattle.fuse_workers.specs.declared.caller.Stopped.{Stopped}

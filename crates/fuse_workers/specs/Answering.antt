@@ -9,7 +9,7 @@ use Rattle.fuse_reply.specs.declared.door.NoDoor.{NoDoor}
 use Rattle.fuse_reply.specs.declared.door.NoDoor.TheVariants.{Shut}
 use Rattle.fuse_reply.specs.declared.out.Out.{Out}
 use Rattle.fuse_reply.specs.declared.out.Out.TheVariants.{Frame, Note, Deferred}
-use Rattle.fuse_workers.specs.Step.{StandsFor}
+use Rattle.fuse_core.specs.Step.{StandsFor}
 
 -- the message has a good header, and is no DESTROY
 abbrev pub IsRequest : List ℕ → Type 0

@@ -8,13 +8,13 @@ use Rattle.fuse_reply.specs.declared.out.Out.{Out}
 use Rattle.fuse_reply.specs.declared.parcel.Parcel.{Parcel}
 use Rattle.fuse_workers.specs.Hearing.{Hears}
 use Rattle.fuse_workers.specs.Lines.{lates_in, notices_in}
-use Rattle.fuse_workers.specs.OneEach.{Owing}
+use Rattle.fuse_core.specs.OneEach.{Owing}
 use Rattle.fuse_workers.specs.Pairing.{Pairs, numbered, outs_of}
 use Rattle.fuse_workers.specs.Progress.{IntakeState, RelayState}
 use Rattle.fuse_workers.specs.Relays.{Relays}
 use Rattle.fuse_workers.specs.declared.caller.Stopped.{Stopped}
 use Rattle.fuse_workers.specs.declared.caller.Stopped.TheVariants.{Gone, Destroy, Broken, Failed}
-use Rattle.fuse_workers.specs.declared.state.Job.{Job}
+use Rattle.fuse_core.specs.declared.state.Job.{Job}
 
 -- the last message, where it is answered: DESTROY alone is
 abbrev pub answered_last : Stopped → (last : List (List ℕ)) → List (List ℕ)

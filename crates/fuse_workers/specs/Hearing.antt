@@ -3,9 +3,9 @@ use Rattle.std.specs.Prelude.{◌≡◌, ◌≢◌, ◌+◌, ◌++◌, ℕ, List
 use Rattle.fuse_wire.specs.Source.{Takes, message, NothingLeft, Failed as SourceFailed}
 use Rattle.fuse_workers.specs.Incoming.{AllGoOn, HeaderRefused, id_of, incoming}
 use Rattle.fuse_workers.specs.Incoming.Incoming.{Destroy as IsDestroy}
-use Rattle.fuse_workers.specs.OneEach.{Owing, number_of}
+use Rattle.fuse_core.specs.OneEach.{Owing, number_of}
 use Rattle.fuse_workers.specs.Threads.{IsCaller}
-use Rattle.fuse_workers.specs.declared.state.Job.{Job}
+use Rattle.fuse_core.specs.declared.state.Job.{Job}
 use Rattle.fuse_workers.specs.declared.end.End.{End}
 use Rattle.fuse_workers.specs.declared.end.End.TheVariants as end
 use Rattle.fuse_line.specs.declared.hand.Hand.{Hand}

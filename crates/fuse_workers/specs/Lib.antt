@@ -1,10 +1,4 @@
-pub mod Matched
-pub mod Marks
-pub mod Step
-pub mod Balanced
 pub mod Incoming
-pub mod OneEach
-pub mod Owing
 pub mod Answering
 pub mod Arrives
 pub mod Lines
@@ -18,4 +12,3 @@ pub mod Promises
 pub mod Conducting
 pub mod Alone
 pub mod OneEachLater
-pub mod Book

@@ -11,7 +11,7 @@ use Rattle.fuse_reply.specs.Late.{LateSeen}
 use Rattle.fuse_reply.specs.Parcel.{is_prompt}
 use Rattle.fuse_reply.specs.declared.parcel.Parcel.{Parcel}
 use Rattle.fuse_reply.specs.declared.parcel.Parcel.TheVariants.{Prompt, Notice, Late}
-use Rattle.fuse_workers.specs.declared.state.Job.{Job}
+use Rattle.fuse_core.specs.declared.state.Job.{Job}
 
 -- the notices among these, in order
 abbrev pub notice_in : Parcel → List (List ℕ)

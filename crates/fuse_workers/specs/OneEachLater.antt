@@ -5,9 +5,9 @@ use Rattle.std.specs.List.{All, AllByRecursion, Contains}
 use Rattle.fuse_wire.specs.Sink.{Note as Noted}
 use Rattle.fuse_reply.specs.Late.{LateSeen}
 use Rattle.fuse_reply.specs.declared.out.Out.{Out}
-use Rattle.fuse_workers.specs.Marks.{late_tag}
-use Rattle.fuse_workers.specs.Matched.{HasUnused, Matched}
-use Rattle.fuse_workers.specs.OneEach.{OneEach, Owing}
+use Rattle.fuse_core.specs.Marks.{late_tag}
+use Rattle.fuse_core.specs.Matched.{HasUnused, Matched}
+use Rattle.fuse_core.specs.OneEach.{OneEach, Owing}
 use Rattle.fuse_workers.specs.Progress.{LeavesOut}
 use Rattle.fuse_workers.specs.Relays.{IsLateReply, late_out}
 

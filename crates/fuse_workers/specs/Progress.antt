@@ -15,7 +15,7 @@ use Rattle.fuse_reply.specs.declared.parcel.Parcel.{Parcel}
 use Rattle.fuse_reply.specs.declared.parcel.Parcel.TheVariants.{Prompt, Notice as Notices, Late}
 use Rattle.fuse_reply.specs.declared.out.OutEnd.{OutEnd}
 use Rattle.fuse_reply.specs.declared.out.OutEnd.TheVariants.{Written, Noted, Lost, Marked}
-use Rattle.fuse_workers.specs.declared.book.Book.{Book}
+use Rattle.fuse_core.specs.declared.book.Book.{Book}
 use Rattle.fuse_workers.specs.declared.transcript.Transcript.{Transcript}
 use Rattle.fuse_workers.specs.declared.taken.Taken.{Taken}
 use Rattle.fuse_workers.specs.declared.taken.Taken.TheVariants.{Message, Gone, Failed}

@@ -11,13 +11,13 @@ use Rattle.fuse_reply.specs.declared.out.Out.{Out}
 use Rattle.fuse_reply.specs.declared.out.Out.TheVariants.{Frame, Note as Noting, Deferred}
 use Rattle.fuse_reply.specs.declared.parcel.Parcel.{Parcel}
 use Rattle.fuse_reply.specs.declared.parcel.Parcel.TheVariants.{Prompt, Notice, Late}
-use Rattle.fuse_workers.specs.Book.{EachWaiting, IsBookOf, tagged}
+use Rattle.fuse_core.specs.Book.{EachWaiting, IsBookOf, tagged}
 use Rattle.fuse_workers.specs.Lines.{lates_in, notices_in}
-use Rattle.fuse_workers.specs.Marks.{late_tag}
-use Rattle.fuse_workers.specs.Matched.{Tag, same}
+use Rattle.fuse_core.specs.Marks.{late_tag}
+use Rattle.fuse_core.specs.Matched.{Tag, same}
 use Rattle.fuse_workers.specs.Pairing.{Parts, outs_of}
 use Rattle.fuse_workers.specs.Progress.{LeavesOut, Moves, OutletState, RelayState, SendsNotice, SendsOnce, progress}
-use Rattle.fuse_workers.specs.declared.book.Book.{Book}
+use Rattle.fuse_core.specs.declared.book.Book.{Book}
 
 -- a late frame with its tag
 abbrev pub with_tag : LateSeen → Tag × LateSeen

@@ -6,9 +6,9 @@ use Rattle.fuse_line.specs.declared.hand.Hand.{Hand}
 use Rattle.fuse_line.specs.declared.hand.Kind.TheVariants.{First, Inner}
 use Rattle.fuse_reply.specs.declared.parcel.Parcel.{Parcel}
 use Rattle.fuse_reply.specs.declared.parcel.Parcel.TheVariants.{Prompt, Notice, Late}
-use Rattle.fuse_workers.specs.declared.state.Job.{Job}
+use Rattle.fuse_core.specs.declared.state.Job.{Job}
 use Rattle.fuse_workers.specs.Incoming.{IsBroken}
-use Rattle.fuse_workers.specs.OneEach.{Owing}
+use Rattle.fuse_core.specs.OneEach.{Owing}
 use Rattle.fuse_workers.specs.Progress.{IsPrompt}
 use Rattle.fuse_workers.specs.Pairing.{InTurn, Pairs, numbered}
 

@@ -2,7 +2,7 @@
 ghost use Rattle.std.specs.Prelude.{◌≡◌, IfOk};
 ghost use Rattle.fuse_notify.specs.Queueing.{fresh_door};
 ghost use Rattle.fuse_workers.specs.Lines.{IsUnused};
-ghost use Rattle.fuse_workers.specs.declared.state.TheConstants.{LINE_PLACES};
+ghost use Rattle.fuse_core.specs.declared.state.TheConstants.{LINE_PLACES};
 
 use crate::answerer::Answerer;
 use crate::ending::Ending;

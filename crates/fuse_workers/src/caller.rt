@@ -5,7 +5,7 @@ ghost use Rattle.fuse_line.specs.declared.hand.Kind.TheVariants.{First};
 ghost use Rattle.fuse_line.specs.Tells.{IsSettled};
 ghost use Rattle.fuse_workers.specs.Answering.{IsRequest};
 ghost use Rattle.fuse_workers.specs.Hearing.{Hears, TurnHeard, end_of};
-ghost use Rattle.fuse_workers.specs.OneEach.{number_of};
+ghost use Rattle.fuse_core.specs.OneEach.{number_of};
 ghost use Rattle.fuse_workers.specs.Promises.{CallerOn};
 ghost use Rattle.fuse_workers.specs.Threads.{IsCaller, answering, job_of};
 

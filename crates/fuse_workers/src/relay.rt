@@ -3,8 +3,8 @@ ghost use Rattle.std.specs.Prelude.{◌≡◌};
 ghost use Rattle.fuse_workers.specs.Progress.{relay_of};
 ghost use Rattle.fuse_workers.specs.Relays.{SendsLate, SendsOut, SendsParcel};
 
-use crate::Book;
 use crate::outlet::Outlet;
+use fuse_core::Book;
 use fuse_reply::{LateFrame, Out, Parcel};
 use fuse_wire::Sink;
 

@@ -23,7 +23,7 @@ pub(crate) struct RequestJob {
 impl Model for RequestJob {
     ghost use Rattle.fuse_workers.specs.Answering.{IsRequest};
     ghost use Rattle.fuse_workers.specs.Threads.{job_of};
-    ghost use Rattle.fuse_workers.specs.declared.state.Job.{Job};
+    ghost use Rattle.fuse_core.specs.declared.state.Job.{Job};
 
     ghost Value = { Job };
 

@@ -5,8 +5,8 @@ ghost use Rattle.fuse_line.specs.declared.hand.Kind.TheVariants.{First};
 ghost use Rattle.fuse_notify.specs.Queueing.{fresh_door};
 ghost use Rattle.fuse_reply.specs.Parcel.{is_prompt};
 
-use crate::LINE_PLACES;
 use crate::doors::Doors;
+use fuse_core::LINE_PLACES;
 use fuse_line::{Class, Line, Pass};
 use fuse_notify::Notifier;
 use fuse_reply::{EndMark, Parcel};

@@ -4,7 +4,7 @@ use Rattle.fuse_session.specs.Accounted.{Accounted}
 use Rattle.fuse_session.specs.Owed.{Owed}
 use Rattle.fuse_workers.specs.EventLoop.{Run}
 use Rattle.fuse_workers.specs.Lines.{unasked_of}
-use Rattle.fuse_workers.specs.OneEach.{Accounting}
+use Rattle.fuse_core.specs.OneEach.{Accounting}
 use Rattle.fuse_workers.specs.Progress.{progress}
 use Rattle.fuse_workers.specs.declared.transcript.Transcript.{Transcript}
 use Rattle.fuse_workers.proofs.Adding.{Run-added}

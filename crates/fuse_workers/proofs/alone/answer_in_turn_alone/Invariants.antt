@@ -2,7 +2,7 @@ use Rattle.std.proofs.Common.{◌≡◌, ◌++◌, [], ℕ, List, length}
 use Rattle.fuse_line.specs.Hand.{hand}
 use Rattle.fuse_line.specs.declared.hand.Kind.TheVariants.{First}
 use Rattle.fuse_reply.specs.declared.parcel.Parcel.{Parcel}
-use Rattle.fuse_workers.specs.OneEach.{number_of}
+use Rattle.fuse_core.specs.OneEach.{number_of}
 use Rattle.fuse_workers.specs.Pairing.{outs_of}
 use Rattle.fuse_workers.specs.Progress.{relay_of}
 use Rattle.fuse_workers.specs.Threads.{answering}

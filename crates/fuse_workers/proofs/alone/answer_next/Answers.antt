@@ -8,7 +8,7 @@ use Rattle.fuse_workers.specs.Alone.{AnswersLast}
 use Rattle.fuse_workers.specs.Answering.{IsRequest}
 use Rattle.fuse_workers.specs.Arrives.{Arrives}
 use Rattle.fuse_workers.specs.Incoming.{id_of}
-use Rattle.fuse_workers.specs.OneEach.{Owing}
+use Rattle.fuse_core.specs.OneEach.{Owing}
 use Rattle.fuse_workers.specs.Progress.{relay_of}
 use Rattle.fuse_workers.specs.Threads.{answering}
 use Rattle.fuse_workers.specs.declared.incoming.Incoming.TheVariants as found

@@ -1,6 +1,6 @@
 use Rattle.std.proofs.Common.{◌≡◌, ℕ, List, length}
 use Rattle.fuse_workers.specs.Hearing.{HearsOn}
-use Rattle.fuse_workers.specs.OneEach.{number_of}
+use Rattle.fuse_core.specs.OneEach.{number_of}
 use Rattle.fuse_workers.specs.Threads.{IsCaller, answering}
 use Rattle.fuse_workers.proofs.caller.take_messages.Given as goal
 

@@ -1,7 +1,7 @@
 use Rattle.std.proofs.Common.{◌≡◌, length}
 use Rattle.fuse_workers.specs.EventLoop.{RunOn}
 use Rattle.fuse_workers.specs.Lines.{notices_in}
-use Rattle.fuse_workers.specs.OneEach.{number_of}
+use Rattle.fuse_core.specs.OneEach.{number_of}
 use Rattle.fuse_workers.specs.Progress.{beside}
 use Rattle.fuse_workers.proofs.event_loop.answer_in_turn.Given as goal
 

@@ -2,9 +2,9 @@ use Rattle.std.proofs.Common.{subst, sym}
 use Rattle.fuse_line.specs.Hand.{with_put, with_taken}
 use Rattle.fuse_line.specs.declared.hand.Hand.{Hand}
 use Rattle.fuse_reply.specs.declared.parcel.Parcel.{Parcel}
-use Rattle.fuse_workers.specs.OneEach.{Owing}
+use Rattle.fuse_core.specs.OneEach.{Owing}
 use Rattle.fuse_workers.specs.Threads.{IsServed, answering}
-use Rattle.fuse_workers.specs.declared.state.Job.{Job}
+use Rattle.fuse_core.specs.declared.state.Job.{Job}
 use Rattle.fuse_workers.proofs.Working.{Served-next}
 use Rattle.fuse_workers.proofs.worker.answer_jobs.Goals as goal
 

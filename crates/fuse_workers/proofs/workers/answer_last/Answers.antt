@@ -12,7 +12,7 @@ use Rattle.fuse_workers.specs.Conducting.{answered_last}
 use Rattle.fuse_workers.specs.Hearing.{StopsWith}
 use Rattle.fuse_workers.specs.Incoming.{id_of}
 use Rattle.fuse_workers.specs.declared.caller.Stopped.{Stopped}
-use Rattle.fuse_workers.specs.OneEach.{Owing, number_of}
+use Rattle.fuse_core.specs.OneEach.{Owing, number_of}
 use Rattle.fuse_workers.specs.Threads.{IsCaller, answering}
 use Rattle.fuse_workers.proofs.LoopSteps.{destroy-not-broken}
 use Rattle.fuse_workers.proofs.Working.{Caller-answered}

@@ -7,7 +7,7 @@ use Rattle.fuse_reply.specs.declared.parcel.Parcel.{Parcel}
 use Rattle.fuse_workers.specs.Progress.{relay_of}
 use Rattle.fuse_workers.specs.Relays.{IsRelayed}
 use Rattle.fuse_workers.specs.Threads.{answering}
-use Rattle.fuse_workers.specs.declared.state.Job.{Job}
+use Rattle.fuse_core.specs.declared.state.Job.{Job}
 use Rattle.fuse_workers.proofs.Conducting.{Conducts-alone, Conducts-answered, joined-sender}
 use Rattle.fuse_workers.proofs.Working.{Caller-idle}
 use Rattle.fuse_workers.proofs.workers.conduct.Goals as goal

@@ -4,7 +4,7 @@ use Rattle.fuse_workers.specs.EventLoop.{Run}
 use Rattle.fuse_workers.specs.Hearing.{end_of}
 use Rattle.fuse_workers.specs.Incoming.{IsBroken}
 use Rattle.fuse_workers.specs.Lines.{LinesState, late_of, lates_in, notices_in, unasked_of}
-use Rattle.fuse_workers.specs.OneEach.{Owing, UpToOrder}
+use Rattle.fuse_core.specs.OneEach.{Owing, UpToOrder}
 use Rattle.fuse_workers.specs.OneEachLater.{NoneHeldBack}
 use Rattle.fuse_workers.specs.Progress.{Progress, nothing_yet, progress, relay_of}
 use Rattle.fuse_workers.specs.declared.end.End.{End}

@@ -1,9 +1,0 @@
-use Rattle.std.proofs.Common.{◌≡◌, ◌≤◌, take}
-use Rattle.std.specs.List.{count_by}
-use Rattle.fuse_workers.specs.Marks.{tag_of}
-use Rattle.fuse_workers.specs.Matched.{same}
-use Rattle.fuse_workers.proofs.marks.count_marks.Given as goal
-
--- those so far are counted
-abbrev pub invariant-loop-mark : goal.invariant-loop-mark
-invariant-loop-mark l = (l.count ≡ count_by (λ x. same (tag_of x) l.tag) (take l.mark-index l.marks)) × (l.count ≤ l.mark-index)
