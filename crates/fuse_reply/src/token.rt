@@ -1,11 +1,12 @@
 // What is done with the token of a reply that comes later.
-ghost use Rattle.std.specs.Prelude.{◌≡◌, false, IfErr};
+ghost use Rattle.std.specs.Prelude.{◌≡◌, false, IfErr, IfSome};
 ghost use Rattle.fuse_reply.specs.Late.{IsFrameFor};
 ghost use Rattle.fuse_reply.specs.Refusing.{GivesBack};
 
 use crate::later::{Held, LateRefusal, Later};
 use crate::{EndNote, Out, Replied};
 use std::sync::Wait;
+use std::thread;
 
 impl<R: Held> Later<R> {
     /// The reply, which can't be put off once more, and the token to send it by.
@@ -59,6 +60,31 @@ impl Later<()> {
                 Err(LateRefusal::Full(token, Replied::by(packed)))
             }
         }
+    }
+
+    /// Queues the frame that the reply was spent into, and tries again while the line is full. Where the run has ended,
+    /// nothing is sent, and what tells that it has is given.
+    pub fn send_or_retire<R: Wait>(self, rt: &R, replied: Replied) -> Option<EndNote>
+        requires { IsFrameFor self.id.0 replied }
+        ensures { IfSome result (λ note. note.name ≡ self.door.mark.name) }
+    {
+        let mut left = self;
+        let mut frame = replied;
+        for _ in rt.forever() {
+            match left.send(rt, frame) {
+                Ok(()) => return None,
+                Err(LateRefusal::Full(token, replied)) => {
+                    left = token;
+                    frame = replied;
+                    thread::yield_now();
+                }
+                Err(LateRefusal::Closed(token, replied, note)) => {
+                    token.retire(replied, &note);
+                    return Some(note);
+                }
+            }
+        }
+        unreachable!()
     }
 
     /// Spends the token and what its reply was spent into, once the run has ended: nothing is sent.

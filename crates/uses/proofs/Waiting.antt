@@ -6,10 +6,10 @@ use Rattle.fuse_reply.specs.Answer.Answer.{Empty, Error}
 use Rattle.fuse_reply.specs.Door.{DoorSeen}
 use Rattle.fuse_reply.specs.declared.door.NoDoor.{NoDoor}
 use Rattle.fuse_reply.specs.declared.out.Out.{Out}
-use Rattle.fuse_session.specs.Kind.{IsOfKind}
-use Rattle.fuse_session.specs.Owed.{Answers}
-use Rattle.fuse_session.specs.Promise.{MayAnswer}
-use Rattle.fuse_session.proofs.Answering.{Answered-error, Answered-frame}
+use Rattle.fuse_dispatch.specs.Kind.{IsOfKind}
+use Rattle.fuse_dispatch.specs.Owed.{Answers}
+use Rattle.fuse_dispatch.specs.Promise.{MayAnswer}
+use Rattle.fuse_dispatch.proofs.Answering.{Answered-error, Answered-frame}
 use Rattle.uses.specs.OneLock.{ComesOfWaiting, EDEADLK, ENOLCK}
 
 -- where the promise allows the call to be done, or to fail by either error

@@ -9,9 +9,9 @@ use Rattle.fuse_reply.specs.Frame.{reply}
 use Rattle.fuse_reply.specs.declared.door.NoDoor.{NoDoor}
 use Rattle.fuse_reply.specs.declared.out.Out.{Out}
 use Rattle.fuse_reply.specs.declared.out.Out.TheVariants.{Frame}
-use Rattle.fuse_session.specs.Defaults.{default_answer, default_mark}
-use Rattle.fuse_session.specs.Owed.{IsPutOff}
-use Rattle.fuse_session.specs.Promise.{Promise}
+use Rattle.fuse_dispatch.specs.Defaults.{default_answer, default_mark}
+use Rattle.fuse_dispatch.specs.Owed.{IsPutOff}
+use Rattle.fuse_dispatch.specs.Promise.{Promise}
 
 -- it would have to wait (`asm-generic/errno-base.h`, `asm-generic/errno.h`)
 abbrev pub EAGAIN : ℕ

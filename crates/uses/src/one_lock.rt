@@ -1,14 +1,13 @@
 // A filesystem with one lock, whose callers wait for it without a thread.
 ghost use Rattle.std.specs.Prelude.{true, refl};
-ghost use Rattle.fuse_reply.specs.Late.{IsFrameFor};
 ghost use Rattle.uses.specs.OneLock.{ComesOfWaiting, promise};
 
 use fuse_config::KernelConfig;
 use fuse_notify::PollNotifier;
 use fuse_reply::{
-    LateRefusal, Later, NoDoor, Replied, ReplyAttr, ReplyBmap, ReplyCreate, ReplyData,
-    ReplyDirectory, ReplyDirectoryPlus, ReplyEmpty, ReplyEntry, ReplyIoctl, ReplyLock, ReplyLseek,
-    ReplyOpen, ReplyPoll, ReplyStatfs, ReplyWrite, ReplyXattr,
+    Later, NoDoor, Replied, ReplyAttr, ReplyBmap, ReplyCreate, ReplyData, ReplyDirectory,
+    ReplyDirectoryPlus, ReplyEmpty, ReplyEntry, ReplyIoctl, ReplyLock, ReplyLseek, ReplyOpen,
+    ReplyPoll, ReplyStatfs, ReplyWrite, ReplyXattr,
 };
 use fuse_request::{ForgetList, Request};
 use fuse_session::{Filesystem, defaults};
@@ -19,7 +18,6 @@ use fuse_wire::{
 use std::alloc::{AllocFailed, Global};
 use std::collections::VecDeque;
 use std::sync::{Mutex, Wait};
-use std::thread;
 
 /// The type of a lock that is given up: `F_UNLCK`.
 const UNLOCKED: i32 = 2;
@@ -35,9 +33,8 @@ const UNLOCKED: i32 = 2;
 /// - A token may not be dropped, so that no reply is forgotten. It waits on a shelf, behind a lock, where each thread
 ///   finds it. No closure of a thread can own one.
 /// - Whoever takes it off parts it into the reply and the token to send by (`reply`), spends the reply into its answer,
-///   and sends that (`send`), again where the line to the sender was full.
-/// - Where the run has ended `send` hands both back with a note, by which they are let go (`retire`). So does `close`,
-///   with all that wait still when the session is over.
+///   and sends that (`send_or_retire`), which waits while the line to the sender is full. Where the run has ended nobody
+///   waits for the answer any more, and both are let go. So `close` lets all go that wait still when the session is over.
 pub struct OneLock<R> {
     rt: R,
     desk: Mutex<Desk>,
@@ -49,39 +46,16 @@ struct Desk {
     waiting: VecDeque<Later<ReplyEmpty>>,
 }
 
-/// Sends the frame by its token, again while the line is full. Where the run has ended, both are let go.
-fn settle<R: Wait>(rt: &R, token: Later<()>, replied: Replied)
-    requires { IsFrameFor token.id.0 replied }
-{
-    let mut left = token;
-    let mut frame = replied;
-    for _ in rt.forever() {
-        match left.send(rt, frame) {
-            Ok(()) => return,
-            Err(LateRefusal::Full(token, replied)) => {
-                left = token;
-                frame = replied;
-                thread::yield_now();
-            }
-            Err(LateRefusal::Closed(token, replied, note)) => {
-                token.retire(replied, &note);
-                return;
-            }
-        }
-    }
-    unreachable!()
-}
-
 /// Answers that the lock is held from now on.
 fn grant<R: Wait>(rt: &R, later: Later<ReplyEmpty>) {
     let (reply, token) = later.reply();
-    settle(rt, token, reply.ok());
+    token.send_or_retire(rt, reply.ok());
 }
 
 /// Answers that no more can wait for the lock.
 fn refuse<R: Wait>(rt: &R, later: Later<ReplyEmpty>) {
     let (reply, token) = later.reply();
-    settle(rt, token, reply.error(Errno::ENOLCK));
+    token.send_or_retire(rt, reply.error(Errno::ENOLCK));
 }
 
 impl<R: Wait> OneLock<R> {

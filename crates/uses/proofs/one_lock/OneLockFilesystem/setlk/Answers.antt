@@ -1,7 +1,7 @@
 -- A call for the lock is done, or fails as the promise says; one that waits may be put off.
 use Rattle.std.proofs.Common.{refl, inl, inr, sym, subst, Bool, arith}
 use Rattle.fuse_reply.specs.Answer.Answer.{Empty, Error}
-use Rattle.fuse_session.proofs.Answering.{Answered-error, Answered-frame}
+use Rattle.fuse_dispatch.proofs.Answering.{Answered-error, Answered-frame}
 use Rattle.uses.specs.OneLock.{MayFail, EAGAIN, EDEADLK, ENOLCK}
 use Rattle.uses.proofs.Waiting.{Answers-waiting}
 use Rattle.uses.proofs.one_lock.OneLockFilesystem.setlk.Goals as goal
