@@ -1,14 +1,15 @@
 // Replies that come later than their methods.
-ghost use Rattle.std.specs.Prelude.{◌≡◌, ◌<◌, IfOk};
+ghost use Rattle.std.specs.Prelude.{◌≡◌, ◌<◌, IfOk, IfSome};
 ghost use Rattle.std.specs.Arc.{arc_value};
 ghost use Rattle.fuse_line.specs.declared.hand.Kind.TheVariants.{First};
 ghost use Rattle.fuse_reply.specs.Late.{IsFrameFor};
 
+use crate::retire_each;
 use crate::tests::ID;
 use fuse_line::{Class, Line, Pass};
 use fuse_reply::{
-    Door, EndMark, LateRefusal, Later, NoDoor, Out, Parcel, Replied, ReplyDirectory, ReplyEmpty,
-    Seal,
+    Door, EndMark, EndNote, LateRefusal, Later, NoDoor, Out, Parcel, Replied, ReplyDirectory,
+    ReplyEmpty, Seal,
 };
 use fuse_wire::{Errno, FileType, INodeNo, NoMemory};
 use std::alloc::Global;
@@ -50,36 +51,12 @@ fn desk_of(alloc: Global, places: usize) -> Result<Desk, NoMemory>
     })
 }
 
-/// Sends the frame by its token, again while the line is full. Where the run has ended it is retired, and this is the
-/// number that the note knows.
-fn settle<R: Wait>(rt: &R, token: Later<()>, replied: Replied) -> Option<u64>
-    requires { IsFrameFor token.id.0 replied }
-{
-    let mut left = token;
-    let mut frame = replied;
-    for _ in rt.forever() {
-        match left.send(rt, frame) {
-            Ok(()) => return None,
-            Err(LateRefusal::Full(token, replied)) => {
-                left = token;
-                frame = replied;
-            }
-            Err(LateRefusal::Closed(token, replied, note)) => {
-                let taken = note.taken();
-                token.retire(replied, &note);
-                return Some(taken);
-            }
-        }
-    }
-    unreachable!()
-}
-
 /// What goes out at once of a reply, or why it can't be put off. Where it can, its frame is sent.
 fn put_off<R: Wait>(rt: &R, reply: ReplyEmpty) -> Result<Out, NoDoor> {
     match reply.defer() {
         Ok((replied, later)) => {
             let (reply, token) = later.reply();
-            let _ = settle(rt, token, reply.ok());
+            token.send_or_retire(rt, reply.ok());
             Ok(replied.into_out())
         }
         Err((reply, none)) => {
@@ -108,12 +85,52 @@ fn refuse<R: Wait>(
                 Ok(()) => Some((false, None)),
                 Err(LateRefusal::Full(token, replied)) => {
                     mark.set(seal, taken);
-                    Some((true, settle(rt, token, replied)))
+                    let note = token.send_or_retire(rt, replied);
+                    Some((true, note.map(|note| note.taken())))
                 }
                 Err(LateRefusal::Closed(token, replied, note)) => {
                     token.retire(replied, &note);
                     Some((false, None))
                 }
+            }
+        }
+        Err((reply, _)) => {
+            let _out = reply.ok().into_out();
+            None
+        }
+    }
+}
+
+/// What comes back of a reply that is put off, and sent once its run has ended. The end was marked by this number.
+fn refused_at_the_end<R: Wait>(
+    rt: &R,
+    alloc: Global,
+    desk: Desk,
+    taken: u64,
+) -> Option<(Later<()>, Replied, EndNote)>
+    requires { desk.seal ≡ desk.mark.name }
+    ensures replied { IfSome result (λ back. IsFrameFor back.0.id.0 back.1) }
+    ensures ended { IfSome result (λ back. back.2.name ≡ back.0.door.mark.name) }
+{
+    let Desk {
+        line: _,
+        first: _,
+        mut mark,
+        seal,
+        door,
+    } = desk;
+    mark.set(seal, taken);
+    match ReplyEmpty::new(alloc, ID).with_door(Ok(door)).defer() {
+        Ok((replied, later)) => {
+            let _out = replied.into_out();
+            let (reply, token) = later.reply();
+            match token.send(rt, reply.ok()) {
+                Ok(()) => None,
+                Err(LateRefusal::Full(token, replied)) => {
+                    token.send_or_retire(rt, replied);
+                    None
+                }
+                Err(LateRefusal::Closed(token, replied, note)) => Some((token, replied, note)),
             }
         }
         Err((reply, _)) => {
@@ -193,7 +210,7 @@ fn a_listing_is_put_off_with_its_entries(rt: HostRuntime) {
         Ok((replied, later)) => {
             let _out = replied.into_out();
             let (reply, token) = later.reply();
-            let _ = settle(&rt, token, reply.error(Errno::EINTR));
+            token.send_or_retire(&rt, reply.error(Errno::EINTR));
         }
         Err((reply, _)) => {
             let _out = reply.ok().into_out();
@@ -202,4 +219,32 @@ fn a_listing_is_put_off_with_its_entries(rt: HostRuntime) {
     assert!(rt; matches!(&added, Ok(false)));
     let waits = line.pop(&rt, &mut first);
     assert!(rt; matches!(&waits, Some(Parcel::Late(_))));
+}
+
+#[test]
+fn replies_to_two_runs_are_let_go_by_their_own_notes(rt: HostRuntime) {
+    let alloc = rt.alloc();
+    let first = desk_of(alloc, 1).expect(&rt, "there is memory");
+    let second = desk_of(alloc, 1).expect(&rt, "there is memory");
+    let one = refused_at_the_end(&rt, alloc, first, 3);
+    let other = refused_at_the_end(&rt, alloc, second, 5);
+    let told = match (one, other) {
+        (Some((token, replied, note)), Some((other_token, other_replied, other_note))) => {
+            retire_each(
+                token,
+                replied,
+                &note,
+                other_token,
+                other_replied,
+                &other_note,
+            );
+            Some((note.taken(), other_note.taken()))
+        }
+        (Some((token, replied, note)), None) | (None, Some((token, replied, note))) => {
+            token.retire(replied, &note);
+            None
+        }
+        (None, None) => None,
+    };
+    assert_eq!(rt; told, Some((3, 5)));
 }

@@ -14,3 +14,6 @@ mod fixed_tests;
 mod stream_tests;
 #[cfg(test)]
 mod tests;
+mod two_runs;
+
+pub use two_runs::retire_each;

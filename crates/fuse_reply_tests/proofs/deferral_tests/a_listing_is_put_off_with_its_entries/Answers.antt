@@ -6,7 +6,7 @@ use Rattle.fuse_reply.specs.declared.out.Out.TheVariants.{Frame}
 use Rattle.fuse_reply.proofs.LateReplies.{frame_for}
 use Rattle.fuse_reply_tests.proofs.deferral_tests.a_listing_is_put_off_with_its_entries.Goals as goal
 
-pub settle-requires : goal.settle-requires
-settle-requires g c =
+pub send_or_retire-requires : goal.send_or_retire-requires
+send_or_retire-requires g c =
     frame_for c.reply-reply.result.1.id.0 (Error 4) c.error.result
     (c.error.ensures.reply ∙ ap (λ (n : ℕ). Frame (reply n (Error 4))) c.reply-reply.ensures.id) c.error.ensures.answer
