@@ -12,8 +12,8 @@ use Rattle.fuse_reply.specs.Answer.{Answer}
 use Rattle.fuse_reply.specs.Answer.Answer.{Error, Data, Entry, Attr, Open as Opened, Directory}
 use Rattle.fuse_reply.specs.Listing.{DirEntry, listing}
 use Rattle.fuse_reply.specs.Sizes.{inline_size, max_payload}
-use Rattle.fuse_session.specs.Defaults.{default_answer}
-use Rattle.fuse_session.specs.Promise.{Promise}
+use Rattle.fuse_dispatch.specs.Defaults.{default_answer}
+use Rattle.fuse_dispatch.specs.Promise.{Promise}
 use Rattle.fuse_read_only.specs.Tree.{Tree, fitting, numbered}
 
 -- nothing here can be changed (`asm-generic/errno-base.h`)

@@ -26,7 +26,7 @@ use Rattle.fuse_core.specs.OneEach.{OneEach, Owing}
 use Rattle.fuse_session.specs.Handshake.{Greets, Handshake, HandshakeEnd, NegotiationReply}
 use Rattle.fuse_session.specs.Handshake.{greeting, greeting_by_header, greeting_by_operation, offer_of}
 use Rattle.fuse_session.specs.Handshake.HandshakeEnd.{Accepted}
-use Rattle.fuse_session.specs.Owed.{Owed}
+use Rattle.fuse_dispatch.specs.Owed.{Owed}
 use Rattle.fuse_serve.specs.Generated.{init, stream}
 use Rattle.fuse_serve.specs.Load.{Answers, Loads, SameStream, Summarizes, WritesOneLine, is_error, line, summary_of}
 use Rattle.fuse_serve.specs.Tree.{tree_may_init, tree_promise}

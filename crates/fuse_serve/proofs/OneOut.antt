@@ -28,9 +28,9 @@ use Rattle.fuse_reply.specs.declared.out.Out.{Out}
 use Rattle.fuse_reply.specs.declared.out.Out.TheVariants.{Frame, Note}
 use Rattle.fuse_config.specs.declared.session_acl.SessionACL.TheVariants.{All}
 use Rattle.fuse_workers.specs.Incoming.{id_of}
-use Rattle.fuse_session.specs.Owed.{IsPoll, Owed, OwedBy, OwedCall}
-use Rattle.fuse_session.specs.Verdict.{Verdict, admitted, admitted_operation, asking, fixed_error, fixed_or, is_forget, serving, verdict, verdict_by}
-use Rattle.fuse_session.specs.Verdict.Verdict.{Broken, Ends, Fixed, Forgets, Calls}
+use Rattle.fuse_dispatch.specs.Owed.{IsPoll, Owed, OwedBy, OwedCall}
+use Rattle.fuse_dispatch.specs.Verdict.{Verdict, admitted, admitted_operation, asking, fixed_error, fixed_or, is_forget, serving, verdict, verdict_by}
+use Rattle.fuse_dispatch.specs.Verdict.Verdict.{Broken, Ends, Fixed, Forgets, Calls}
 use Rattle.fuse_serve.specs.Generated.{destroy, message, name_body, read_body, request, request_at, requests, write_body, x_after}
 use Rattle.fuse_serve.specs.Tree.{attributes, bytes, contents, entry, fitting, members, named, node_attr, tree_answer, tree_mark, tree_promise}
 use Rattle.fuse_serve.specs.declared.hello.Hello.{Hello}

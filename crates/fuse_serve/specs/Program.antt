@@ -12,7 +12,7 @@ use Rattle.fuse_wire.specs.StreamSink.{IsTorn}
 use Rattle.fuse_reply.specs.declared.out.Out.{Out}
 use Rattle.fuse_reply.specs.declared.out.Out.TheVariants.{Frame, Note, Deferred}
 use Rattle.fuse_workers.specs.Incoming.{IsBroken, EndsWell}
-use Rattle.fuse_session.specs.Owed.{Owed}
+use Rattle.fuse_dispatch.specs.Owed.{Owed}
 use Rattle.fuse_core.specs.OneEach.{OneEach}
 use Rattle.fuse_session.specs.Complete.{OpensWell}
 use Rattle.fuse_session.specs.Exchange.{Setup, Outcome, Dialogue, setup_of}

@@ -12,8 +12,8 @@ use Rattle.fuse_reply.specs.Answer.{Answer}
 use Rattle.fuse_reply.specs.Answer.Answer.{Error, Data, Entry, Attr, Directory as Entries}
 use Rattle.fuse_reply.specs.Listing.{DirEntry, dirent}
 use Rattle.fuse_reply.specs.Sizes.{max_payload}
-use Rattle.fuse_session.specs.Defaults.{default_answer}
-use Rattle.fuse_session.specs.Promise.{Promise, MayInit, MayAnswer, MayNote, MayDestroy}
+use Rattle.fuse_dispatch.specs.Defaults.{default_answer}
+use Rattle.fuse_dispatch.specs.Promise.{Promise, MayInit, MayAnswer, MayNote, MayDestroy}
 use Rattle.fuse_serve.specs.declared.hello.Hello.{Hello}
 
 -- attributes of a node, whose owner and whose times are 0

@@ -13,7 +13,7 @@ use Rattle.fuse_request.specs.Header.{header, body, request_of}
 use Rattle.fuse_request.specs.declared.any_request.Header.{Header}
 use Rattle.fuse_request.specs.declared.request.Request.{Request as Asker}
 use Rattle.fuse_request.specs.declared.error.RequestError.{RequestError}
-use Rattle.fuse_session.specs.Promise.{MayInit}
+use Rattle.fuse_dispatch.specs.Promise.{MayInit}
 use Rattle.fuse_workers.specs.Incoming.{incoming, incoming_by, AllGoOn}
 use Rattle.fuse_workers.specs.Incoming.Incoming.{Broken, Request}
 use Rattle.fuse_session.specs.Handshake.{greeting, greeting_by_header, greeting_by_operation, greeting_by_version, offer_of, is_old, Greets}

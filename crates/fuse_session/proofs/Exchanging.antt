@@ -9,7 +9,7 @@ use Rattle.fuse_workers.specs.Incoming.{Incoming, EndsAfter, EndsWell, AllGoOn, 
 use Rattle.fuse_workers.specs.Incoming.Incoming.{Destroy}
 use Rattle.fuse_workers.proofs.Accounts.{OneEachLater-none}
 use Rattle.fuse_session.specs.Accounted.{Accounted}
-use Rattle.fuse_session.specs.Owed.{Owed}
+use Rattle.fuse_dispatch.specs.Owed.{Owed}
 use Rattle.fuse_session.specs.Handshake.{HandshakeEnd}
 use Rattle.fuse_session.specs.HandshakeStep.{HandshakeRun}
 use Rattle.fuse_workers.specs.EventLoop.{Run, RunEnds}

@@ -11,7 +11,7 @@ use Rattle.fuse_reply.specs.declared.out.Out.{Out}
 use Rattle.fuse_reply.specs.declared.out.Out.TheVariants.{Frame}
 use Rattle.fuse_reply.specs.Answer.Answer.{Error}
 use Rattle.fuse_reply.specs.Frame.{reply, frame}
-use Rattle.fuse_session.specs.Promise.{MayInit}
+use Rattle.fuse_dispatch.specs.Promise.{MayInit}
 use Rattle.fuse_session.specs.Handshake.{greeting, Greets, Negotiates, HandshakeEnd, Handshake}
 use Rattle.fuse_session.specs.Handshake.HandshakeEnd.{Open, Failed}
 use Rattle.fuse_session.specs.HandshakeStep.{HandshakeRun, HandshakeOn, HandshakeEnds, end_of}

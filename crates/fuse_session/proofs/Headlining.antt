@@ -8,7 +8,7 @@ use Rattle.fuse_wire.specs.Sink.{Note}
 use Rattle.fuse_reply.specs.declared.out.Out.{Out}
 use Rattle.fuse_reply.specs.declared.out.Out.TheVariants.{Frame}
 use Rattle.fuse_workers.specs.Incoming.{IsBroken, EndsWell}
-use Rattle.fuse_session.specs.Owed.{Owed}
+use Rattle.fuse_dispatch.specs.Owed.{Owed}
 use Rattle.fuse_core.specs.OneEach.{OneEach, UpToOrder}
 use Rattle.fuse_workers.specs.OneEachLater.{OneEachLater}
 use Rattle.fuse_session.specs.Handshake.{HandshakeEnd, Handshake}

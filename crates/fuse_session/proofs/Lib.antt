@@ -1,7 +1,3 @@
-mod Serving
-mod Judging
-mod Deferring
-pub mod Answering
 mod HandshakeSteps
 mod Exchanging
 mod Headlining

@@ -9,11 +9,11 @@ use Rattle.fuse_session.specs.Complete.{GoodHeaders, RunWell, Unfailing}
 use Rattle.fuse_workers.specs.EventLoop.{Run}
 use Rattle.fuse_session.specs.Exchange.{Closed, Exchange, Mounted, Outcome, Setup, Unopened, setup_of}
 use Rattle.fuse_session.specs.Headline.{Headline, LaterHeadline, Lossless}
-use Rattle.fuse_session.specs.Owed.{Owed}
+use Rattle.fuse_dispatch.specs.Owed.{Owed}
 use Rattle.fuse_core.specs.OneEach.{Accounting, InOrder, Owing, UpToOrder}
 use Rattle.fuse_workers.specs.OneEachLater.{NoneHeldBack}
 use Rattle.fuse_workers.specs.Progress.{Progress, nothing_yet, progress}
-use Rattle.fuse_session.specs.Promise.{Promise}
+use Rattle.fuse_dispatch.specs.Promise.{Promise}
 use Rattle.fuse_session.specs.Session.{Ends, EndsRun, IsOpened, Opened, OpensNone, Ran, setup_for}
 use Rattle.fuse_session.specs.SessionEnd.{handshake_error, run_outcome}
 use Rattle.fuse_session.specs.declared.error.SessionError.TheVariants.{Threads}

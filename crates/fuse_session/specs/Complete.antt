@@ -11,7 +11,7 @@ use Rattle.fuse_request.specs.declared.any_request.Header.{Header}
 use Rattle.fuse_request.specs.declared.request.Request.{Request}
 use Rattle.fuse_workers.specs.Incoming.{incoming}
 use Rattle.fuse_workers.specs.Incoming.Incoming.{Destroy, Request as IsRequest}
-use Rattle.fuse_session.specs.Promise.{MayInit}
+use Rattle.fuse_dispatch.specs.Promise.{MayInit}
 use Rattle.fuse_session.specs.Session.{Opened}
 
 -- its header is good, and it decodes to this INIT

@@ -8,9 +8,9 @@ use Rattle.fuse_request.specs.declared.error.RequestError.{RequestError}
 use Rattle.fuse_reply.specs.declared.out.Out.{Out}
 use Rattle.fuse_reply.specs.declared.out.Out.TheVariants.{Frame}
 use Rattle.fuse_session.specs.Accounted.{Accounted}
-use Rattle.fuse_session.specs.Promise.{Promise}
+use Rattle.fuse_dispatch.specs.Promise.{Promise}
 use Rattle.fuse_workers.specs.Incoming.{AllGoOn, EndsWell, HeaderRefused}
-use Rattle.fuse_session.specs.Owed.{Owed}
+use Rattle.fuse_dispatch.specs.Owed.{Owed}
 use Rattle.fuse_session.specs.Handshake.{HandshakeEnd, Handshake}
 use Rattle.fuse_session.specs.Handshake.HandshakeEnd.{Open, Accepted, Failed}
 use Rattle.fuse_workers.specs.Progress.{Progress, Moves, Begins, LeavesOut, nothing_yet, progress}

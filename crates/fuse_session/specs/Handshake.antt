@@ -15,7 +15,7 @@ use Rattle.fuse_request.specs.Operation.Op.{Init}
 use Rattle.fuse_reply.specs.Answer.{IsAnswer}
 use Rattle.fuse_reply.specs.Answer.Answer.{Error}
 use Rattle.fuse_reply.specs.Frame.{frame, reply}
-use Rattle.fuse_session.specs.Promise.{MayInit}
+use Rattle.fuse_dispatch.specs.Promise.{MayInit}
 use Rattle.fuse_session.specs.declared.error.InvalidData.TheVariants as invalid
 use Rattle.fuse_session.specs.declared.greeting.Greeting.{Greeting}
 use Rattle.fuse_session.specs.declared.greeting.Greeting.TheVariants.{Silent, NotInit, Old, Newer, Offered}

@@ -2,7 +2,7 @@
 use Rattle.std.specs.Prelude.{◌≡◌, ◌≢◌, ◌++◌, ℕ, List, [], Option, None, Some, Result, Ok, Err, map, length}
 use Rattle.fuse_wire.specs.Source.{Takes, message, NothingLeft, Failed as SourceFailed}
 use Rattle.fuse_reply.specs.declared.out.Out.TheVariants.{Frame}
-use Rattle.fuse_session.specs.Promise.{MayInit}
+use Rattle.fuse_dispatch.specs.Promise.{MayInit}
 use Rattle.fuse_session.specs.Handshake.{HandshakeEnd, Handshake}
 use Rattle.fuse_session.specs.Handshake.HandshakeEnd.{Open, Accepted, Failed as IsFailed}
 use Rattle.fuse_workers.specs.Progress.{Progress, Moves, Begins, LeavesOut}

@@ -5,10 +5,10 @@ use Rattle.fuse_wire.specs.Source.{SourceState, Takes, message, NothingLeft}
 use Rattle.fuse_wire.specs.Sink.{SinkState, Note, Appends}
 use Rattle.fuse_config.specs.declared.session_acl.SessionACL.{SessionACL}
 use Rattle.fuse_workers.specs.Incoming.{IsBroken, EndsWell}
-use Rattle.fuse_session.specs.Owed.{Owed}
+use Rattle.fuse_dispatch.specs.Owed.{Owed}
 use Rattle.fuse_core.specs.OneEach.{OneEach}
 use Rattle.fuse_workers.specs.OneEachLater.{OneEachLater}
-use Rattle.fuse_session.specs.Promise.{Promise}
+use Rattle.fuse_dispatch.specs.Promise.{Promise}
 use Rattle.fuse_session.specs.Handshake.{Handshake}
 use Rattle.fuse_session.specs.Handshake.HandshakeEnd.{Accepted}
 use Rattle.fuse_workers.specs.Progress.{Quiet, replies, NoticeOrReply}

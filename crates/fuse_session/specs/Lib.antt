@@ -1,10 +1,4 @@
-pub mod Promise
-pub mod Verdict
-pub mod Kind
-pub mod Defaults
-pub mod Owed
 pub mod Accounted
-pub mod Asked
 pub mod Handshake
 pub mod HandshakeStep
 pub mod Exchange
@@ -15,5 +9,4 @@ pub mod Spawned
 pub mod Spawning
 pub mod Headline
 pub mod Complete
-pub mod Decided
 pub mod Refused

@@ -9,9 +9,9 @@ use Rattle.fuse_workers.specs.EventLoop.{Run}
 use Rattle.fuse_session.specs.Accounted.{Accounted, NeverLater}
 use Rattle.fuse_session.specs.Exchange.{Outcome, Setup, setup_of}
 use Rattle.fuse_session.specs.HandshakeStep.{HandshakeRun}
-use Rattle.fuse_session.specs.Owed.{Owed}
+use Rattle.fuse_dispatch.specs.Owed.{Owed}
 use Rattle.fuse_workers.specs.Progress.{Progress, nothing_yet, progress}
-use Rattle.fuse_session.specs.Promise.{Promise}
+use Rattle.fuse_dispatch.specs.Promise.{Promise}
 use Rattle.fuse_session.specs.SessionEnd.{run_outcome}
 use Rattle.fuse_session.specs.declared.error.InvalidData.TheVariants.{Header}
 use Rattle.fuse_session.specs.declared.error.SessionError.TheVariants.{NotConnected, InvalidData, Unsupported, Init, Threads, Receive}

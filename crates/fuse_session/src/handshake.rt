@@ -5,9 +5,9 @@ ghost use Rattle.fuse_session.specs.Handshake.{Negotiates};
 ghost use Rattle.fuse_session.specs.HandshakeStep.{HandshakeRun, OneStep, end_of};
 
 use crate::greeting::{Greeting, HandshakeError, Offer};
-use crate::refusal::refusal;
 use crate::{Filesystem, InvalidData};
 use fuse_config::{KernelConfig, version_reply};
+use fuse_dispatch::refusal;
 use fuse_reply::{Out, ReplyData};
 use fuse_request::Request;
 use fuse_wire::{Errno, RequestId, Sink, Source};

@@ -1,17 +1,16 @@
 // What runs of a session.
 ghost use Rattle.std.specs.Prelude.{◌≡◌, ℕ, List, [], Some};
 ghost use Rattle.fuse_session.specs.Accounted.{Accounted, NeverLater};
-ghost use Rattle.fuse_session.specs.Owed.{Owed};
+ghost use Rattle.fuse_dispatch.specs.Owed.{Owed};
 ghost use Rattle.fuse_session.specs.Session.{Ends, Ran};
 ghost use Rattle.fuse_workers.specs.EventLoop.{Run};
 ghost use Rattle.fuse_workers.specs.Lines.{IsUnused, unasked_of};
 ghost use Rattle.fuse_workers.specs.Progress.{nothing_yet, progress};
 
-use crate::asking::Asking;
-use crate::dispatch::{Service, Shared};
 use crate::ended::{destroyed, run_outcome};
 use crate::options::several;
 use crate::{Ended, Filesystem, SessionError, Transcript};
+use fuse_dispatch::{Asking, Service, Shared};
 use fuse_wire::{Sink, Source};
 use fuse_workers::{Buffers, Channel, Lines, RunEnd, run_inline, run_workers};
 use std::alloc::AllocGlobal;

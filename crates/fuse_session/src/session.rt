@@ -15,15 +15,13 @@ ghost use Rattle.fuse_wire.specs.Faults.{Rose};
 ghost use Rattle.fuse_wire.specs.Source.{SourceState};
 ghost use Rattle.fuse_wire.specs.Sink.{SinkState};
 
-use crate::access::AccessRule;
-use crate::asking::Asking;
-use crate::dispatch::{Service, Shared};
 use crate::ended::{destroyed, untouched};
 use crate::handshake::{HandshakeOutcome, handshake};
 use crate::options::{SessionMemory, prepare, prepare_device};
 use crate::runnable::Runnable;
 use crate::{BackgroundSession, Ended, Filesystem, SessionError, Spawner};
 use fuse_config::{Config, SessionACL};
+use fuse_dispatch::{AccessRule, Asking, Service, Shared};
 use fuse_notify::Notifier;
 use fuse_wire::{NoMemory, Sink, Source};
 use fuse_workers::Channel;

@@ -11,8 +11,8 @@ use Rattle.fuse_reply.specs.Frame.{reply}
 use Rattle.fuse_reply.specs.declared.door.NoDoor.{NoDoor}
 use Rattle.fuse_reply.specs.declared.out.Out.{Out}
 use Rattle.fuse_reply.specs.declared.out.Out.TheVariants.{Frame}
-use Rattle.fuse_session.specs.Defaults.{default_answer}
-use Rattle.fuse_session.specs.Owed.{Answers, IsPutOff}
+use Rattle.fuse_dispatch.specs.Defaults.{default_answer}
+use Rattle.fuse_dispatch.specs.Owed.{Answers, IsPutOff}
 
 -- which answer a call may have
 abbrev pub Allows : Type 1

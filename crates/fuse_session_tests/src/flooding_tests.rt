@@ -1,6 +1,6 @@
 // Notices that a filesystem sends of its own, by the session's notifier.
 ghost use Rattle.std.specs.Prelude.{◌≡◌, false, refl};
-ghost use Rattle.fuse_session.specs.Defaults.{default_answer};
+ghost use Rattle.fuse_dispatch.specs.Defaults.{default_answer};
 
 use crate::argument::Argument;
 use crate::probe::Probe;

@@ -1,7 +1,7 @@
 // What a filesystem of a test does of its own.
 ghost use Rattle.std.specs.Prelude.{Bool};
 ghost use Rattle.fuse_request.specs.Call.{Call, handle_number, owner_number};
-ghost use Rattle.fuse_session.specs.Defaults.{default_answer};
+ghost use Rattle.fuse_dispatch.specs.Defaults.{default_answer};
 ghost use Rattle.fuse_session_tests.specs.Probing.{Allows, IsAnswered};
 
 use crate::argument::Argument;

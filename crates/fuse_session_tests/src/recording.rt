@@ -1,6 +1,6 @@
 // A filesystem for tests, which records what reached it.
 ghost use Rattle.std.specs.Prelude.{◌≡◌, false, refl};
-ghost use Rattle.fuse_session.specs.Defaults.{default_answer};
+ghost use Rattle.fuse_dispatch.specs.Defaults.{default_answer};
 
 use crate::argument::Argument;
 use crate::probe::Probe;

@@ -1,7 +1,7 @@
 -- What came of the later messages, by how many threads answered them.
-use Rattle.fuse_session.specs.Owed.{Owed}
+use Rattle.fuse_dispatch.specs.Owed.{Owed}
 use Rattle.fuse_session.proofs.SessionParts.{Accounted-many, Accounted-one}
-use Rattle.fuse_session.proofs.Serving.{Owed-at_once, Owed-broken}
+use Rattle.fuse_dispatch.proofs.Serving.{Owed-at_once, Owed-broken}
 use Rattle.fuse_session.proofs.runnable.answer_all.Goals as goal
 
 pub returns-in-None-clause-run : goal.returns-in-None-clause-run

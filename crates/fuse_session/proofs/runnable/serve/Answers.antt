@@ -1,7 +1,7 @@
 -- What came of the later messages.
 use Rattle.std.proofs.Common.{◌≢◌, [], Some, inr, rules, subst, sym}
 use Rattle.fuse_session.specs.Accounted.{Accounted}
-use Rattle.fuse_session.specs.Owed.{Owed}
+use Rattle.fuse_dispatch.specs.Owed.{Owed}
 use Rattle.fuse_workers.specs.EventLoop.{Run}
 use Rattle.fuse_workers.specs.Lines.{unasked_of}
 use Rattle.fuse_core.specs.OneEach.{Accounting}

@@ -7,7 +7,7 @@ use Rattle.fuse_reply.specs.Frame.{reply}
 use Rattle.fuse_reply.specs.Adding.{Listing}
 use Rattle.fuse_reply.specs.Listing.{DirEntry, listing}
 use Rattle.fuse_reply.specs.declared.out.Out.TheVariants.{Frame}
-use Rattle.fuse_session.proofs.Answering.{Answered-error, Answered-frame}
+use Rattle.fuse_dispatch.proofs.Answering.{Answered-error, Answered-frame}
 use Rattle.fuse_read_only.specs.ReadOnly.{IsLongListing, MayHave, listed, listing_of}
 use Rattle.fuse_read_only.proofs.read_only.ReadOnlyFilesystem.readdir.Goals as goal
 

@@ -3,7 +3,7 @@ use Rattle.fuse_wire.specs.declared.file_attr.FileAttr.{FileAttr}
 use Rattle.fuse_reply.specs.Answer.Answer.{Attr}
 use Rattle.fuse_reply.specs.Frame.{reply}
 use Rattle.fuse_reply.specs.declared.out.Out.TheVariants.{Frame}
-use Rattle.fuse_session.proofs.Answering.{Answered-frame, Answered-error}
+use Rattle.fuse_dispatch.proofs.Answering.{Answered-frame, Answered-error}
 use Rattle.fuse_serve.specs.Tree.{attributes}
 use Rattle.fuse_serve.proofs.hello.HelloFilesystem.getattr.Goals as goal
 

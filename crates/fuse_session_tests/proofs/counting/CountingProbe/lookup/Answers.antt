@@ -1,4 +1,4 @@
-use Rattle.fuse_session.proofs.Answering.{Answered-error}
+use Rattle.fuse_dispatch.proofs.Answering.{Answered-error}
 use Rattle.std.proofs.Common.{lit<}
 use Rattle.fuse_session_tests.proofs.counting.CountingProbe.lookup.Goals as goal
 

@@ -1,5 +1,5 @@
 use Rattle.fuse_reply.specs.Answer.Answer.{Data}
-use Rattle.fuse_session.proofs.Answering.{Answered-replies}
+use Rattle.fuse_dispatch.proofs.Answering.{Answered-replies}
 use Rattle.fuse_session_tests.proofs.counting.CountingProbe.read.Goals as goal
 
 pub returns : goal.returns

@@ -5,7 +5,7 @@ use Rattle.fuse_request.specs.declared.request.Request.{Request}
 use Rattle.fuse_reply.specs.Door.{DoorSeen}
 use Rattle.fuse_reply.specs.declared.door.NoDoor.{NoDoor}
 use Rattle.fuse_reply.specs.declared.out.Out.{Out}
-use Rattle.fuse_session.proofs.Answering.{Answered-error}
+use Rattle.fuse_dispatch.proofs.Answering.{Answered-error}
 use Rattle.fuse_wire.specs.ErrorNumbers.{EIO, ENOENT}
 use Rattle.fuse_session_tests.specs.Probing.{ComesOfLookup, IsAnswered}
 use Rattle.fuse_session_tests.proofs.deferring.DeferringProbe.lookup.Goals as goal

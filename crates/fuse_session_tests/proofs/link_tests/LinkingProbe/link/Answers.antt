@@ -1,4 +1,4 @@
-use Rattle.fuse_session.proofs.Answering.{Answered-error}
+use Rattle.fuse_dispatch.proofs.Answering.{Answered-error}
 use Rattle.fuse_session_tests.proofs.link_tests.LinkingProbe.link.Goals as goal
 
 pub returns : goal.returns

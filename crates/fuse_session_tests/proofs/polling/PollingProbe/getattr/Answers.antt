@@ -1,4 +1,4 @@
-use Rattle.fuse_session.proofs.Answering.{Answered-error}
+use Rattle.fuse_dispatch.proofs.Answering.{Answered-error}
 use Rattle.fuse_wire.specs.ErrorNumbers.{ENOENT}
 use Rattle.fuse_session_tests.proofs.polling.PollingProbe.getattr.Goals as goal
 

@@ -1,5 +1,5 @@
 use Rattle.fuse_reply.specs.Answer.Answer.{Error}
-use Rattle.fuse_session.proofs.Answering.{Answered-frame}
+use Rattle.fuse_dispatch.proofs.Answering.{Answered-frame}
 use Rattle.fuse_wire.specs.ErrorNumbers.{ENOSYS}
 use Rattle.fuse_session_tests.proofs.probe.Probe.poll.Goals as goal
 

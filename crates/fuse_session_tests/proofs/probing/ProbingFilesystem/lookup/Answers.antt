@@ -1,4 +1,4 @@
-use Rattle.fuse_session.proofs.Answering.{Answers-allowed}
+use Rattle.fuse_dispatch.proofs.Answering.{Answers-allowed}
 use Rattle.fuse_session_tests.proofs.probing.ProbingFilesystem.lookup.Goals as goal
 
 pub returns : goal.returns

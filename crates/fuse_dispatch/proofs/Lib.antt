@@ -1,0 +1,4 @@
+pub mod Serving
+mod Judging
+mod Deferring
+pub mod Answering

@@ -1,0 +1,7 @@
+pub mod Promise
+pub mod Verdict
+pub mod Kind
+pub mod Defaults
+pub mod Owed
+pub mod Asked
+pub mod Decided

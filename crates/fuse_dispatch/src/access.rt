@@ -1,0 +1,76 @@
+// The access rule: whose requests are served.
+ghost use Rattle.std.specs.Prelude.{◌≡◌};
+ghost use Rattle.fuse_request.specs.Header.{body_of, header_of};
+ghost use Rattle.fuse_request.specs.Operation.{operation};
+ghost use Rattle.fuse_dispatch.specs.Decided.{plain_result};
+ghost use Rattle.fuse_dispatch.specs.Verdict.{admitted, admitted_operation, always_passes};
+
+use fuse_config::SessionACL;
+use fuse_request::opcode::{
+    FUSE_BATCH_FORGET, FUSE_DESTROY, FUSE_FORGET, FUSE_FSYNC, FUSE_FSYNCDIR, FUSE_INIT, FUSE_READ,
+    FUSE_READDIR, FUSE_READDIRPLUS, FUSE_RELEASE, FUSE_RELEASEDIR, FUSE_WRITE,
+};
+use fuse_request::{AnyRequest, Operation};
+use fuse_wire::Errno;
+
+/// Whose requests are served.
+#[derive(Clone, Copy)]
+pub struct AccessRule {
+    /// Who is served beside the owner.
+    pub acl: SessionACL,
+    /// The user whose session it is.
+    pub owner: u32,
+}
+
+/// Whether requests of this opcode pass whoever sends them.
+#[inline(always)]
+fn always_passes(opcode: u32) -> bool
+    ensures { result ≡ always_passes opcode }
+{
+    matches!(
+        opcode,
+        FUSE_INIT
+            | FUSE_DESTROY
+            | FUSE_FORGET
+            | FUSE_READ
+            | FUSE_WRITE
+            | FUSE_RELEASE
+            | FUSE_FSYNC
+            | FUSE_READDIR
+            | FUSE_RELEASEDIR
+            | FUSE_FSYNCDIR
+            | FUSE_BATCH_FORGET
+            | FUSE_READDIRPLUS
+    )
+}
+
+impl AccessRule {
+    /// Whether a request of this user and opcode is served.
+    #[inline(always)]
+    pub(crate) fn admits(self, uid: u32, opcode: u32) -> bool
+        ensures { result ≡ admitted self.acl self.owner uid opcode }
+    {
+        match self.acl {
+            SessionACL::All => true,
+            SessionACL::RootAndOwner => uid == 0 || uid == self.owner || always_passes(opcode),
+            SessionACL::Owner => uid == self.owner || always_passes(opcode),
+        }
+    }
+
+    /// The operation of a request whose user is served. ENOSYS where it does not decode, whoever sends it, and EACCES
+    /// where its user is not served.
+    #[inline(always)]
+    pub(crate) fn operation<'a>(self, request: &AnyRequest<'a>) -> Result<Operation<'a>, Errno>
+        ensures { plain_result result ≡ admitted_operation self.acl self.owner (header_of request.now)
+            (operation (header_of request.now).opcode (body_of request.now)) }
+    {
+        let operation = match request.operation() {
+            Ok(operation) => operation,
+            Err(_) => return Err(Errno::ENOSYS),
+        };
+        if !self.admits(request.uid(), request.opcode()) {
+            return Err(Errno::EACCES);
+        }
+        Ok(operation)
+    }
+}

@@ -1,0 +1,55 @@
+// A request that is served.
+ghost use Rattle.std.specs.Prelude.{◌≡◌, [], Err};
+ghost use Rattle.fuse_reply.specs.Answer.Answer.{Empty, Error};
+ghost use Rattle.fuse_reply.specs.Deferral.{prompt_reply};
+ghost use Rattle.fuse_reply.specs.Frame.{reply};
+ghost use Rattle.fuse_reply.specs.declared.door.NoDoor.TheVariants.{Shut};
+ghost use Rattle.fuse_reply.specs.declared.out.Out.{Out};
+
+use crate::error_reply::refusal;
+use fuse_reply::{EntryKind, Out, Reply, ReplyEmpty, ReplyListing};
+use fuse_request::Request;
+use fuse_wire::{Errno, INodeNo, RequestId};
+use std::alloc::Global;
+
+/// A request whose user is served: what its call is made of beside its operation, and what its reply is made with.
+#[derive(Clone, Copy)]
+pub(crate) struct Asked {
+    pub(crate) alloc: Global,
+    pub(crate) id: RequestId,
+    pub(crate) node: INodeNo,
+    pub(crate) request: Request,
+}
+
+impl Asked {
+    /// Its reply, of a fixed size or of data.
+    #[inline(always)]
+    pub(crate) fn reply<Kind>(&self) -> Reply<Kind>
+        ensures { result ≡ prompt_reply self.now.id.0 }
+    {
+        Reply::new(self.alloc, self.id)
+    }
+
+    /// Its reply, of entries that have at most so many bytes.
+    #[inline(always)]
+    pub(crate) fn listing<Kind: EntryKind>(&self, size: u32) -> ReplyListing<Kind>
+        ensures { result ≡ record { id = self.now.id.0; door = Err Shut; size = size; held = [] } }
+    {
+        ReplyListing::new(self.alloc, self.id, size as usize)
+    }
+
+    /// The reply of an error. It is called, since with it in each arm the table would be too large to be inlined.
+    pub(crate) fn refusal(&self, error: Errno) -> Out
+        ensures { result ≡ Out.Frame (reply self.now.id.0 (Error error)) }
+    {
+        refusal(self.alloc, self.id, error)
+    }
+
+    /// The reply to DESTROY.
+    #[inline(always)]
+    pub(crate) fn destroyed(&self) -> Out
+        ensures { result ≡ Out.Frame (reply self.now.id.0 Empty) }
+    {
+        ReplyEmpty::new(self.alloc, self.id).ok().into_out()
+    }
+}

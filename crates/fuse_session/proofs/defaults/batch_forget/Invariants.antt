@@ -1,8 +1,0 @@
-use Rattle.fuse_request.specs.Forgets.{rows_of}
-use Rattle.fuse_session.specs.Defaults.{CameOf, before}
-use Rattle.fuse_session.proofs.defaults.batch_forget.Given as goal
-
--- the mark came of the row before
-abbrev pub invariant-loop-place : goal.invariant-loop-place
-invariant-loop-place g l =
-    CameOf (λ ino nlookup. g.F.Fn.post l.fn.forget (record { 0 = ino }, (nlookup, tt))) (before l.place (rows_of l.fn.nodes)) l.mark
