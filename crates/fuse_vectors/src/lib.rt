@@ -3,17 +3,7 @@
 #![tactic(auto)]
 
 #[cfg(test)]
-mod derives;
-#[cfg(test)]
-mod devices;
-#[cfg(test)]
 mod headers;
-#[cfg(test)]
-mod messages;
-#[cfg(test)]
-mod names;
-#[cfg(test)]
-mod numbers;
 #[cfg(test)]
 mod requests;
 #[cfg(test)]
