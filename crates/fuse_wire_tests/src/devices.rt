@@ -2,8 +2,9 @@
 ghost use Rattle.std.specs.Prelude.{◌≤◌};
 ghost use Rattle.fuse_wire.specs.MemorySink.{EachFails, NumbersDiffer};
 
+use crate::asserts::expect_same;
 use fuse_wire::{
-    ByteRead, ByteSink, ByteSource, ByteWrite, MemoryBytes, MemoryOut, MemorySink, Noting,
+    ByteRead, ByteSink, ByteSource, ByteWrite, Items, MemoryBytes, MemoryOut, MemorySink, Noting,
     RequestId, Sending, Sink, StdSink, StdSource, StreamSink,
 };
 use std::alloc::{AllocError, Global};
@@ -13,10 +14,10 @@ use std::process::Abort;
 
 /// How many bytes are read at once, and what each of five reads gives, with the piece that it reads into. The second
 /// read fails.
-const READS: [(usize, [(ByteRead, [u8; 4]); 5]); 3] = [
+const READS: &[(usize, &[(ByteRead, [u8; 4])])] = &[
     (
         1,
-        [
+        &[
             (ByteRead::Got(1), [1, 0, 0, 0]),
             (ByteRead::Failed, [0; 4]),
             (ByteRead::Got(1), [2, 0, 0, 0]),
@@ -26,7 +27,7 @@ const READS: [(usize, [(ByteRead, [u8; 4]); 5]); 3] = [
     ),
     (
         7,
-        [
+        &[
             (ByteRead::Got(3), [1, 2, 3, 0]),
             (ByteRead::Failed, [0; 4]),
             (ByteRead::End, [0; 4]),
@@ -36,7 +37,7 @@ const READS: [(usize, [(ByteRead, [u8; 4]); 5]); 3] = [
     ),
     (
         2,
-        [
+        &[
             (ByteRead::Got(2), [1, 2, 0, 0]),
             (ByteRead::Failed, [0; 4]),
             (ByteRead::Got(1), [3, 0, 0, 0]),
@@ -55,21 +56,37 @@ fn failing_bytes(alloc: Global, step: usize) -> Result<MemoryBytes, AllocError>
     Ok(MemoryBytes::new(bytes, step, faults))
 }
 
+/// What a read gives, with a piece of four bytes.
+fn read(stream: &mut MemoryBytes) -> (ByteRead, [u8; 4]) {
+    let mut piece = [0; 4];
+    let answer = stream.read(&mut piece);
+    (answer, piece)
+}
+
+/// Three bytes, so many at once, are read so.
+fn expect_reads(
+    rt: &(impl Abort + AllocGlobal),
+    step: usize,
+    reads: &[(ByteRead, [u8; 4])],
+) -> Result<(), AllocError> {
+    let mut stream = failing_bytes(rt.alloc(), step.max(1))?;
+    for expected in reads {
+        let found = read(&mut stream);
+        expect_same(rt, &(step, found), &(step, *expected));
+    }
+    Ok(())
+}
+
 #[test]
 fn fails_at_the_reads_that_are_listed(rt: HostRuntime) -> Result<(), AllocError> {
-    for (step, reads) in &READS {
-        let mut stream = failing_bytes(rt.alloc(), *step)?;
-        for expected in reads {
-            let mut piece = [0; 4];
-            let answer = stream.read(&mut piece);
-            assert_eq!(rt; (answer, piece), *expected, "step {step}");
-        }
+    for (step, reads) in READS {
+        expect_reads(&rt, *step, reads)?;
     }
     Ok(())
 }
 
 /// How many bytes are written at once, what each of four writes of three bytes does, and the bytes that were written.
-const WRITES: [(usize, [ByteWrite; 4], &[u8]); 3] = [
+const WRITES: &[(usize, [ByteWrite; 4], &[u8])] = &[
     (
         1,
         [
@@ -102,40 +119,59 @@ const WRITES: [(usize, [ByteWrite; 4], &[u8]); 3] = [
     ),
 ];
 
+/// A stream that takes so many bytes at once, of which the second and the fourth write fail.
+fn failing_out(alloc: Global, step: usize) -> Result<MemoryOut, AllocError>
+    requires { 1 ≤ step }
+{
+    let faults = Vec::from_slice(alloc, &[4, 2])?;
+    Ok(MemoryOut::new(alloc, step, faults))
+}
+
+/// What four writes of three bytes do.
+fn four_writes(stream: &mut MemoryOut) -> [ByteWrite; 4] {
+    [
+        stream.write(&[1, 2, 3]),
+        stream.write(&[1, 2, 3]),
+        stream.write(&[1, 2, 3]),
+        stream.write(&[1, 2, 3]),
+    ]
+}
+
 #[test]
 fn a_write_that_fails_keeps_the_bytes_before(rt: HostRuntime) -> Result<(), AllocError> {
-    for (step, answers, written) in &WRITES {
-        let faults = Vec::from_slice(rt.alloc(), &[4, 2])?;
-        let mut stream = MemoryOut::new(rt.alloc(), *step, faults);
-        let found = [
-            stream.write(&[1, 2, 3]),
-            stream.write(&[1, 2, 3]),
-            stream.write(&[1, 2, 3]),
-            stream.write(&[1, 2, 3]),
-        ];
-        let left = (found, stream.bytes(), stream.starved());
-        assert_eq!(rt; left, (*answers, *written, 0), "step {step}");
+    for (step, answers, written) in WRITES {
+        let mut stream = failing_out(rt.alloc(), (*step).max(1))?;
+        let found = four_writes(&mut stream);
+        expect_same(&rt, &(*step, found), &(*step, *answers));
+        expect_same(&rt, &(stream.bytes(), stream.starved()), &(*written, 0));
     }
     Ok(())
 }
 
-#[test]
+/// Sends a frame and a note.
 #[tactic(auto, unfolding(fuse_wire::specs::Numbers::number))]
-fn keeps_frames_and_notes(rt: HostRuntime) {
-    let mut sink = MemorySink::new(rt.alloc(), Vec::new(rt.alloc()));
+fn frame_and_note(sink: &mut MemorySink) -> (Sending, Noting) {
     let header = [18, 0, 0, 0, 1, 1, 1, 1, 1, 1, 1, 1, 1, 1, 1, 1];
-    let answers = (sink.send(&header, &[7, 8]), sink.note(RequestId(3), 4));
-    assert_eq!(rt; answers, (Sending::Sent, Noting::Sent));
-    assert_eq!(rt;
-        (sink.notes(), sink.starved()),
-        ([(RequestId(3), 4)].as_slice(), 0)
-    );
-    let expected = [18, 0, 0, 0, 1, 1, 1, 1, 1, 1, 1, 1, 1, 1, 1, 1, 7, 8];
-    let frame = match sink.frames() {
+    (sink.send(&header, &[7, 8]), sink.note(RequestId(3), 4))
+}
+
+/// The one frame that the sink took. Else none.
+fn one_frame(sink: &MemorySink) -> &[u8] {
+    match sink.frames() {
         [frame] => frame.as_slice(),
         _ => &[],
-    };
-    assert_eq!(rt; frame, expected.as_slice());
+    }
+}
+
+#[test]
+fn keeps_frames_and_notes(rt: HostRuntime) {
+    let mut sink = MemorySink::new(rt.alloc(), Vec::new(rt.alloc()));
+    let answers = frame_and_note(&mut sink);
+    expect_same(&rt, &answers, &(Sending::Sent, Noting::Sent));
+    let notes = [(RequestId(3), 4)];
+    expect_same(&rt, &(sink.notes(), sink.starved()), &(notes.as_slice(), 0));
+    let expected = [18, 0, 0, 0, 1, 1, 1, 1, 1, 1, 1, 1, 1, 1, 1, 1, 7, 8];
+    expect_same(&rt, &one_frame(&sink), &expected.as_slice());
 }
 
 /// What a note and a send after it are answered.
@@ -145,18 +181,33 @@ const FAILED: (Noting, Sending) = (Noting::Sent, Sending::Failed);
 
 const ABSENT: (Noting, Sending) = (Noting::Sent, Sending::Absent);
 
+/// Each of these frames ends with its byte.
+fn expect_last(rt: &impl Abort, frames: &[Items<u8>], bytes: &[u8]) {
+    for (frame, byte) in frames.iter().zip(bytes) {
+        expect_same(rt, &frame.as_slice().last(), &Some(byte));
+    }
+}
+
 /// A sink took three notes, and a frame for each of these bytes, which ends with it.
 fn expect_taken(rt: &impl Abort, sink: &MemorySink, taken: &[u8]) {
     let kept = (sink.frames().len(), sink.notes().len(), sink.starved());
-    assert_eq!(rt; kept, (taken.len(), 3, 0));
-    for (frame, byte) in sink.frames().iter().zip(taken) {
-        assert_eq!(rt; frame.as_slice().last(), Some(byte));
-    }
+    expect_same(rt, &kept, &(taken.len(), 3, 0));
+    expect_last(rt, sink.frames(), taken);
+}
+
+/// How three sends of one payload byte each are answered, with a note before each.
+#[tactic(auto, unfolding(fuse_wire::specs::Numbers::number))]
+fn three_sends(sink: &mut MemorySink) -> [(Noting, Sending); 3] {
+    let header = [17, 0, 0, 0, 1, 1, 1, 1, 1, 1, 1, 1, 1, 1, 1, 1];
+    [
+        (sink.note(RequestId(9), 1), sink.send(&header, &[0])),
+        (sink.note(RequestId(9), 1), sink.send(&header, &[1])),
+        (sink.note(RequestId(9), 1), sink.send(&header, &[2])),
+    ]
 }
 
 /// Three sends of one payload byte each are answered so, with a note before each, where these fail; the bytes that were
 /// taken are these.
-#[tactic(auto, unfolding(fuse_wire::specs::Numbers::number))]
 fn expect_answers(
     rt: &impl Abort,
     alloc: Global,
@@ -169,13 +220,7 @@ fn expect_answers(
 {
     let faults = Vec::from_slice(alloc, faults)?;
     let mut sink = MemorySink::new(alloc, faults);
-    let header = [17, 0, 0, 0, 1, 1, 1, 1, 1, 1, 1, 1, 1, 1, 1, 1];
-    let found = [
-        (sink.note(RequestId(9), 1), sink.send(&header, &[0])),
-        (sink.note(RequestId(9), 1), sink.send(&header, &[1])),
-        (sink.note(RequestId(9), 1), sink.send(&header, &[2])),
-    ];
-    assert_eq!(rt; found, answers);
+    expect_same(rt, &three_sends(&mut sink), &answers);
     expect_taken(rt, &sink, taken);
     Ok(())
 }
@@ -203,38 +248,41 @@ fn answers_as_the_list_says(rt: HostRuntime) -> Result<(), AllocError> {
     )
 }
 
-#[test]
+/// Sends a frame, a note and a frame without a payload, and says whether the stream is broken then.
 #[tactic(auto, unfolding(fuse_wire::specs::Numbers::number))]
+fn two_frames(sink: &mut StreamSink<MemoryOut>) -> (Sending, Noting, Sending, bool) {
+    let long = [18, 0, 0, 0, 1, 1, 1, 1, 1, 1, 1, 1, 1, 1, 1, 1];
+    let bare = [16, 0, 0, 0, 2, 2, 2, 2, 2, 2, 2, 2, 2, 2, 2, 2];
+    (
+        sink.send(&long, &[7, 8]),
+        sink.note(RequestId(3), 4),
+        sink.send(&bare, &[]),
+        sink.broken(),
+    )
+}
+
+#[test]
 fn writes_frames_joined(rt: HostRuntime) {
     for step in [1, 1000] {
         let out = MemoryOut::new(rt.alloc(), step, Vec::new(rt.alloc()));
         let mut sink = StreamSink::new(out);
-        let long = [18, 0, 0, 0, 1, 1, 1, 1, 1, 1, 1, 1, 1, 1, 1, 1];
-        let bare = [16, 0, 0, 0, 2, 2, 2, 2, 2, 2, 2, 2, 2, 2, 2, 2];
-        let answers = (
-            sink.send(&long, &[7, 8]),
-            sink.note(RequestId(3), 4),
-            sink.send(&bare, &[]),
-            sink.broken(),
-        );
-        assert_eq!(rt;
-            answers,
-            (Sending::Sent, Noting::Sent, Sending::Sent, false)
+        let answers = two_frames(&mut sink);
+        expect_same(
+            &rt,
+            &answers,
+            &(Sending::Sent, Noting::Sent, Sending::Sent, false),
         );
         let expected = [
             18, 0, 0, 0, 1, 1, 1, 1, 1, 1, 1, 1, 1, 1, 1, 1, 7, 8, 16, 0, 0, 0, 2, 2, 2, 2, 2, 2,
             2, 2, 2, 2, 2, 2,
         ];
-        assert_eq!(rt;
-            sink.into_inner().bytes(),
-            expected.as_slice(),
-            "step {step}"
-        );
+        let found = sink.into_inner();
+        expect_same(&rt, &(step, found.bytes()), &(step, expected.as_slice()));
     }
 }
 
 /// What stands on the stream where all of three frames were written.
-const FRAMES: [u8; 52] = [
+const FRAMES: &[u8] = &[
     18, 0, 0, 0, 1, 1, 1, 1, 1, 1, 1, 1, 1, 1, 1, 1, 7, 8, 16, 0, 0, 0, 2, 2, 2, 2, 2, 2, 2, 2, 2,
     2, 2, 2, 18, 0, 0, 0, 1, 1, 1, 1, 1, 1, 1, 1, 1, 1, 1, 1, 9, 10,
 ];
@@ -248,30 +296,32 @@ fn sent(end: usize, written: usize) -> Sending {
     }
 }
 
-/// Sends the three frames over a stream that takes so many bytes before a write fails: the frames that end there
-/// were sent, each later send is refused, and just these bytes stand on the stream.
+/// Sends the three frames, and says how each is answered.
 #[tactic(auto, unfolding(fuse_wire::specs::Numbers::number))]
-fn expect_written(rt: &impl Abort, out: MemoryOut, written: usize) {
-    let mut sink = StreamSink::new(out);
+fn three_frames(sink: &mut StreamSink<MemoryOut>) -> [Sending; 3] {
     let long = [18, 0, 0, 0, 1, 1, 1, 1, 1, 1, 1, 1, 1, 1, 1, 1];
     let bare = [16, 0, 0, 0, 2, 2, 2, 2, 2, 2, 2, 2, 2, 2, 2, 2];
-    let answers = [
+    [
         sink.send(&long, &[7, 8]),
         sink.send(&bare, &[]),
         sink.send(&long, &[9, 10]),
-    ];
+    ]
+}
+
+/// Sends the three frames over a stream that takes so many bytes before a write fails: the frames that end there
+/// were sent, each later send is refused, and just these bytes stand on the stream.
+fn expect_written(rt: &impl Abort, out: MemoryOut, written: usize) {
+    let mut sink = StreamSink::new(out);
+    let answers = three_frames(&mut sink);
     let expected = [sent(18, written), sent(34, written), sent(52, written)];
-    assert_eq!(rt;
-        (answers, sink.broken()),
-        (expected, written < 52),
-        "{written}"
-    );
+    let broken = sink.broken();
     let found = sink.into_inner();
-    assert_eq!(rt; Some(found.bytes()), FRAMES.get(..written));
+    expect_same(rt, &(answers, broken), &(expected, written < 52));
+    expect_same(rt, &Some(found.bytes()), &FRAMES.get(..written));
 }
 
 /// How many bytes are written at once, the write that fails, and how many bytes are written before it.
-const FAULTS: [(usize, u64, usize); 13] = [
+const FAULTS: &[(usize, u64, usize)] = &[
     (1000, 1, 0),
     (1000, 2, 16),
     (1000, 3, 18),
@@ -290,9 +340,9 @@ const FAULTS: [(usize, u64, usize); 13] = [
 #[test]
 fn nothing_is_written_after_a_write_that_failed(rt: HostRuntime) -> Result<(), AllocError> {
     let alloc = rt.alloc();
-    for (step, fault, written) in &FAULTS {
+    for (step, fault, written) in FAULTS {
         let faults = Vec::from_slice(alloc, &[*fault])?;
-        expect_written(&rt, MemoryOut::new(alloc, *step, faults), *written);
+        expect_written(&rt, MemoryOut::new(alloc, (*step).max(1), faults), *written);
     }
     for written in 0..=52 {
         let faults = Vec::from_slice(alloc, &[written as u64 + 1])?;
@@ -307,9 +357,9 @@ fn reads_a_slice(rt: HostRuntime) {
     let mut source = StdSource::new(bytes);
     let mut piece = [0; 2];
     let first = (source.read(&mut piece), piece);
-    assert_eq!(rt; first, (ByteRead::Got(2), [1, 2]));
+    expect_same(&rt, &first, &(ByteRead::Got(2), [1, 2]));
     let second = (source.read(&mut piece), piece[0], source.read(&mut piece));
-    assert_eq!(rt; second, (ByteRead::Got(1), 3, ByteRead::End));
+    expect_same(&rt, &second, &(ByteRead::Got(1), 3, ByteRead::End));
 }
 
 /// A reader whose first read is interrupted, and that gives a byte at each later one.
@@ -337,7 +387,7 @@ fn a_read_that_fails_is_not_tried_again(rt: HostRuntime) {
     let mut source = StdSource::new(Interrupted { before: false });
     let mut piece = [0; 2];
     let found = (source.read(&mut piece), source.read(&mut piece), piece);
-    assert_eq!(rt; found, (ByteRead::Failed, ByteRead::Got(1), [7, 0]));
+    expect_same(&rt, &found, &(ByteRead::Failed, ByteRead::Got(1), [7, 0]));
 }
 
 /// A writer that takes all and can't flush it.
@@ -358,7 +408,7 @@ impl Write for Unflushed {
 fn fails_where_the_flush_fails(rt: HostRuntime) {
     let mut sink = StdSink::new(Unflushed);
     let answers = [sink.write(&[1, 2]), sink.write(&[3])];
-    assert_eq!(rt; answers, [ByteWrite::Failed; 2]);
+    expect_same(&rt, &answers, &[ByteWrite::Failed; 2]);
 }
 
 #[test]
@@ -366,13 +416,13 @@ fn writes_to_a_vector(rt: HostRuntime) {
     let mut bytes = Vec::new(rt.alloc());
     let mut sink = StdSink::new(&mut bytes);
     let answers = [sink.write(&[1, 2]), sink.write(&[3])];
-    assert_eq!(rt; answers, [ByteWrite::Wrote(2), ByteWrite::Wrote(1)]);
-    assert_eq!(rt; bytes.as_slice(), [1, 2, 3].as_slice());
+    expect_same(&rt, &answers, &[ByteWrite::Wrote(2), ByteWrite::Wrote(1)]);
+    expect_same(&rt, &bytes.as_slice(), &[1, 2, 3].as_slice());
 }
 
 #[test]
 fn fails_where_nothing_is_taken(rt: HostRuntime) {
     let mut sink = StdSink::new(Cursor::new([0; 2]));
     let answers = [sink.write(&[1, 2, 3]), sink.write(&[3])];
-    assert_eq!(rt; answers, [ByteWrite::Wrote(2), ByteWrite::Failed]);
+    expect_same(&rt, &answers, &[ByteWrite::Wrote(2), ByteWrite::Failed]);
 }

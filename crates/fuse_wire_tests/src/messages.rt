@@ -2,6 +2,7 @@
 ghost use Rattle.std.specs.Prelude.{◌≡◌, length};
 ghost use Rattle.fuse_wire.specs.declared.consts.TheConstants.{BUFFER_SIZE};
 
+use crate::asserts::expect_same;
 use fuse_wire::Received::{Failed, Gone, Message, Retry};
 use fuse_wire::{
     Items, MemoryBytes, MemorySource, Received, Source, StreamSource, Turn, receive_buffer,
@@ -12,7 +13,7 @@ use std::test::Fail;
 
 /// The length field of each message, and how many bytes of it there are: one is shorter than a header says that it is,
 /// one longer than the others, and the last ends where the stream does.
-const MESSAGES: [(u32, usize); 4] = [(48, 48), (39, 40), (1000, 1000), (64, 50)];
+const MESSAGES: &[(u32, usize)] = &[(48, 48), (39, 40), (1000, 1000), (64, 50)];
 
 /// The bytes of one message.
 fn message(alloc: Global, field: u32, size: usize) -> Result<Vec<u8>, AllocError> {
@@ -28,9 +29,19 @@ fn message(alloc: Global, field: u32, size: usize) -> Result<Vec<u8>, AllocError
 fn messages(alloc: Global) -> Result<Vec<Vec<u8>>, AllocError> {
     let mut messages = Vec::new(alloc);
     for (field, size) in MESSAGES {
-        messages.push(message(alloc, field, size)?)?;
+        messages.push(message(alloc, *field, *size)?)?;
     }
     Ok(messages)
+}
+
+/// The source gives this message.
+fn expect_message<S: Source>(rt: &impl Abort, source: &mut S, buffer: &mut [u8], message: &[u8])
+    requires { length buffer.old ≡ BUFFER_SIZE }
+    ensures { length buffer.new ≡ BUFFER_SIZE }
+{
+    let answer = source.receive(buffer);
+    expect_same(rt, &answer, &Message(message.len()));
+    expect_same(rt, &buffer.get(..message.len()), &Some(message));
 }
 
 /// The source gives these messages, and then no more.
@@ -43,11 +54,36 @@ fn expect_messages<S: Source>(
     requires { length buffer.old ≡ BUFFER_SIZE }
 {
     for message in messages {
-        let answer = source.receive(buffer);
-        let found = (answer, buffer.get(..message.len()));
-        assert_eq!(rt; found, (Message(message.len()), Some(message.as_slice())));
+        expect_message(rt, source, buffer, message);
     }
-    assert_eq!(rt; source.receive(buffer), Gone);
+    expect_same(rt, &source.receive(buffer), &Gone);
+}
+
+/// The bytes of the messages, joined.
+fn joined(alloc: Global, messages: &[Vec<u8>]) -> Result<Vec<u8>, AllocError> {
+    let mut bytes = Vec::new(alloc);
+    for message in messages {
+        bytes.extend_from_slice(message)?;
+    }
+    Ok(bytes)
+}
+
+/// These bytes, so many at a time, are cut into these messages.
+fn expect_cut(
+    rt: &impl Abort,
+    alloc: Global,
+    step: usize,
+    buffer: &mut [u8],
+    messages: &[Vec<u8>],
+) -> Result<(), AllocError>
+    requires { length buffer.old ≡ BUFFER_SIZE }
+    ensures { length buffer.new ≡ BUFFER_SIZE }
+{
+    let stream = MemoryBytes::new(joined(alloc, messages)?, step.max(1), Vec::new(alloc));
+    let mut source = StreamSource::new(stream);
+    expect_messages(rt, &mut source, buffer, messages);
+    drop(source.into_inner());
+    Ok(())
 }
 
 #[test]
@@ -57,34 +93,32 @@ fn a_stream_is_cut_by_its_length_fields(rt: HostRuntime) -> Result<(), Fail> {
     let mut room = receive_buffer(alloc)?;
     let buffer = room.as_mut_slice();
     for step in [1, 7, 1000] {
-        let mut bytes = Vec::new(alloc);
-        for message in &messages {
-            bytes.extend_from_slice(message)?;
-        }
-        let stream = MemoryBytes::new(bytes, step, Vec::new(alloc));
-        let mut source = StreamSource::new(stream);
-        expect_messages(&rt, &mut source, buffer, &messages);
-        source.into_inner();
+        expect_cut(&rt, alloc, step, buffer, &messages)?;
     }
     Ok(())
 }
 
-#[test]
-fn memory_gives_its_turns(rt: HostRuntime) -> Result<(), Fail> {
-    let alloc = rt.alloc();
-    let messages = messages(alloc)?;
+/// A source of these messages.
+fn source_of(alloc: Global, messages: &[Vec<u8>]) -> Result<MemorySource, AllocError> {
     let mut turns = Vec::new(alloc);
-    for message in &messages {
+    for message in messages {
         turns.push(Turn::Message(Items::from_vec(message.clone()?)))?;
     }
-    let mut buffer = receive_buffer(alloc)?;
-    expect_messages(&rt, &mut MemorySource::new(turns), &mut buffer, &messages);
+    Ok(MemorySource::new(turns))
+}
+
+#[test]
+fn memory_gives_its_turns(rt: HostRuntime) -> Result<(), Fail> {
+    let messages = messages(rt.alloc())?;
+    let mut source = source_of(rt.alloc(), &messages)?;
+    let mut buffer = receive_buffer(rt.alloc())?;
+    expect_messages(&rt, &mut source, &mut buffer, &messages);
     Ok(())
 }
 
 /// What each turn of a source in memory gives: a Retry before a message changes nothing, and a Fail takes no message.
 /// After the last turn there is no more.
-const ANSWERS: [&[Received]; 6] = [
+const ANSWERS: &[&[Received]] = &[
     &[Retry, Message(48), Retry, Message(40), Retry, Gone, Gone],
     &[Message(48), Retry, Failed, Gone, Gone],
     &[Failed, Gone, Gone],
@@ -117,10 +151,27 @@ fn expect_answer(
 ) -> Result<(), AllocError>
     requires { length buffer.old ≡ BUFFER_SIZE }
 {
-    assert_eq!(rt; source.receive(buffer), answer);
+    expect_same(rt, &source.receive(buffer), &answer);
     if let Message(size) = answer {
         let message = message(alloc, 7, size)?;
-        assert_eq!(rt; buffer.get(..size), Some(message.as_slice()));
+        expect_same(rt, &buffer.get(..size), &Some(message.as_slice()));
+    }
+    Ok(())
+}
+
+/// A source in memory gives these answers.
+fn expect_answers(
+    rt: &impl Abort,
+    alloc: Global,
+    buffer: &mut [u8],
+    answers: &[Received],
+) -> Result<(), AllocError>
+    requires { length buffer.old ≡ BUFFER_SIZE }
+    ensures { length buffer.new ≡ BUFFER_SIZE }
+{
+    let mut source = MemorySource::new(turns(alloc, answers)?);
+    for answer in answers {
+        expect_answer(rt, alloc, &mut source, buffer, *answer)?;
     }
     Ok(())
 }
@@ -130,21 +181,18 @@ fn turns_are_answered_in_order(rt: HostRuntime) -> Result<(), Fail> {
     let alloc = rt.alloc();
     let mut room = receive_buffer(alloc)?;
     let buffer = room.as_mut_slice();
-    for answers in &ANSWERS {
-        let mut source = MemorySource::new(turns(alloc, answers)?);
-        for answer in *answers {
-            expect_answer(&rt, alloc, &mut source, buffer, *answer)?;
-        }
+    for answers in ANSWERS {
+        expect_answers(&rt, alloc, buffer, answers)?;
     }
     Ok(())
 }
 
 /// What a stream of one message of 48 bytes gives, where it is read in three calls and one of these fails.
-const FAILING_READS: [(u64, [Received; 3]); 4] = [
-    (1, [Failed, Message(48), Gone]),
-    (2, [Failed, Message(8), Gone]),
-    (3, [Message(48), Failed, Gone]),
-    (4, [Message(48), Gone, Failed]),
+const FAILING_READS: &[(u64, &[Received])] = &[
+    (1, &[Failed, Message(48), Gone]),
+    (2, &[Failed, Message(8), Gone]),
+    (3, &[Message(48), Failed, Gone]),
+    (4, &[Message(48), Gone, Failed]),
 ];
 
 /// One message of 48 bytes, of which this read fails.
@@ -153,20 +201,29 @@ fn failing_stream(alloc: Global, call: u64) -> Result<MemoryBytes, AllocError> {
     Ok(MemoryBytes::new(message(alloc, 48, 48)?, 1000, faults))
 }
 
+/// What three calls of a source of one message give, of which this read fails.
+fn three_answers(alloc: Global, call: u64, buffer: &mut [u8]) -> Result<[Received; 3], AllocError>
+    requires { length buffer.old ≡ BUFFER_SIZE }
+    ensures { length buffer.new ≡ BUFFER_SIZE }
+{
+    let mut source = StreamSource::new(failing_stream(alloc, call)?);
+    let answers = [
+        source.receive(buffer),
+        source.receive(buffer),
+        source.receive(buffer),
+    ];
+    drop(source.into_inner());
+    Ok(answers)
+}
+
 #[test]
 fn a_read_that_fails_is_a_fault_of_the_source(rt: HostRuntime) -> Result<(), Fail> {
     let alloc = rt.alloc();
     let mut room = receive_buffer(alloc)?;
     let buffer = room.as_mut_slice();
-    for (call, answers) in &FAILING_READS {
-        let mut source = StreamSource::new(failing_stream(alloc, *call)?);
-        let found = [
-            source.receive(buffer),
-            source.receive(buffer),
-            source.receive(buffer),
-        ];
-        assert_eq!(rt; found, *answers, "call {call}");
-        source.into_inner();
+    for (call, answers) in FAILING_READS {
+        let found = three_answers(alloc, *call, buffer)?;
+        expect_same(&rt, &(*call, found.as_slice()), &(*call, *answers));
     }
     Ok(())
 }

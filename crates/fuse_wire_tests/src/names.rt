@@ -1,157 +1,189 @@
 //! Errors and flags: the names and values of `errno.h`, `fuse.h`, `poll(2)`, `renameat2(2)` and `access(2)`.
-use bitflags::Flags;
+use crate::asserts::expect_same;
+use bitflags::{Flag, Flags};
 use fuse_wire::{
     AccessFlags, BsdFileFlags, CopyFileRangeFlags, CuseInitFlags, Errno, FattrFlags, FopenFlags,
     FsyncFlags, GetattrFlags, InitFlags, IoctlFlags, PollEvents, PollFlags, ReadFlags,
     ReleaseFlags, RenameFlags, WriteFlags,
 };
-use std::alloc::AllocError;
-use std::fmt::Debug;
+use std::alloc::{AllocError, Global};
 use std::process::Abort;
 
-// A row for each error: its name, the constant of that name, and the number of Linux.
+// The row at a place of a table: the constant of this name, and the number of Linux. A match costs less to prove than an
+// array of these constants.
 macro_rules! errors {
-    ($($name:ident $number:literal,)*) => {
-        [$((stringify!($name), Errno::$name, $number)),*]
+    ($row:expr; $($place:literal $name:ident $number:literal,)*) => {
+        match $row {
+            $($place => (Errno::$name, $number),)*
+            _ => (Errno::EIO, 0),
+        }
     };
 }
 
-/// Each constant has the number of its name, and the number gives it.
-fn expect_numbers(rt: &impl Abort, errors: &[(&str, Errno, i32)]) {
-    for (name, errno, number) in errors {
-        let read = Errno::from_i32(*number).code();
-        let found = (*name, errno.code(), i32::from(*errno), read);
-        assert_eq!(rt; found, (*name, *number, *number, *number));
-    }
+/// The constant has the number of its name, and the number gives it.
+fn expect_number(rt: &impl Abort, errno: Errno, number: i32) {
+    let read = Errno::from_i32(number).code();
+    expect_same(rt, &[errno.code(), i32::from(errno), read], &[number; 3]);
+}
+
+/// The errors from 1 to 22.
+fn first_error(place: usize) -> (Errno, i32) {
+    errors![
+        place;
+        0 EPERM 1,
+        1 ENOENT 2,
+        2 ESRCH 3,
+        3 EINTR 4,
+        4 EIO 5,
+        5 ENXIO 6,
+        6 E2BIG 7,
+        7 ENOEXEC 8,
+        8 EBADF 9,
+        9 ECHILD 10,
+        10 EAGAIN 11,
+        11 ENOMEM 12,
+        12 EACCES 13,
+        13 EFAULT 14,
+        14 ENOTBLK 15,
+        15 EBUSY 16,
+        16 EEXIST 17,
+        17 EXDEV 18,
+        18 ENODEV 19,
+        19 ENOTDIR 20,
+        20 EISDIR 21,
+        21 EINVAL 22,
+        22 EWOULDBLOCK 11,
+    ]
 }
 
 #[test]
 fn errors_from_1_to_22(rt: HostRuntime) {
-    expect_numbers(
-        &rt,
-        &errors![
-            EPERM 1,
-            ENOENT 2,
-            ESRCH 3,
-            EINTR 4,
-            EIO 5,
-            ENXIO 6,
-            E2BIG 7,
-            ENOEXEC 8,
-            EBADF 9,
-            ECHILD 10,
-            EAGAIN 11,
-            ENOMEM 12,
-            EACCES 13,
-            EFAULT 14,
-            ENOTBLK 15,
-            EBUSY 16,
-            EEXIST 17,
-            EXDEV 18,
-            ENODEV 19,
-            ENOTDIR 20,
-            EISDIR 21,
-            EINVAL 22,
-            EWOULDBLOCK 11,
-        ],
-    );
+    for place in 0..23 {
+        let (errno, number) = first_error(place);
+        expect_number(&rt, errno, number);
+    }
+}
+
+/// The errors from 23 to 67.
+fn second_error(place: usize) -> (Errno, i32) {
+    errors![
+        place;
+        0 ENFILE 23,
+        1 EMFILE 24,
+        2 ENOTTY 25,
+        3 ETXTBSY 26,
+        4 EFBIG 27,
+        5 ENOSPC 28,
+        6 ESPIPE 29,
+        7 EROFS 30,
+        8 EMLINK 31,
+        9 EPIPE 32,
+        10 EDOM 33,
+        11 ERANGE 34,
+        12 EDEADLK 35,
+        13 ENAMETOOLONG 36,
+        14 ENOLCK 37,
+        15 ENOSYS 38,
+        16 ENOTEMPTY 39,
+        17 ELOOP 40,
+        18 ENOMSG 42,
+        19 EIDRM 43,
+        20 ENODATA 61,
+        21 NO_XATTR 61,
+        22 EREMOTE 66,
+        23 ENOLINK 67,
+    ]
 }
 
 #[test]
 fn errors_from_23_to_67(rt: HostRuntime) {
-    expect_numbers(
-        &rt,
-        &errors![
-            ENFILE 23,
-            EMFILE 24,
-            ENOTTY 25,
-            ETXTBSY 26,
-            EFBIG 27,
-            ENOSPC 28,
-            ESPIPE 29,
-            EROFS 30,
-            EMLINK 31,
-            EPIPE 32,
-            EDOM 33,
-            ERANGE 34,
-            EDEADLK 35,
-            ENAMETOOLONG 36,
-            ENOLCK 37,
-            ENOSYS 38,
-            ENOTEMPTY 39,
-            ELOOP 40,
-            ENOMSG 42,
-            EIDRM 43,
-            ENODATA 61,
-            NO_XATTR 61,
-            EREMOTE 66,
-            ENOLINK 67,
-        ],
-    );
+    for place in 0..24 {
+        let (errno, number) = second_error(place);
+        expect_number(&rt, errno, number);
+    }
+}
+
+/// The errors from 71 to 98.
+fn third_error(place: usize) -> (Errno, i32) {
+    errors![
+        place;
+        0 EPROTO 71,
+        1 EMULTIHOP 72,
+        2 EBADMSG 74,
+        3 EOVERFLOW 75,
+        4 EILSEQ 84,
+        5 EUSERS 87,
+        6 ENOTSOCK 88,
+        7 EDESTADDRREQ 89,
+        8 EMSGSIZE 90,
+        9 EPROTOTYPE 91,
+        10 ENOPROTOOPT 92,
+        11 EPROTONOSUPPORT 93,
+        12 ESOCKTNOSUPPORT 94,
+        13 EOPNOTSUPP 95,
+        14 ENOTSUP 95,
+        15 EPFNOSUPPORT 96,
+        16 EAFNOSUPPORT 97,
+        17 EADDRINUSE 98,
+    ]
 }
 
 #[test]
 fn errors_from_71_to_98(rt: HostRuntime) {
-    expect_numbers(
-        &rt,
-        &errors![
-            EPROTO 71,
-            EMULTIHOP 72,
-            EBADMSG 74,
-            EOVERFLOW 75,
-            EILSEQ 84,
-            EUSERS 87,
-            ENOTSOCK 88,
-            EDESTADDRREQ 89,
-            EMSGSIZE 90,
-            EPROTOTYPE 91,
-            ENOPROTOOPT 92,
-            EPROTONOSUPPORT 93,
-            ESOCKTNOSUPPORT 94,
-            EOPNOTSUPP 95,
-            ENOTSUP 95,
-            EPFNOSUPPORT 96,
-            EAFNOSUPPORT 97,
-            EADDRINUSE 98,
-        ],
-    );
+    for place in 0..18 {
+        let (errno, number) = third_error(place);
+        expect_number(&rt, errno, number);
+    }
+}
+
+/// The errors from 99 to 131.
+fn fourth_error(place: usize) -> (Errno, i32) {
+    errors![
+        place;
+        0 EADDRNOTAVAIL 99,
+        1 ENETDOWN 100,
+        2 ENETUNREACH 101,
+        3 ENETRESET 102,
+        4 ECONNABORTED 103,
+        5 ECONNRESET 104,
+        6 ENOBUFS 105,
+        7 EISCONN 106,
+        8 ENOTCONN 107,
+        9 ESHUTDOWN 108,
+        10 ETOOMANYREFS 109,
+        11 ETIMEDOUT 110,
+        12 ECONNREFUSED 111,
+        13 EHOSTDOWN 112,
+        14 EHOSTUNREACH 113,
+        15 EALREADY 114,
+        16 EINPROGRESS 115,
+        17 ESTALE 116,
+        18 EDQUOT 122,
+        19 ECANCELED 125,
+        20 EOWNERDEAD 130,
+        21 ENOTRECOVERABLE 131,
+    ]
 }
 
 #[test]
 fn errors_from_99_to_131(rt: HostRuntime) {
-    expect_numbers(
-        &rt,
-        &errors![
-            EADDRNOTAVAIL 99,
-            ENETDOWN 100,
-            ENETUNREACH 101,
-            ENETRESET 102,
-            ECONNABORTED 103,
-            ECONNRESET 104,
-            ENOBUFS 105,
-            EISCONN 106,
-            ENOTCONN 107,
-            ESHUTDOWN 108,
-            ETOOMANYREFS 109,
-            ETIMEDOUT 110,
-            ECONNREFUSED 111,
-            EHOSTDOWN 112,
-            EHOSTUNREACH 113,
-            EALREADY 114,
-            EINPROGRESS 115,
-            ESTALE 116,
-            EDQUOT 122,
-            ECANCELED 125,
-            EOWNERDEAD 130,
-            ENOTRECOVERABLE 131,
-        ],
-    );
+    for place in 0..22 {
+        let (errno, number) = fourth_error(place);
+        expect_number(&rt, errno, number);
+    }
 }
+
+/// Numbers that no error has.
+const NO_ERRORS: &[i32] = &[0, -1, -2, -5, i32::MIN];
 
 #[test]
 fn what_is_not_positive_is_eio(rt: HostRuntime) {
-    for number in [0, -1, -2, -5, i32::MIN] {
-        assert_eq!(rt; Errno::from_i32(number).code(), 5, "of {number}");
+    for number in NO_ERRORS {
+        expect_same(
+            &rt,
+            &(*number, Errno::from_i32(*number).code()),
+            &(*number, 5),
+        );
     }
 }
 
@@ -162,14 +194,14 @@ macro_rules! flags {
     };
 }
 
-const RENAME_FLAGS: [(&str, RenameFlags, u32); 3] = flags![
+const RENAME_FLAGS: &[(&str, RenameFlags, u32)] = &flags![
     RenameFlags:
     RENAME_NOREPLACE 0,
     RENAME_EXCHANGE 1,
     RENAME_WHITEOUT 2,
 ];
 
-const POLL_EVENTS: [(&str, PollEvents, u32); 10] = flags![
+const POLL_EVENTS: &[(&str, PollEvents, u32)] = &flags![
     PollEvents:
     POLLIN 0,
     POLLPRI 1,
@@ -183,7 +215,7 @@ const POLL_EVENTS: [(&str, PollEvents, u32); 10] = flags![
     POLLWRBAND 9,
 ];
 
-const FOPEN_FLAGS: [(&str, FopenFlags, u32); 8] = flags![
+const FOPEN_FLAGS: &[(&str, FopenFlags, u32)] = &flags![
     FopenFlags:
     FOPEN_DIRECT_IO 0,
     FOPEN_KEEP_CACHE 1,
@@ -195,12 +227,12 @@ const FOPEN_FLAGS: [(&str, FopenFlags, u32); 8] = flags![
     FOPEN_PASSTHROUGH 7,
 ];
 
-const FSYNC_FLAGS: [(&str, FsyncFlags, u32); 1] = flags![
+const FSYNC_FLAGS: &[(&str, FsyncFlags, u32)] = &flags![
     FsyncFlags:
     FUSE_FSYNC_FDATASYNC 0,
 ];
 
-const IOCTL_FLAGS: [(&str, IoctlFlags, u32); 6] = flags![
+const IOCTL_FLAGS: &[(&str, IoctlFlags, u32)] = &flags![
     IoctlFlags:
     FUSE_IOCTL_COMPAT 0,
     FUSE_IOCTL_UNRESTRICTED 1,
@@ -210,40 +242,40 @@ const IOCTL_FLAGS: [(&str, IoctlFlags, u32); 6] = flags![
     FUSE_IOCTL_COMPAT_X32 5,
 ];
 
-const POLL_FLAGS: [(&str, PollFlags, u32); 1] = flags![
+const POLL_FLAGS: &[(&str, PollFlags, u32)] = &flags![
     PollFlags:
     FUSE_POLL_SCHEDULE_NOTIFY 0,
 ];
 
-const WRITE_FLAGS: [(&str, WriteFlags, u32); 3] = flags![
+const WRITE_FLAGS: &[(&str, WriteFlags, u32)] = &flags![
     WriteFlags:
     FUSE_WRITE_CACHE 0,
     FUSE_WRITE_LOCKOWNER 1,
     FUSE_WRITE_KILL_SUIDGID 2,
 ];
 
-const READ_FLAGS: [(&str, ReadFlags, u32); 1] = flags![
+const READ_FLAGS: &[(&str, ReadFlags, u32)] = &flags![
     ReadFlags:
     FUSE_READ_LOCKOWNER 1,
 ];
 
-const GETATTR_FLAGS: [(&str, GetattrFlags, u32); 1] = flags![
+const GETATTR_FLAGS: &[(&str, GetattrFlags, u32)] = &flags![
     GetattrFlags:
     FUSE_GETATTR_FH 0,
 ];
 
-const CUSE_INIT_FLAGS: [(&str, CuseInitFlags, u32); 1] = flags![
+const CUSE_INIT_FLAGS: &[(&str, CuseInitFlags, u32)] = &flags![
     CuseInitFlags:
     CUSE_UNRESTRICTED_IOCTL 0,
 ];
 
-const RELEASE_FLAGS: [(&str, ReleaseFlags, u32); 2] = flags![
+const RELEASE_FLAGS: &[(&str, ReleaseFlags, u32)] = &flags![
     ReleaseFlags:
     FUSE_RELEASE_FLUSH 0,
     FUSE_RELEASE_FLOCK_UNLOCK 1,
 ];
 
-const FATTR_FLAGS: [(&str, FattrFlags, u32); 11] = flags![
+const FATTR_FLAGS: &[(&str, FattrFlags, u32)] = &flags![
     FattrFlags:
     FATTR_MODE 0,
     FATTR_UID 1,
@@ -258,7 +290,7 @@ const FATTR_FLAGS: [(&str, FattrFlags, u32); 11] = flags![
     FATTR_CTIME 10,
 ];
 
-const INIT_FLAGS: [(&str, InitFlags, u64); 43] = flags![
+const INIT_FLAGS: &[(&str, InitFlags, u64)] = &flags![
     InitFlags:
     FUSE_ASYNC_READ 0,
     FUSE_POSIX_LOCKS 1,
@@ -305,41 +337,47 @@ const INIT_FLAGS: [(&str, InitFlags, u64); 43] = flags![
     FUSE_REQUEST_TIMEOUT 42,
 ];
 
+/// The same, written once: a constant stands anew in each function that names it.
+fn init_flags() -> &'static [(&'static str, InitFlags, u64)] {
+    INIT_FLAGS
+}
+
+/// Whether a flag of a set has this name, and both it and the constant have these bits.
+fn is_named<F: Flags>(flag: &Flag<F>, row: &(&'static str, F, <F as Flags>::Bits)) -> bool {
+    let (name, constant, bits) = row;
+    flag.name() == *name && flag.value().bits() == *bits && constant.bits() == *bits
+}
+
 /// The set has just these flags, in this order, and each constant has the bits of its name.
-fn expect_names<F: Flags>(rt: &impl Abort, rows: &[(&'static str, F, <F as Flags>::Bits)])
-where
-    <F as Flags>::Bits: Debug,
-{
+fn expect_names<F: Flags>(rt: &impl Abort, rows: &[(&'static str, F, <F as Flags>::Bits)]) {
     let flags = F::flags();
     assert_eq!(rt; flags.len(), rows.len());
     for i in 0..rows.len() {
-        let flag = &flags[i];
-        let (name, constant, bits) = &rows[i];
-        let found = (flag.name(), flag.value().bits(), constant.bits());
-        assert_eq!(rt; found, (*name, *bits, *bits));
+        let named = is_named(&flags[i], &rows[i]);
+        expect_same(rt, &(rows[i].0, named), &(rows[i].0, true));
     }
 }
 
 #[test]
 fn flags_have_their_names_and_bits(rt: HostRuntime) {
-    expect_names(&rt, &RENAME_FLAGS);
-    expect_names(&rt, &POLL_EVENTS);
-    expect_names(&rt, &FOPEN_FLAGS);
-    expect_names(&rt, &FSYNC_FLAGS);
-    expect_names(&rt, &IOCTL_FLAGS);
-    expect_names(&rt, &POLL_FLAGS);
-    expect_names(&rt, &WRITE_FLAGS);
-    expect_names(&rt, &READ_FLAGS);
-    expect_names(&rt, &GETATTR_FLAGS);
-    expect_names(&rt, &CUSE_INIT_FLAGS);
-    expect_names(&rt, &RELEASE_FLAGS);
-    expect_names(&rt, &FATTR_FLAGS);
-    expect_names(&rt, &INIT_FLAGS);
+    expect_names(&rt, RENAME_FLAGS);
+    expect_names(&rt, POLL_EVENTS);
+    expect_names(&rt, FOPEN_FLAGS);
+    expect_names(&rt, FSYNC_FLAGS);
+    expect_names(&rt, IOCTL_FLAGS);
+    expect_names(&rt, POLL_FLAGS);
+    expect_names(&rt, WRITE_FLAGS);
+    expect_names(&rt, READ_FLAGS);
+    expect_names(&rt, GETATTR_FLAGS);
+    expect_names(&rt, CUSE_INIT_FLAGS);
+    expect_names(&rt, RELEASE_FLAGS);
+    expect_names(&rt, FATTR_FLAGS);
+    expect_names(&rt, init_flags());
     expect_names::<BsdFileFlags>(&rt, &[]);
     expect_names::<CopyFileRangeFlags>(&rt, &[]);
 }
 
-const ACCESS_FLAGS: [(AccessFlags, i32); 4] = [
+const ACCESS_FLAGS: &[(AccessFlags, i32)] = &[
     (AccessFlags::F_OK, 0),
     (AccessFlags::X_OK, 1),
     (AccessFlags::W_OK, 2),
@@ -348,77 +386,113 @@ const ACCESS_FLAGS: [(AccessFlags, i32); 4] = [
 
 #[test]
 fn what_access_asks_has_the_numbers_of_linux(rt: HostRuntime) {
-    for (flag, value) in &ACCESS_FLAGS {
-        assert_eq!(rt; flag.bits(), *value);
+    for (flag, value) in ACCESS_FLAGS {
+        expect_same(&rt, &flag.bits(), value);
     }
 }
 
 #[test]
 fn errors_of_other_numbers_are_others(rt: HostRuntime) {
-    assert!(rt; Errno::EIO != Errno::EINVAL && Errno::EAGAIN == Errno::EWOULDBLOCK);
-    assert!(rt; PollEvents::POLLIN != PollEvents::POLLPRI);
+    let related = [
+        Errno::EIO != Errno::EINVAL,
+        Errno::EAGAIN == Errno::EWOULDBLOCK,
+        PollEvents::POLLIN != PollEvents::POLLPRI,
+    ];
+    expect_same(&rt, &related, &[true; 3]);
 }
 
-#[test]
-fn texts_are_decimal(rt: HostRuntime) -> Result<(), AllocError> {
-    let found = format!(in rt.alloc();
-        "{} {} {} {} {} {} {} {}",
+/// The texts of some flags.
+fn some_texts(alloc: Global) -> Result<String, AllocError> {
+    format!(in alloc;
+        "{} {} {} {}",
         AccessFlags::from_bits_retain(-2),
         PollEvents::POLLWRBAND,
         RenameFlags::all(),
-        CuseInitFlags::all(),
+        CuseInitFlags::all()
+    )
+}
+
+/// The texts of other flags.
+fn other_texts(alloc: Global) -> Result<String, AllocError> {
+    format!(in alloc;
+        "{} {} {} {}",
         FsyncFlags::empty(),
         IoctlFlags::FUSE_IOCTL_32BIT,
         PollFlags::from_bits_retain(4294967295),
         ReleaseFlags::all()
-    )?;
-    assert_eq!(rt; found.as_str(), "-2 512 7 1 0 8 4294967295 3");
+    )
+}
+
+#[test]
+fn texts_are_decimal(rt: HostRuntime) -> Result<(), AllocError> {
+    let some = some_texts(rt.alloc())?;
+    expect_same(&rt, &some.as_str(), &"-2 512 7 1");
+    let other = other_texts(rt.alloc())?;
+    expect_same(&rt, &other.as_str(), &"0 8 4294967295 3");
     Ok(())
+}
+
+/// A bit without a name, and that of the size.
+fn odd() -> FattrFlags {
+    FattrFlags::from_bits_retain(0x1008)
+}
+
+/// What is read from these bits of `valid`: by all, by those that have names, and from the size's alone.
+fn read_fattr_flags() -> [Option<FattrFlags>; 3] {
+    [
+        FattrFlags::from_bits(0x1008),
+        FattrFlags::from_bits(0x8),
+        Some(FattrFlags::from_bits_truncate(0x1008)),
+    ]
 }
 
 #[test]
 fn sets_go_bit_by_bit(rt: HostRuntime) {
     let size = FattrFlags::FATTR_SIZE;
-    let odd = FattrFlags::from_bits_retain(0x1008);
     let bits = [
         FattrFlags::all().bits(),
-        odd.complement().bits(),
-        odd.difference(size).bits(),
+        odd().complement().bits(),
+        odd().difference(size).bits(),
         ReadFlags::all().bits(),
     ];
-    assert_eq!(rt; bits, [0x7ff, 0x7f7, 0x1000, 2]);
-    let read = [
-        FattrFlags::from_bits(0x1008),
-        FattrFlags::from_bits(0x8),
-        Some(FattrFlags::from_bits_truncate(0x1008)),
-    ];
-    assert_eq!(rt; read, [None, Some(size), Some(size)]);
+    expect_same(&rt, &bits, &[0x7ff, 0x7f7, 0x1000, 2]);
+    expect_same(&rt, &read_fattr_flags(), &[None, Some(size), Some(size)]);
+}
+
+#[test]
+fn sets_without_names_hold_nothing(rt: HostRuntime) {
     let none = CopyFileRangeFlags::from_bits_retain(5).complement();
     let nothing = (none.bits(), BsdFileFlags::from_bits(1).is_none());
-    assert_eq!(rt; nothing, (0, true));
+    expect_same(&rt, &nothing, &(0, true));
 }
 
 #[test]
 fn sets_hold_their_parts(rt: HostRuntime) {
     let size = FattrFlags::FATTR_SIZE;
-    let odd = FattrFlags::from_bits_retain(0x1008);
     let related = [
-        odd.contains(size),
-        size.contains(odd),
-        size.intersects(odd),
+        odd().contains(size),
+        size.contains(odd()),
+        size.intersects(odd()),
         FattrFlags::from_bits_retain(0x17ff).is_all(),
-        odd.is_all(),
+        odd().is_all(),
         BsdFileFlags::empty().is_all(),
     ];
-    assert_eq!(rt; related, [true, false, true, true, false, true]);
+    expect_same(&rt, &related, &[true, false, true, true, false, true]);
+}
+
+#[test]
+fn a_union_holds_both_parts(rt: HostRuntime) {
     let read = AccessFlags::R_OK;
     let read_write = read.union(AccessFlags::W_OK);
-    assert_eq!(rt; read_write.bits(), 6);
     let held = [
         read_write.contains(read),
         read_write.contains(AccessFlags::empty()),
         read.contains(read_write),
         read_write.contains(AccessFlags::X_OK),
     ];
-    assert_eq!(rt; held, [true, true, false, false]);
+    expect_same(
+        &rt,
+        &(read_write.bits(), held),
+        &(6, [true, true, false, false]),
+    );
 }
