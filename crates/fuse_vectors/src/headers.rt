@@ -1,11 +1,12 @@
 // Messages taken apart: their headers, what they ask, and why some are none.
+use crate::asserts::expect_same;
 use crate::vectors::INIT;
 use bitflags::Flags;
 use fuse_request::{
     AnyRequest, CopyFileRangeFile, FilenameInDir, ForgetList, ForgetOne, GetXAttrSize,
     GetXAttrSizeEnum, Lock, Operation, Request, RequestError,
 };
-use std::alloc::AllocError;
+use std::alloc::{AllocError, Global};
 use std::fmt::{Debug, Display};
 use std::test::Fail;
 
@@ -44,7 +45,7 @@ fn tells_who_asks(rt: HostRuntime) -> Result<(), Fail> {
     let message = INIT;
     let request = AnyRequest::try_from(&message)?;
     let expected = [0xdead_beef_baad_f00d, 0xc001_d00d, 0xc001_cafe, 0xc0de_ba5e];
-    assert_eq!(rt; asker(request.request()), expected);
+    expect_same(&rt, &asker(request.request()), &expected);
     Ok(())
 }
 
@@ -65,45 +66,55 @@ fn offered(message: &[u8]) -> Option<(u32, u32, u32, u64)> {
 fn a_second_word_of_capabilities_counts_with_its_bit(rt: HostRuntime) {
     let mut second_word = INIT;
     second_word[56] = 2;
-    assert_eq!(rt; offered(&second_word), Some((7, 8, 4096, 0)));
+    expect_same(&rt, &offered(&second_word), &Some((7, 8, 4096, 0)));
     second_word[55] = 0x40;
-    assert_eq!(rt; offered(&second_word), Some((7, 8, 4096, 0x2_4000_0000)));
+    let both = Some((7, 8, 4096, 0x2_4000_0000));
+    expect_same(&rt, &offered(&second_word), &both);
 }
+
+/// The lowest byte of the length field, that of the opcode, and why such a message is refused.
+const REFUSED: &[(u8, u8, RequestError)] = &[
+    (39, 26, RequestError::InsufficientData),
+    (104, 7, RequestError::UnknownOperation(7)),
+    (104, 0, RequestError::UnknownOperation(0)),
+    (104, 19, RequestError::UnknownOperation(19)),
+    (104, 48, RequestError::UnknownOperation(48)),
+];
 
 #[test]
 fn refuses_what_is_no_request(rt: HostRuntime) {
-    let cases = [
-        (39, 26, RequestError::InsufficientData),
-        (104, 7, RequestError::UnknownOperation(7)),
-        (104, 0, RequestError::UnknownOperation(0)),
-        (104, 19, RequestError::UnknownOperation(19)),
-        (104, 48, RequestError::UnknownOperation(48)),
-    ];
-    for (counted, opcode, expected) in cases {
+    for &(counted, opcode, expected) in REFUSED {
         let mut message = INIT;
         message[0] = counted;
         message[4] = opcode;
-        assert_eq!(rt; refusal(&message), Some(expected));
+        expect_same(&rt, &refusal(&message), &Some(expected));
     }
+}
+
+/// Why a message is none, and the text of that.
+const TEXTS: &[(RequestError, &str)] = &[
+    (
+        RequestError::ShortReadHeader(20),
+        "Short read of FUSE request header (20 < 40)",
+    ),
+    (
+        RequestError::ShortRead(48, 104),
+        "Short read of FUSE request (48 < 104)",
+    ),
+    (RequestError::UnknownOperation(7), "Unknown FUSE opcode (7)"),
+    (RequestError::InsufficientData, "Insufficient argument data"),
+];
+
+/// The text of an error.
+fn text_of(alloc: Global, error: RequestError) -> Result<String, AllocError> {
+    error.to_string(alloc)
 }
 
 #[test]
 fn says_why_a_message_is_none(rt: HostRuntime) -> Result<(), AllocError> {
-    let alloc = rt.alloc();
-    let cases = [
-        (
-            RequestError::ShortReadHeader(20),
-            "Short read of FUSE request header (20 < 40)",
-        ),
-        (
-            RequestError::ShortRead(48, 104),
-            "Short read of FUSE request (48 < 104)",
-        ),
-        (RequestError::UnknownOperation(7), "Unknown FUSE opcode (7)"),
-        (RequestError::InsufficientData, "Insufficient argument data"),
-    ];
-    for (error, text) in cases {
-        assert_eq!(rt; error.to_string(alloc)?.as_str(), text);
+    for (error, text) in TEXTS {
+        let found = text_of(rt.alloc(), *error)?;
+        expect_same(&rt, &found.as_str(), text);
     }
     Ok(())
 }

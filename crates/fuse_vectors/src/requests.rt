@@ -1,4 +1,5 @@
 // Messages of each opcode: what they decode to, which are cut short, and what their bits say.
+use crate::asserts::expect_same;
 use crate::headers::{header, refusal};
 use bitflags::Flags;
 use fuse_request::{
@@ -9,28 +10,50 @@ use fuse_wire::{Errno, FileHandle, LockOwner};
 use std::alloc::{AllocError, Global};
 use std::process::Abort;
 
+/// Puts a byte at this place of a message, if there is one.
+fn put(message: &mut [u8], place: usize, byte: u8) {
+    if let Some(slot) = message.get_mut(place) {
+        *slot = byte;
+    }
+}
+
+/// The byte at this place of a fixed part, each 4 bytes of which are their number, from 1.
+fn fixed_byte(place: usize) -> u8 {
+    match place % 4 {
+        0 => u8::try_from(place / 4).unwrap_or(0).saturating_add(1),
+        _ => 0,
+    }
+}
+
+/// Puts the header of a message of this opcode about node 9, which counts so many bytes of the body.
+fn put_header(message: &mut [u8; 160], opcode: u16, length: usize) {
+    let [low, high] = opcode.to_le_bytes();
+    let counted = u8::try_from(length.saturating_add(40)).unwrap_or(160);
+    message[..40].copy_from_slice(&[0; 40]);
+    message[0] = counted;
+    message[4] = low;
+    message[5] = high;
+    message[16] = 9;
+}
+
 /// A message of this opcode about node 9: each 4 bytes of its fixed part are their number, from 1, and the tail follows.
 /// The header counts the first bytes of this body. After it stand ones.
 fn message(opcode: u16, fixed: usize, tail: &[u8], length: usize) -> [u8; 160] {
     let mut message = [1; 160];
-    for byte in message.iter_mut().take(40) {
-        *byte = 0;
+    put_header(&mut message, opcode, length);
+    for place in 0..fixed {
+        put(&mut message, place.saturating_add(40), fixed_byte(place));
     }
-    message[0] = u8::try_from(length.saturating_add(40)).unwrap_or(160);
-    let code = opcode.to_le_bytes();
-    message[4] = code[0];
-    message[5] = code[1];
-    message[16] = 9;
-    for (place, byte) in (0..fixed).zip(message.iter_mut().skip(40)) {
-        *byte = match place % 4 {
-            0 => u8::try_from(place / 4).unwrap_or(0).saturating_add(1),
-            _ => 0,
-        };
-    }
-    for (to, from) in message.iter_mut().skip(40).skip(fixed).zip(tail) {
-        *to = *from;
+    let behind = fixed.saturating_add(40);
+    for (place, byte) in tail.iter().enumerate() {
+        put(&mut message, place.saturating_add(behind), *byte);
     }
     message
+}
+
+/// What a message asks.
+fn operation_of(message: &[u8]) -> Option<Operation<'_>> {
+    AnyRequest::try_from(message).ok()?.operation().ok()
 }
 
 /// The first, second and further 8 bytes of a fixed part.
@@ -351,7 +374,9 @@ fn asked(message: &[u8]) -> Option<([u64; 6], (u16, bool))> {
 }
 
 /// Opcode, bytes of the fixed part, the tail, and how many bytes of all this are needed.
-const GOOD: [(u16, usize, &[u8], usize); 46] = [
+type Row = (u16, usize, &'static [u8], usize);
+
+const GOOD: &[Row] = &[
     (1, 0, b"a\0", 2),
     (2, 8, b"", 8),
     (3, 16, b"", 16),
@@ -400,32 +425,54 @@ const GOOD: [(u16, usize, &[u8], usize); 46] = [
     (4096, 64, b"", 64),
 ];
 
+/// The same, written once: a constant stands anew in each function that names it.
+fn good() -> &'static [Row] {
+    GOOD
+}
+
+/// Whether so many bytes of the body of a message are too few.
+fn is_cut(row: &Row, length: usize) -> bool {
+    let found = refusal(&message(row.0, row.1, row.2, length));
+    matches!(found, Some(RequestError::InsufficientData))
+}
+
+/// What the accessors say of a whole message of this opcode.
+fn as_it_stands(opcode: u16) -> Option<([u64; 6], (u16, bool))> {
+    Some(([u64::from(opcode), 0, 9, 0, 0, 0], (opcode, true)))
+}
+
 /// Each part of a message that is shorter than is needed is cut short, and the whole asks what stands in it.
-fn expect_decoded(rt: &impl Abort, row: &(u16, usize, &[u8], usize)) {
+fn expect_decoded(rt: &impl Abort, row: &Row) {
     let (opcode, fixed, tail, needed) = *row;
     let whole = fixed.saturating_add(tail.len()).min(100);
     for length in 0..whole {
-        let found = refusal(&message(opcode, fixed, tail, length));
-        let cut = matches!(found, Some(RequestError::InsufficientData));
-        assert_eq!(rt; cut, length < needed, "{opcode} of {length}");
+        let cut = is_cut(row, length);
+        expect_same(
+            rt,
+            &(opcode, length, cut),
+            &(opcode, length, length < needed),
+        );
     }
     let found = asked(&message(opcode, fixed, tail, whole));
-    let header = [u64::from(opcode), 0, 9, 0, 0, 0];
-    assert_eq!(rt; found, Some((header, (opcode, true))));
+    expect_same(rt, &found, &as_it_stands(opcode));
 }
 
 #[test]
 fn decodes_each_and_refuses_what_is_cut(rt: HostRuntime) {
-    for row in &GOOD {
+    for row in good() {
         expect_decoded(&rt, row);
     }
 }
 
 #[test]
 fn refuses_a_value_of_another_size(rt: HostRuntime) {
-    let cut = Some(RequestError::InsufficientData);
-    assert_eq!(rt; refusal(&message(16, 40, b"hello!", 46)), cut);
-    assert_eq!(rt; refusal(&message(21, 8, b"a\0vw", 12)), cut);
+    let written = refusal(&message(16, 40, b"hello!", 46));
+    let value = refusal(&message(21, 8, b"a\0vw", 12));
+    expect_same(
+        &rt,
+        &[written, value],
+        &[Some(RequestError::InsufficientData); 2],
+    );
 }
 
 /// Where COPY_FILE_RANGE reads and writes, and the node that it writes to.
@@ -496,7 +543,9 @@ fn other_numbers(operation: &Operation<'_>) -> [u64; 3] {
 }
 
 /// Opcode, bytes of the fixed part, the tail, the place and the value of a byte that is changed, and what is said then.
-const CHANGED: [(u16, usize, &[u8], usize, u8, [u64; 3]); 46] = [
+type Change = (u16, usize, &'static [u8], usize, u8, [u64; 3]);
+
+const CHANGED: &[Change] = &[
     (3, 16, b"", 0, 0, [NONE, 0, 0]),
     (3, 16, b"", 0, 1, [SECOND, 0, 0]),
     (3, 16, b"", 0, 2, [NONE, 0, 0]),
@@ -555,21 +604,26 @@ const CHANGED: [(u16, usize, &[u8], usize, u8, [u64; 3]); 46] = [
 /// Two rows of BATCH_FORGET.
 const ROWS: &[u8] = b"\x05\0\0\0\0\0\0\0\x06\0\0\0\0\0\0\0\x07\0\0\0\0\0\0\0\x08\0\0\0\0\0\0\0";
 
+fn changed() -> &'static [Change] {
+    CHANGED
+}
+
 /// What a message says of its bits, with a byte of its body changed.
-fn said(opcode: u16, fixed: usize, tail: &[u8], place: usize, byte: u8) -> Option<[u64; 3]> {
+fn said(change: &Change) -> Option<[u64; 3]> {
+    let (opcode, fixed, tail, place, byte, _) = *change;
     let mut message = message(opcode, fixed, tail, fixed.saturating_add(tail.len()));
-    if let Some(at) = message.iter_mut().skip(40).nth(place) {
+    if let Some(at) = message.get_mut(place.saturating_add(40)) {
         *at = byte;
     }
-    let operation = AnyRequest::try_from(&message).ok()?.operation().ok()?;
-    Some(numbers(&operation))
+    Some(numbers(&operation_of(&message)?))
 }
 
 #[test]
 fn goes_by_the_bits(rt: HostRuntime) {
-    for (opcode, fixed, tail, place, byte, expected) in &CHANGED {
-        let found = said(*opcode, *fixed, tail, *place, *byte);
-        assert_eq!(rt; found, Some(*expected), "{opcode} with {byte} at {place}");
+    for change in changed() {
+        let (opcode, _, _, place, byte, expected) = *change;
+        let at = (opcode, place, byte);
+        expect_same(&rt, &(at, said(change)), &(at, Some(expected)));
     }
 }
 
@@ -587,8 +641,8 @@ fn setattr(valid: u16) -> Option<SetAttr> {
     let bits = valid.to_le_bytes();
     message[40] = bits[0];
     message[41] = bits[1];
-    match AnyRequest::try_from(&message).ok()?.operation() {
-        Ok(Operation::SetAttr(setattr)) => Some(setattr),
+    match operation_of(&message) {
+        Some(Operation::SetAttr(setattr)) => Some(setattr),
         _ => None,
     }
 }
@@ -609,7 +663,7 @@ fn set_fields(valid: u16) -> Option<[bool; 8]> {
 }
 
 /// The field that each bit of `valid` sets, alone and beside another.
-const VALID: [(u16, usize); 17] = [
+const VALID: &[(u16, usize)] = &[
     (0, 8),
     (0x1, 0),
     (0x2, 1),
@@ -629,14 +683,20 @@ const VALID: [(u16, usize); 17] = [
     (0x180, 8),
 ];
 
+/// That this field is set, if there is one, and no other.
+fn one_field(field: usize) -> [bool; 8] {
+    let mut fields = [false; 8];
+    if let Some(set) = fields.get_mut(field) {
+        *set = true;
+    }
+    fields
+}
+
 #[test]
 fn sets_what_valid_says(rt: HostRuntime) {
-    for (valid, field) in &VALID {
-        let mut expected = [false; 8];
-        if let Some(set) = expected.get_mut(*field) {
-            *set = true;
-        }
-        assert_eq!(rt; set_fields(*valid), Some(expected), "of {valid}");
+    for &(valid, field) in VALID {
+        let found = (valid, set_fields(valid));
+        expect_same(&rt, &found, &(valid, Some(one_field(field))));
     }
 }
 
@@ -654,42 +714,47 @@ fn set_values(valid: u16) -> Option<[u64; 5]> {
 
 #[test]
 fn sets_these_values(rt: HostRuntime) {
-    assert_eq!(rt; set_values(0x4f), Some([0o100644, 10, 11, 8, 7]));
+    expect_same(&rt, &set_values(0x4f), &Some([0o100644, 10, 11, 8, 7]));
 }
+
+/// The times that SETATTR sets with these bits of `valid`, as a text.
+fn set_times(alloc: Global, valid: u16) -> Result<String, AllocError> {
+    let times = setattr(valid).map(|set| (set.atime(), set.mtime(), set.ctime()));
+    format!(in alloc; "{times:?}")
+}
+
+/// Bits of `valid`, and the text of the times that they set.
+const TIMES_SET: &[(u16, &str)] = &[
+    (
+        0x430,
+        "Some((Some(SpecificTime(SystemTime(-1200000000))), Some(SpecificTime(SystemTime(1000000005))), Some(SystemTime(3000000000))))",
+    ),
+    (0x1b0, "Some((Some(Now), Some(Now), None))"),
+];
 
 #[test]
 fn sets_these_times(rt: HostRuntime) -> Result<(), AllocError> {
-    let alloc = rt.alloc();
-    let cases = [
-        (
-            0x430,
-            "Some((Some(SpecificTime(SystemTime(-1200000000))), Some(SpecificTime(SystemTime(1000000005))), Some(SystemTime(3000000000))))",
-        ),
-        (0x1b0, "Some((Some(Now), Some(Now), None))"),
-    ];
-    for (valid, expected) in cases {
-        let times = setattr(valid).map(|set| (set.atime(), set.mtime(), set.ctime()));
-        let found = format!(in alloc; "{times:?}")?;
-        assert_eq!(rt; found.as_str(), expected);
+    for (valid, expected) in TIMES_SET {
+        let found = set_times(rt.alloc(), *valid)?;
+        expect_same(&rt, &found.as_str(), expected);
     }
     Ok(())
 }
 
+/// The bytes of this message that its header counts, the others, and whether it asks the same with these and without.
+fn expect_alone(rt: &impl Abort, whole: &[u8], counted: usize, opcode: u16) {
+    let alone = whole.get(..counted).unwrap_or(&[]);
+    let others = whole.get(counted..).unwrap_or(&[]);
+    laws::bytes_after_are_not_read(alone, others);
+    let expected = as_it_stands(opcode);
+    expect_same(rt, &[asked(alone), asked(whole)], &[expected, expected]);
+}
+
 #[test]
 fn reads_nothing_after_the_message(rt: HostRuntime) {
-    let cases: [(u16, usize, &[u8], usize); 3] = [
-        (1, 0, b"a\0", 42),
-        (15, 40, b"", 80),
-        (41, 0, b"any", 43),
-    ];
-    for (opcode, fixed, tail, counted) in cases {
-        let whole = message(opcode, fixed, tail, counted.saturating_sub(40));
-        let alone = whole.get(..counted).unwrap_or(&[]);
-        let others = whole.get(counted..).unwrap_or(&[]);
-        laws::bytes_after_are_not_read(alone, others);
-        let expected = Some(([u64::from(opcode), 0, 9, 0, 0, 0], (opcode, true)));
-        assert_eq!(rt; (asked(alone), asked(&whole)), (expected, expected));
-    }
+    expect_alone(&rt, &message(1, 0, b"a\0", 2), 42, 1);
+    expect_alone(&rt, &message(15, 40, b"", 40), 80, 15);
+    expect_alone(&rt, &message(41, 0, b"any", 3), 43, 41);
 }
 
 /// The name of an operation.
@@ -700,12 +765,17 @@ fn printed(alloc: Global, message: &[u8]) -> Result<String, AllocError> {
     }
 }
 
+/// The names of the operations of two messages.
+fn two_printed(alloc: Global) -> Result<(String, String), AllocError> {
+    let lookup = printed(alloc, &message(1, 0, b"a\0", 2))?;
+    let range = printed(alloc, &message(47, 56, b"", 56))?;
+    Ok((lookup, range))
+}
+
 #[test]
 fn prints_the_name_of_an_operation(rt: HostRuntime) -> Result<(), AllocError> {
-    let alloc = rt.alloc();
-    let lookup = printed(alloc, &message(1, 0, b"a\0", 2))?;
-    assert_eq!(rt; lookup.as_str(), "Ok(Lookup)");
-    let range = printed(alloc, &message(47, 56, b"", 56))?;
-    assert_eq!(rt; range.as_str(), "Ok(CopyFileRange)");
+    let (lookup, range) = two_printed(rt.alloc())?;
+    let found = (lookup.as_str(), range.as_str());
+    expect_same(&rt, &found, &("Ok(Lookup)", "Ok(CopyFileRange)"));
     Ok(())
 }

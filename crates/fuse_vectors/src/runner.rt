@@ -4,7 +4,11 @@ ghost use Rattle.fuse_reply.specs.Payload.{FOPEN_PASSTHROUGH};
 ghost use Rattle.std.specs.Arc.{arc_value};
 ghost use Rattle.fuse_line.specs.declared.hand.Kind.TheVariants.{First};
 
-use crate::vectors::{Answer, Choice, Fetch, Made, News, VECTORS, Vector};
+use crate::asserts::expect_same;
+use crate::vectors::{
+    Answer, Choice, Fetch, Made, News, Vector, conflicts, fetches, notices, replies, requests,
+    texts, times,
+};
 use bitflags::Flags;
 use fuse_args::ArgumentIterator;
 use fuse_config::{Config, MountOption, OptionText, check_option_conflicts, option_to_string};
@@ -20,25 +24,40 @@ use fuse_wire::{
     MemorySink, NoMemory, PollHandle, RequestId, SystemTime, system_time_from_time,
     time_from_system_time,
 };
-use std::alloc::Global;
+use std::alloc::{AllocError, Global};
 use std::process::Abort;
 use std::sync::{Arc, Wait};
 
 #[test]
 fn each_vector_makes_its_bytes(rt: HostRuntime) -> Result<(), NoMemory> {
-    expect_bytes(&rt, &VECTORS)
+    expect_bytes(&rt, requests())?;
+    expect_bytes(&rt, replies())?;
+    expect_bytes(&rt, notices())?;
+    expect_bytes(&rt, fetches())?;
+    expect_bytes(&rt, times())?;
+    expect_bytes(&rt, conflicts())?;
+    expect_bytes(&rt, texts())
+}
+
+/// These parts joined.
+fn joined(alloc: Global, parts: &[&[u8]]) -> Result<Vec<u8>, AllocError> {
+    let mut bytes = Vec::new(alloc);
+    for part in parts {
+        bytes.extend_from_slice(part)?;
+    }
+    Ok(bytes)
 }
 
 /// Each of the vectors makes its bytes.
 fn expect_bytes<R: Wait + Abort + AllocGlobal>(rt: &R, vectors: &[Vector]) -> Result<(), NoMemory> {
-    let alloc = rt.alloc();
     for (name, made, parts) in vectors {
-        let bytes = make(rt, alloc, made)?;
-        let mut expected = Vec::new(alloc);
-        for part in *parts {
-            expected.extend_from_slice(part)?;
-        }
-        assert_eq!(rt; bytes.as_slice(), expected.as_slice(), "{name}");
+        let expected = joined(rt.alloc(), parts)?;
+        let bytes = make(rt, rt.alloc(), made)?;
+        expect_same(
+            rt,
+            &(*name, bytes.as_slice()),
+            &(*name, expected.as_slice()),
+        );
     }
     Ok(())
 }

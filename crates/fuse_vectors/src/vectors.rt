@@ -156,7 +156,8 @@ const DELETE: &[u8] = &[
     0, 0, 0, 3, 0, 0, 0, 0, 0, 0, 0, 0x61, 0x62, 0x63, 0,
 ];
 
-pub(crate) const VECTORS: [Vector; 62] = [
+/// Messages that are taken apart.
+const REQUESTS: &[Vector] = &[
     (
         "INIT",
         Made::Request(&INIT, 104),
@@ -181,6 +182,15 @@ pub(crate) const VECTORS: [Vector; 62] = [
         Made::Request(&INIT, 48),
         &[b"ShortRead(48, 104)"],
     ),
+];
+
+/// The same, written once: a constant stands anew in each function that names it.
+pub(crate) fn requests() -> &'static [Vector] {
+    REQUESTS
+}
+
+/// Replies.
+const REPLIES: &[Vector] = &[
     (
         "empty",
         Made::Reply(Answer::Empty),
@@ -300,6 +310,14 @@ pub(crate) const VECTORS: [Vector; 62] = [
         ])),
         &[&[0x50, 0, 0, 0, 0, 0, 0, 0], ID, DIRECTORY],
     ),
+];
+
+pub(crate) fn replies() -> &'static [Vector] {
+    REPLIES
+}
+
+/// Notices, sent at once and through a line.
+const NOTICES: &[Vector] = &[
     ("poll, sent", Made::Sent(News::Poll(0x4321)), &[POLL]),
     ("poll, queued", Made::Queued(News::Poll(0x4321)), &[POLL]),
     (
@@ -342,6 +360,14 @@ pub(crate) const VECTORS: [Vector; 62] = [
         Made::Queued(News::Delete(0x42, 0x43, b"abc")),
         &[DELETE],
     ),
+];
+
+pub(crate) fn notices() -> &'static [Vector] {
+    NOTICES
+}
+
+/// Arguments, fetched one after the other.
+const FETCHES: &[Vector] = &[
     (
         "two names",
         Made::Fetched(ARGUMENTS, &[Fetch::Name, Fetch::Name]),
@@ -367,6 +393,14 @@ pub(crate) const VECTORS: [Vector; 62] = [
         Made::Fetched(ARGUMENTS, &[Fetch::Name, Fetch::All]),
         &[b"foo, ", &[0x62, 0x61, 0x72, 0, 0x62, 0x61], b", 0 left"],
     ),
+];
+
+pub(crate) fn fetches() -> &'static [Vector] {
+    FETCHES
+}
+
+/// Times, and times back.
+const TIMES: &[Vector] = &[
     (
         "a time before 1970",
         Made::Time(-1_200_000_000),
@@ -402,6 +436,14 @@ pub(crate) const VECTORS: [Vector; 62] = [
         Made::Time(-9_223_372_036_854_775_807_800_000_000),
         &[b"-9223372036854775808 200000000"],
     ),
+];
+
+pub(crate) fn times() -> &'static [Vector] {
+    TIMES
+}
+
+/// Options that conflict.
+const CONFLICTS: &[Vector] = &[
     (
         "far places",
         Made::Conflict(&["ro", "dev", "nodev", "rw"]),
@@ -417,6 +459,14 @@ pub(crate) const VECTORS: [Vector; 62] = [
         Made::Conflict(&["suid", "nosuid"]),
         &[b"0 and 1"],
     ),
+];
+
+pub(crate) fn conflicts() -> &'static [Vector] {
+    CONFLICTS
+}
+
+/// Texts of options.
+const TEXTS: &[Vector] = &[
     (
         "fsname",
         Made::Text(Choice::FSName("Blah")),
@@ -480,3 +530,7 @@ pub(crate) const VECTORS: [Vector; 62] = [
         &[b"Async async"],
     ),
 ];
+
+pub(crate) fn texts() -> &'static [Vector] {
+    TEXTS
+}
