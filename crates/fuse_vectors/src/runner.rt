@@ -18,7 +18,7 @@ use fuse_reply::{
     OutEnd, Parcel, Replied, ReplyAttr, ReplyBmap, ReplyCreate, ReplyData, ReplyDirectory,
     ReplyEmpty, ReplyEntry, ReplyLock, ReplyOpen, ReplyStatfs, ReplyWrite, ReplyXattr,
 };
-use fuse_request::{AnyRequest, MkNod, Operation};
+use fuse_request::{AnyRequest, Init, MkNod, Operation};
 use fuse_wire::{
     Duration, Errno, FileAttr, FileHandle, FileType, FopenFlags, Generation, INodeNo, Items,
     MemorySink, NoMemory, PollHandle, RequestId, SystemTime, system_time_from_time,
@@ -69,22 +69,35 @@ fn make<R: Wait + Abort + AllocGlobal>(
     made: &Made,
 ) -> Result<Vec<u8>, NoMemory> {
     match made {
-        Made::Reply(answer) => frames(alloc, &answered(rt, alloc, answer)),
-        Made::Sent(news) => frames(alloc, &sent(rt, alloc, news)),
-        Made::Queued(news) => frames(alloc, &queued(rt, alloc, news)?),
+        Made::Reply(answer) => bytes_of(alloc, answered(rt, alloc, answer)),
+        Made::Sent(news) => bytes_of(alloc, sent(rt, alloc, news)),
+        Made::Queued(news) => queued(rt, alloc, news),
         Made::Request(message, length) => asked(alloc, message.get(..*length).unwrap_or(&[])),
         Made::Fetched(bytes, fetches) => fetched(alloc, bytes, fetches),
-        Made::Time(nanos) => {
-            let (secs, nanos) = time_from_system_time(&SystemTime(*nanos));
-            Ok(format!(in alloc; "{secs} {nanos}")?.into_bytes())
-        }
-        Made::SecondsAndNanoseconds(secs, nanos) => {
-            let time = system_time_from_time(*secs, *nanos);
-            Ok(format!(in alloc; "{}", time.0)?.into_bytes())
-        }
+        Made::Time(nanos) => seconds_and_nanoseconds(alloc, *nanos),
+        Made::SecondsAndNanoseconds(secs, nanos) => nanoseconds(alloc, *secs, *nanos),
         Made::Text(choice) => chosen(rt, alloc, choice),
         Made::Conflict(texts) => conflicting(alloc, texts),
     }
+}
+
+/// The seconds and nanoseconds of a time, as a text.
+fn seconds_and_nanoseconds(alloc: Global, nanos: i128) -> Result<Vec<u8>, NoMemory> {
+    let (secs, nanos) = time_from_system_time(&SystemTime(nanos));
+    Ok(format!(in alloc; "{secs} {nanos}")?.into_bytes())
+}
+
+/// The nanoseconds of the time of these seconds and nanoseconds, as a text.
+fn nanoseconds(alloc: Global, secs: i64, nanos: u32) -> Result<Vec<u8>, NoMemory> {
+    let time = system_time_from_time(secs, nanos);
+    Ok(format!(in alloc; "{}", time.0)?.into_bytes())
+}
+
+/// The frames that a sink took, one behind the other. The sink is let go.
+fn bytes_of(alloc: Global, sink: MemorySink) -> Result<Vec<u8>, NoMemory> {
+    let bytes = frames(alloc, &sink);
+    drop(sink);
+    bytes
 }
 
 /// The frames that a sink took, one behind the other.
@@ -135,7 +148,7 @@ fn open_flags(rt: &impl Abort, bits: u32) -> FopenFlags
 fn answered(rt: &impl Abort, alloc: Global, answer: &Answer) -> MemorySink {
     let mut sink = MemorySink::new(alloc, Vec::new(alloc));
     let end = replied(rt, alloc, answer).into_out().send(&mut sink);
-    assert_eq!(rt; end, OutEnd::Written);
+    expect_same(rt, &end, &OutEnd::Written);
     sink
 }
 
@@ -186,7 +199,7 @@ fn listed(
     for (ino, offset, kind, name) in entries {
         assert!(rt; name.len() <= 255);
         let full = reply.add(INodeNo(*ino), *offset, *kind, name);
-        assert_eq!(rt; full, Ok(false));
+        expect_same(rt, &full, &Ok(false));
     }
     reply
 }
@@ -210,7 +223,7 @@ fn notice(alloc: Global, news: &News) -> Result<Notice, NoticeError> {
 fn sent(rt: &impl Abort, alloc: Global, news: &News) -> MemorySink {
     let mut sink = MemorySink::new(alloc, Vec::new(alloc));
     let notice = notice(alloc, news).expect(rt, "there is memory");
-    assert_eq!(rt; deliver(&notice, &mut sink), Ok(()));
+    expect_same(rt, &deliver(&notice, &mut sink), &Ok(()));
     sink
 }
 
@@ -246,19 +259,32 @@ fn line_of(alloc: Global) -> Result<(Arc<Line<Parcel>, Global>, Pass<Parcel>, No
     Ok((line, first, notifier))
 }
 
-/// A sink that took the notice from a line.
+/// The bytes of a notice that came off a line. Of any other parcel, or of none, there are none.
+fn notice_bytes(alloc: Global, parcel: Option<Parcel>) -> Result<Vec<u8>, NoMemory> {
+    let mut sink = MemorySink::new(alloc, Vec::new(alloc));
+    match parcel {
+        Some(Parcel::Notice(frame)) => {
+            frame.send(&mut sink);
+        }
+        Some(other) => drop(other),
+        None => {}
+    }
+    bytes_of(alloc, sink)
+}
+
+/// The bytes of the notice that goes through a line.
 fn queued<R: Wait + Abort + AllocGlobal>(
     rt: &R,
     alloc: Global,
     news: &News,
-) -> Result<MemorySink, NoMemory> {
-    let mut sink = MemorySink::new(alloc, Vec::new(alloc));
+) -> Result<Vec<u8>, NoMemory> {
     let (line, mut first, mut notifier) = line_of(alloc)?;
-    assert_eq!(rt; notify(rt, &mut notifier, news), Ok(()));
-    if let Some(Parcel::Notice(frame)) = line.pop(rt, &mut first) {
-        frame.send(&mut sink);
-    }
-    Ok(sink)
+    expect_same(rt, &notify(rt, &mut notifier, news), &Ok(()));
+    let parcel = line.pop(rt, &mut first);
+    drop(notifier);
+    drop(first);
+    drop(line);
+    notice_bytes(alloc, parcel)
 }
 
 /// Who asks, and what INIT or MKNOD says, as a text; or why the message is no request.
@@ -267,32 +293,36 @@ fn asked(alloc: Global, message: &[u8]) -> Result<Vec<u8>, NoMemory> {
         Ok(request) => request,
         Err(error) => return Ok(format!(in alloc; "{error:?}")?.into_bytes()),
     };
-    let mut bytes = header(alloc, &request)?;
-    match request.operation() {
-        Ok(Operation::Init(init)) => {
-            let (version, max_readahead) = (init.version(), init.max_readahead());
-            let told = format!(in alloc; "version {version} max_readahead {max_readahead}")?;
-            bytes.extend_from_slice(told.as_bytes())?;
-        }
-        Ok(Operation::MkNod(mknod)) => {
-            let told = numbers(alloc, &mknod)?;
-            bytes.extend_from_slice(told.as_bytes())?;
-            bytes.extend_from_slice(mknod.name())?;
-        }
-        _ => {}
-    }
-    Ok(bytes)
+    let header = header(alloc, &request)?;
+    let told = told(alloc, &request)?;
+    Ok(joined(alloc, &[&header, &told])?)
 }
 
-/// What MKNOD says in front of its name, as a text.
-fn numbers(alloc: Global, mknod: &MkNod<'_>) -> Result<String, NoMemory> {
+/// What INIT or MKNOD says. Any other says nothing.
+fn told(alloc: Global, request: &AnyRequest<'_>) -> Result<Vec<u8>, NoMemory> {
+    match request.operation() {
+        Ok(Operation::Init(init)) => numbers_of_init(alloc, &init),
+        Ok(Operation::MkNod(mknod)) => numbers_of_mknod(alloc, &mknod),
+        _ => Ok(Vec::new(alloc)),
+    }
+}
+
+/// What INIT says, as a text.
+fn numbers_of_init(alloc: Global, init: &Init) -> Result<Vec<u8>, NoMemory> {
+    let (version, max_readahead) = (init.version(), init.max_readahead());
+    let text = format!(in alloc; "version {version} max_readahead {max_readahead}")?;
+    Ok(text.into_bytes())
+}
+
+/// What MKNOD says, its name at the end.
+fn numbers_of_mknod(alloc: Global, mknod: &MkNod<'_>) -> Result<Vec<u8>, NoMemory> {
     let text = format!(in alloc;
         "mode 0o{:o} rdev {} umask 0o{:o} name ",
         mknod.mode(),
         mknod.rdev(),
         mknod.umask()
     )?;
-    Ok(text)
+    Ok(joined(alloc, &[text.as_bytes(), mknod.name()])?)
 }
 
 /// The header of a request, as a text.
@@ -309,28 +339,47 @@ fn header(alloc: Global, request: &AnyRequest<'_>) -> Result<Vec<u8>, NoMemory> 
     Ok(text.into_bytes())
 }
 
+/// What one fetch gives, as bytes.
+fn fetched_by(
+    alloc: Global,
+    arguments: &mut ArgumentIterator<'_>,
+    fetch: &Fetch,
+) -> Result<Vec<u8>, AllocError> {
+    match fetch {
+        Fetch::Name => arguments.fetch_str().unwrap_or(b"none").to_vec(alloc),
+        Fetch::Number => match arguments.fetch_u64() {
+            Some(number) => number.to_le_bytes().to_vec(alloc),
+            None => b"none".to_vec(alloc),
+        },
+        Fetch::Access => match arguments.fetch_access() {
+            Some(access) => access.mask.to_le_bytes().to_vec(alloc),
+            None => b"none".to_vec(alloc),
+        },
+        Fetch::All => arguments.fetch_all().to_vec(alloc),
+    }
+}
+
+/// What is fetched, each with a comma behind it.
+fn all_fetched(
+    alloc: Global,
+    arguments: &mut ArgumentIterator<'_>,
+    fetches: &[Fetch],
+) -> Result<Vec<u8>, AllocError> {
+    let mut told = Vec::new(alloc);
+    for fetch in fetches {
+        let bytes = fetched_by(alloc, arguments, fetch)?;
+        told.extend_from_slice(&bytes)?;
+        told.extend_from_slice(b", ")?;
+    }
+    Ok(told)
+}
+
 /// What is fetched from these bytes, each with a comma behind it, and how many are left.
 fn fetched(alloc: Global, bytes: &[u8], fetches: &[Fetch]) -> Result<Vec<u8>, NoMemory> {
     let mut arguments = ArgumentIterator::new(bytes);
-    let mut told = Vec::new(alloc);
-    for fetch in fetches {
-        match fetch {
-            Fetch::Name => told.extend_from_slice(arguments.fetch_str().unwrap_or(b"none"))?,
-            Fetch::Number => match arguments.fetch_u64() {
-                Some(number) => told.extend_from_slice(&number.to_le_bytes())?,
-                None => told.extend_from_slice(b"none")?,
-            },
-            Fetch::Access => match arguments.fetch_access() {
-                Some(access) => told.extend_from_slice(&access.mask.to_le_bytes())?,
-                None => told.extend_from_slice(b"none")?,
-            },
-            Fetch::All => told.extend_from_slice(arguments.fetch_all())?,
-        }
-        told.extend_from_slice(b", ")?;
-    }
+    let told = all_fetched(alloc, &mut arguments, fetches)?;
     let left = format!(in alloc; "{} left", arguments.len())?;
-    told.extend_from_slice(left.as_bytes())?;
-    Ok(told)
+    Ok(joined(alloc, &[&told, left.as_bytes()])?)
 }
 
 /// The text of an option, in front of which stands the variant of one without a text of its own.
@@ -348,7 +397,7 @@ fn chosen(rt: &impl Abort, alloc: Global, choice: &Choice) -> Result<Vec<u8>, No
 fn text_of(rt: &impl Abort, alloc: Global, option: &MountOption) -> Result<Vec<u8>, NoMemory> {
     let text = option_to_string(alloc, option)?;
     let named = MountOption::from_str(alloc, text.as_str())?;
-    assert_eq!(rt; &named, option);
+    expect_same(rt, &named, option);
     Ok(text.into_bytes())
 }
 
@@ -359,17 +408,25 @@ fn plain(alloc: Global, text: &str) -> Result<Vec<u8>, NoMemory> {
     Ok(format!(in alloc; "{option:?} {text}")?.into_bytes())
 }
 
-/// The places of the options that conflict, as a text.
-fn conflicting(alloc: Global, texts: &[&str]) -> Result<Vec<u8>, NoMemory> {
+/// The options that these texts name.
+fn options_of(alloc: Global, texts: &[&str]) -> Result<Vec<MountOption>, NoMemory> {
     let mut options = Vec::new(alloc);
     for text in texts {
         let Ok(()) = options.push(MountOption::from_str(alloc, text)?) else {
             return Err(NoMemory);
         };
     }
+    Ok(options)
+}
+
+/// The places of the options that conflict, as a text.
+fn conflicting(alloc: Global, texts: &[&str]) -> Result<Vec<u8>, NoMemory> {
+    let options = options_of(alloc, texts)?;
     let mut config = Config::new(alloc);
     config.mount_options = Items::from_vec(options);
-    let places = match check_option_conflicts(&config) {
+    let conflict = check_option_conflicts(&config);
+    drop(config);
+    let places = match conflict {
         Ok(()) => String::from_str(alloc, "none")?,
         Err(conflict) => format!(in alloc; "{} and {}", conflict.first, conflict.second)?,
     };
