@@ -1,14 +1,11 @@
 // Inputs and outputs that fail, one call at a time, over a stream of ten messages.
-use crate::program::serve;
-use fuse_wire::{ByteRead, ByteSource, MemoryBytes, MemoryOut};
+use crate::asserts::expect_same;
+use crate::runs::{Run, form, run_over};
+use fuse_wire::{MemoryBytes, MemoryOut};
 use std::alloc::{AllocError, Global};
 use std::process::Abort;
 use std::sync::Wait;
-use std::test::Fail;
 use std::thread::Threads;
-
-/// The words of a form with one thread.
-const FORM: [&[u8]; 5] = [b"serve", b"1", b"all", b"0", b"4096"];
 
 /// INIT of version 7.8 with the id 1, but for 48 zero bytes at its end.
 const INIT: &[u8; 56] =
@@ -41,20 +38,21 @@ fn replies(alloc: Global) -> Result<Vec<u8>, AllocError> {
     Ok(bytes)
 }
 
-/// How many bytes the input still has.
-fn unread(input: &mut MemoryBytes) -> usize {
-    let mut count: usize = 0;
-    for _ in 0..1000 {
-        let mut piece = [0];
-        if let ByteRead::Got(_) = input.read(&mut piece) {
-            count = count.saturating_add(1);
-        }
-    }
-    count
+/// Runs the program over streams that fail at these calls.
+fn run_failing<R: Threads + Wait + AllocGlobal + Sync>(
+    rt: &R,
+    reads: &[u64],
+    writes: &[u64],
+) -> Result<Run, AllocError> {
+    let alloc = rt.alloc();
+    let bytes = stream(alloc)?;
+    let reads = reads.to_vec(alloc)?;
+    let writes = writes.to_vec(alloc)?;
+    let input = MemoryBytes::new(bytes, 1000, reads);
+    run_over(rt, form(), input, MemoryOut::new(alloc, 1000, writes))
 }
 
-/// Over streams that fail at these calls the program ends with this status, has written so many of the bytes, and has left
-/// so many unread.
+/// The program so run ends with this status, has written so many of the bytes, and has left so many unread.
 fn ends_so<R: Threads + Wait + AllocGlobal + Abort + Sync>(
     rt: &R,
     reads: &[u64],
@@ -63,26 +61,16 @@ fn ends_so<R: Threads + Wait + AllocGlobal + Abort + Sync>(
     count: usize,
     left: usize,
 ) -> Result<(), AllocError> {
-    let alloc = rt.alloc();
-    let input = MemoryBytes::new(stream(alloc)?, 1000, reads.to_vec(alloc)?);
-    let output = MemoryOut::new(alloc, 1000, writes.to_vec(alloc)?);
-    let mut served = serve(rt, &FORM, input, output);
-    assert_eq!(rt; served.status, status, "reads {reads:?}, writes {writes:?}");
-    assert_eq!(rt;
-        Some(served.output.bytes()),
-        replies(alloc)?.get(..count),
-        "reads {reads:?}, writes {writes:?}"
-    );
-    assert_eq!(rt;
-        unread(&mut served.input),
-        left,
-        "reads {reads:?}, writes {writes:?}"
-    );
+    let run = run_failing(rt, reads, writes)?;
+    let replies = replies(rt.alloc())?;
+    let found = (run.status, Some(run.written.as_slice()), run.unread.len());
+    let expected = (status, replies.get(..count), left);
+    expect_same(rt, &(reads, writes, found), &(reads, writes, expected));
     Ok(())
 }
 
 #[test]
-fn each_read_may_fail(rt: HostRuntime) -> Result<(), Fail> {
+fn each_read_may_fail(rt: HostRuntime) -> Result<(), AllocError> {
     // Two reads for each message but the last, which has no body.
     let mut written: usize = 0;
     let mut left: usize = 504;
@@ -104,12 +92,11 @@ fn each_read_may_fail(rt: HostRuntime) -> Result<(), Fail> {
         written = written.saturating_add(reply);
         left = left.saturating_sub(taken);
     }
-    ends_so(&rt, &[20], &[], 0, 184, 0)?;
-    Ok(())
+    ends_so(&rt, &[20], &[], 0, 184, 0)
 }
 
 #[test]
-fn each_write_may_fail(rt: HostRuntime) -> Result<(), Fail> {
+fn each_write_may_fail(rt: HostRuntime) -> Result<(), AllocError> {
     // Two writes for the reply to INIT, and one for each frame without a payload.
     ends_so(&rt, &[], &[1], 8, 0, 0)?;
     ends_so(&rt, &[], &[2], 8, 16, 0)?;
@@ -118,6 +105,5 @@ fn each_write_may_fail(rt: HostRuntime) -> Result<(), Fail> {
         ends_so(&rt, &[], &[write], 8, written, 0)?;
         written = written.saturating_add(16);
     }
-    ends_so(&rt, &[], &[12], 0, 184, 0)?;
-    Ok(())
+    ends_so(&rt, &[], &[12], 0, 184, 0)
 }

@@ -1,22 +1,28 @@
 // What `load` writes. The lines were computed from the tables that the tree and the generator were made by.
+use crate::asserts::expect_same;
 use crate::frame_store::FrameStore;
 use crate::generator_tests::ends_so;
 use crate::summary::Summary;
 use fuse_wire::{Noting, RequestId, Sending, Sink};
-use std::test::Fail;
+use std::alloc::AllocError;
 
 /// Seed, number of requests, and the line.
-const LINES: [(&[u8], &[u8], &[u8]); 6] = [
+type Line = (&'static [u8], &'static [u8], &'static [u8]);
+
+/// The line of five requests.
+const FIVE: Line = (
+    b"1",
+    b"5",
+    b"messages 7 frames 7 notes 0 errors 3 bytes 335\n",
+);
+
+const LINES: &[Line] = &[
     (
         b"7",
         b"0",
         b"messages 2 frames 2 notes 0 errors 0 bytes 96\n",
     ),
-    (
-        b"1",
-        b"5",
-        b"messages 7 frames 7 notes 0 errors 3 bytes 335\n",
-    ),
+    FIVE,
     (
         b"2147483647",
         b"100",
@@ -40,11 +46,11 @@ const LINES: [(&[u8], &[u8], &[u8]); 6] = [
 ];
 
 #[test]
-fn a_line_says_what_the_stream_comes_to(rt: HostRuntime) -> Result<(), Fail> {
+fn a_line_says_what_the_stream_comes_to(rt: HostRuntime) -> Result<(), AllocError> {
     for (seed, count, line) in LINES {
-        ends_so(&rt, &[b"load", seed, count, b"1"], 1000, &[], 0, line)?;
+        ends_so(&rt, &[b"load", *seed, *count, b"1"], 1000, &[], 0, line)?;
     }
-    let (seed, count, line) = LINES[1];
+    let (seed, count, line) = FIVE;
     for threads in [b"1".as_slice(), b"2", b"64", b"1024"] {
         ends_so(&rt, &[b"load", seed, count, threads], 1, &[], 0, line)?;
     }
@@ -52,33 +58,33 @@ fn a_line_says_what_the_stream_comes_to(rt: HostRuntime) -> Result<(), Fail> {
 }
 
 #[test]
-fn without_a_thread_there_is_no_line(rt: HostRuntime) -> Result<(), Fail> {
-    ends_so(&rt, &[b"load", b"1", b"5", b"0"], 1000, &[], 10, b"")?;
-    Ok(())
+fn without_a_thread_there_is_no_line(rt: HostRuntime) -> Result<(), AllocError> {
+    ends_so(&rt, &[b"load", b"1", b"5", b"0"], 1000, &[], 10, b"")
 }
 
 #[test]
-fn a_write_of_the_line_may_fail(rt: HostRuntime) -> Result<(), Fail> {
+fn a_write_of_the_line_may_fail(rt: HostRuntime) -> Result<(), AllocError> {
     let words: [&[u8]; 4] = [b"load", b"1", b"5", b"1"];
     ends_so(&rt, &words, 1000, &[1], 8, b"")?;
     ends_so(&rt, &words, 5, &[3], 8, b"messages 7")?;
-    ends_so(&rt, &words, 1000, &[2], 0, LINES[1].2)?;
-    Ok(())
+    ends_so(&rt, &words, 1000, &[2], 0, FIVE.2)
 }
 
+/// Words that are no form.
+const NO_FORMS: &[&[&[u8]]] = &[
+    &[b"load", b"2147483648", b"0", b"1"],
+    &[b"load", b"0", b"65536", b"1"],
+    &[b"load", b"0", b"0", b"1025"],
+    &[b"load", b"0", b"0", b"-1"],
+    &[b"load", b"x", b"0", b"1"],
+    &[b"load", b"0", b"0", b""],
+    &[b"load", b"0", b"0"],
+    &[b"load", b"0", b"0", b"1", b"1"],
+];
+
 #[test]
-fn numbers_out_of_range_load_nothing(rt: HostRuntime) -> Result<(), Fail> {
-    let cases: [&[&[u8]]; 8] = [
-        &[b"load", b"2147483648", b"0", b"1"],
-        &[b"load", b"0", b"65536", b"1"],
-        &[b"load", b"0", b"0", b"1025"],
-        &[b"load", b"0", b"0", b"-1"],
-        &[b"load", b"x", b"0", b"1"],
-        &[b"load", b"0", b"0", b""],
-        &[b"load", b"0", b"0"],
-        &[b"load", b"0", b"0", b"1", b"1"],
-    ];
-    for words in cases {
+fn numbers_out_of_range_load_nothing(rt: HostRuntime) -> Result<(), AllocError> {
+    for words in NO_FORMS {
         ends_so(&rt, words, 1000, &[], 2, b"")?;
     }
     Ok(())
@@ -91,10 +97,13 @@ fn notices_are_kept_and_not_counted(rt: HostRuntime) {
     let reply = b"\x12\0\0\0\0\0\0\0\x02\0\0\0\0\0\0\0";
     let error = b"\x10\0\0\0\xfe\xff\xff\xff\x03\0\0\0\0\0\0\0";
     let notice = b"\x18\0\0\0\x01\0\0\0\0\0\0\0\0\0\0\0";
-    assert_eq!(rt; store.send(reply, b"ab"), Sending::Sent);
-    assert_eq!(rt; store.send(error, b""), Sending::Sent);
-    assert_eq!(rt; store.send(notice, &[0; 8]), Sending::Sent);
-    assert_eq!(rt; store.note(RequestId(4), 1), Noting::Sent);
+    let sent = [
+        store.send(reply, b"ab"),
+        store.send(error, b""),
+        store.send(notice, &[0; 8]),
+    ];
+    let noted = store.note(RequestId(4), 1);
+    expect_same(&rt, &(sent, noted), &([Sending::Sent; 3], Noting::Sent));
     let expected = Summary {
         messages: 9,
         frames: 2,
@@ -102,6 +111,5 @@ fn notices_are_kept_and_not_counted(rt: HostRuntime) {
         errors: 1,
         bytes: 34,
     };
-    assert_eq!(rt; store.summary(9), expected);
-    assert_eq!(rt; store.starved(), 0);
+    expect_same(&rt, &(store.summary(9), store.starved()), &(expected, 0));
 }

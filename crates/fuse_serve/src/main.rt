@@ -8,6 +8,8 @@ ghost use Rattle.fuse_serve.specs.Status.{IsExit};
 
 mod arguments;
 #[cfg(test)]
+mod asserts;
+#[cfg(test)]
 mod fault_tests;
 mod frame_store;
 mod generator;
@@ -19,6 +21,8 @@ mod load;
 #[cfg(test)]
 mod load_tests;
 mod program;
+#[cfg(test)]
+mod runs;
 mod status;
 mod stored_messages;
 mod summary;

@@ -1,21 +1,17 @@
 // The program from bytes to bytes.
 ghost use Rattle.std.specs.Prelude.{None};
 
-use crate::hello::Hello;
-use crate::program::serve;
-use crate::run;
-use fuse_config::{Config, SessionACL};
-use fuse_session::{Ended, mount};
+use crate::asserts::expect_same;
+use crate::runs::{FORM, Run, form, joined, mount_tree, run_in_steps, served, status_over};
+use fuse_config::SessionACL;
+use fuse_session::Ended;
 use fuse_wire::{
     ByteRead, ByteSink, ByteSource, ByteWrite, MemoryBytes, MemoryOut, StreamSink, StreamSource,
 };
 use std::alloc::{AllocError, Global};
+use std::process::Abort;
 use std::sync::Wait;
-use std::test::Fail;
 use std::thread::Threads;
-
-/// The words of a form with one thread.
-const FORM: [&[u8]; 5] = [b"serve", b"1", b"all", b"0", b"4096"];
 
 /// An INIT of version 7.8 with a readahead of 4096 and no flags, but for 48 zero bytes at its end.
 const INIT: &[u8; 56] =
@@ -79,194 +75,175 @@ const LSEEK: &[u8; 64] =
 /// The reply ENOSYS to the id 2.
 const NO_CALL: &[u8; 16] = b"\x10\0\0\0\xda\xff\xff\xff\x02\0\0\0\0\0\0\0";
 
-/// These parts joined.
-fn joined(alloc: Global, parts: &[&[u8]]) -> Result<Vec<u8>, AllocError> {
-    let mut bytes = Vec::new(alloc);
-    for part in parts {
-        bytes.extend_from_slice(part)?;
-    }
-    Ok(bytes)
+/// The words, the bytes of the input in parts, and how the program ends: its status, the parts of what it wrote, and what
+/// it has left unread.
+type Ending = (
+    &'static [&'static [u8]],
+    &'static [&'static [u8]],
+    u8,
+    &'static [&'static [u8]],
+    &'static [u8],
+);
+
+/// A run came to this status, wrote these bytes, and left those unread.
+fn expect_run(rt: &impl Abort, at: usize, run: &Run, status: u8, written: &[u8], unread: &[u8]) {
+    let found = (run.status, run.written.as_slice(), run.unread.as_slice());
+    expect_same(rt, &(at, found), &(at, (status, written, unread)));
 }
 
-/// What is left of the input.
-fn rest_of(alloc: Global, input: &mut MemoryBytes) -> Result<Vec<u8>, AllocError> {
-    let mut rest = Vec::new(alloc);
-    for _ in 0..1000 {
-        let mut piece = [0];
-        if let ByteRead::Got(_) = input.read(&mut piece) {
-            rest.push(piece[0])?;
-        }
-    }
-    Ok(rest)
-}
-
-/// What the program came to: its status, what it wrote, and what it left unread.
-#[derive(Drop)]
-struct Run {
-    status: u8,
-    written: Vec<u8>,
-    unread: Vec<u8>,
-}
-
-/// Runs the program over these bytes, in pieces.
-fn run_over<R: Threads + Wait + AllocGlobal + Sync>(
+/// The program ends so, in pieces of 1 and of 7 bytes.
+fn expect_ending<R: Threads + Wait + AllocGlobal + Abort + Sync>(
     rt: &R,
-    words: &[&[u8]],
-    parts: &[&[u8]],
-    step: usize,
-) -> Result<Run, AllocError> {
-    let alloc = rt.alloc();
-    let step = step.max(1);
-    let input = MemoryBytes::new(joined(alloc, parts)?, step, Vec::new(alloc));
-    let output = MemoryOut::new(alloc, step, Vec::new(alloc));
-    let mut served = serve(rt, words, input, output);
-    Ok(Run {
-        status: served.status,
-        written: served.output.bytes().to_vec(alloc)?,
-        unread: rest_of(alloc, &mut served.input)?,
-    })
-}
-
-/// Whether the program ends with this status, and has written this and left that unread, in pieces of 1 and of 7 bytes.
-fn ends_so<R: Threads + Wait + AllocGlobal + Sync>(
-    rt: &R,
-    words: &[&[u8]],
-    parts: &[&[u8]],
-    status: u8,
-    written: &[&[u8]],
-    unread: &[u8],
-) -> Result<bool, Fail> {
+    at: usize,
+    ending: &Ending,
+) -> Result<(), AllocError> {
+    let (words, parts, status, written, unread) = *ending;
     let expected = joined(rt.alloc(), written)?;
     for step in [1, 7] {
-        let run = run_over(rt, words, parts, step)?;
-        if run.status != status
-            || run.written.as_slice() != expected.as_slice()
-            || run.unread.as_slice() != unread
-        {
-            return Ok(false);
-        }
-    }
-    Ok(true)
-}
-
-#[test]
-fn inputs_have_their_status_and_frames(rt: HostRuntime) -> Result<(), Fail> {
-    let cases: [(&[&[u8]], u8, &[&[u8]]); 8] = [
-        (&[INIT, ZEROS], 0, &[REPLY]),
-        (&[], 3, &[]),
-        (
-            &[b"\x68\0\0\0\x1a\0\0\0\x0d\xf0\xad\xba\xef\xbe\xad\xde\x88\x77\x66\x55"],
-            4,
-            &[],
-        ),
-        (&[FRONT, b"\x07\0\0\0\x08\0\0\0"], 4, &[]),
-        (
-            &[
-                FRONT,
-                b"\x08\0\0\0\0\0\0\0\0\0\0\0\0\0\0\0",
-                ZEROS,
-                INIT,
-                ZEROS,
-            ],
-            0,
-            &[
-                b"\x50\0\0\0\0\0\0\0\x01\0\0\0\0\0\0\0\x07\0\0\0\x28\0\0\0\0\0\0\0\0\0\0\0",
-                ZEROS,
-                REPLY,
-            ],
-        ),
-        (
-            &[FRONT, b"\x07\0\0\0\x05\0\0\0\0\0\0\0\0\0\0\0", ZEROS],
-            5,
-            &[b"\x10\0\0\0\xb9\xff\xff\xff\x01\0\0\0\0\0\0\0"],
-        ),
-        (
-            &[DESTROY],
-            4,
-            &[b"\x10\0\0\0\xfb\xff\xff\xff\x02\0\0\0\0\0\0\0"],
-        ),
-        (&[UNKNOWN], 4, &[]),
-    ];
-    for (at, (parts, status, written)) in cases.iter().enumerate() {
-        assert!(rt;
-            ends_so(&rt, &FORM, parts, *status, written, b"")?,
-            "input {at}"
-        );
+        let run = run_in_steps(rt, words, parts, step)?;
+        expect_run(rt, at, &run, status, &expected, unread);
     }
     Ok(())
 }
 
-#[test]
-fn requests_have_their_frames(rt: HostRuntime) -> Result<(), Fail> {
-    let cases: [(&[&[u8]], &[&[u8]]); 6] = [
-        (&[INIT, ZEROS, BATCH_FORGET], &[REPLY]),
-        (&[INIT, ZEROS, READLINK], &[REPLY, NO_CALL]),
-        (&[INIT, ZEROS, SETATTR, ZEROS], &[REPLY, NO_CALL]),
-        (&[INIT, ZEROS, WRITE], &[REPLY, NO_CALL]),
-        (&[INIT, ZEROS, GETXATTR], &[REPLY, NO_CALL]),
-        (&[INIT, ZEROS, LSEEK], &[REPLY, NO_CALL]),
-    ];
-    for (at, (parts, written)) in cases.iter().enumerate() {
-        assert!(rt;
-            ends_so(&rt, &FORM, parts, 0, written, b"")?,
-            "request {at}"
-        );
+/// The program ends so over each input.
+fn expect_endings<R: Threads + Wait + AllocGlobal + Abort + Sync>(
+    rt: &R,
+    endings: &[Ending],
+) -> Result<(), AllocError> {
+    for (at, ending) in endings.iter().enumerate() {
+        expect_ending(rt, at, ending)?;
     }
     Ok(())
 }
 
-#[test]
-fn what_comes_after_the_last_message_is_unread(rt: HostRuntime) -> Result<(), Fail> {
-    assert!(rt;
-        ends_so(
-            &rt,
-            &FORM,
-            &[INIT, ZEROS, DESTROY, b"what comes after it"],
-            0,
-            &[REPLY, b"\x10\0\0\0\0\0\0\0\x02\0\0\0\0\0\0\0"],
-            b"what comes after it",
-        )?,
-        "DESTROY"
-    );
-    assert!(rt;
-        ends_so(
-            &rt,
-            &FORM,
-            &[SHORT_LENGTH, b"the rest"],
-            4,
-            &[],
-            b"the rest"
-        )?,
-        "a length below the header's"
-    );
-    assert!(rt;
-        ends_so(
-            &rt,
-            &FORM,
-            &[INIT, ZEROS, b"twenty bytes, and so"],
-            4,
-            &[REPLY],
-            b""
-        )?,
-        "a short header"
-    );
-    Ok(())
+const INPUTS: &[Ending] = &[
+    (FORM, &[INIT, ZEROS], 0, &[REPLY], b""),
+    (FORM, &[], 3, &[], b""),
+    (
+        FORM,
+        &[b"\x68\0\0\0\x1a\0\0\0\x0d\xf0\xad\xba\xef\xbe\xad\xde\x88\x77\x66\x55"],
+        4,
+        &[],
+        b"",
+    ),
+    (FORM, &[FRONT, b"\x07\0\0\0\x08\0\0\0"], 4, &[], b""),
+    (
+        FORM,
+        &[
+            FRONT,
+            b"\x08\0\0\0\0\0\0\0\0\0\0\0\0\0\0\0",
+            ZEROS,
+            INIT,
+            ZEROS,
+        ],
+        0,
+        &[
+            b"\x50\0\0\0\0\0\0\0\x01\0\0\0\0\0\0\0\x07\0\0\0\x28\0\0\0\0\0\0\0\0\0\0\0",
+            ZEROS,
+            REPLY,
+        ],
+        b"",
+    ),
+    (
+        FORM,
+        &[FRONT, b"\x07\0\0\0\x05\0\0\0\0\0\0\0\0\0\0\0", ZEROS],
+        5,
+        &[b"\x10\0\0\0\xb9\xff\xff\xff\x01\0\0\0\0\0\0\0"],
+        b"",
+    ),
+    (
+        FORM,
+        &[DESTROY],
+        4,
+        &[b"\x10\0\0\0\xfb\xff\xff\xff\x02\0\0\0\0\0\0\0"],
+        b"",
+    ),
+    (FORM, &[UNKNOWN], 4, &[], b""),
+];
+
+/// The same, written once: a constant stands anew in each function that names it.
+fn inputs() -> &'static [Ending] {
+    INPUTS
 }
 
 #[test]
-fn words_say_the_status(rt: HostRuntime) -> Result<(), Fail> {
-    let idle: [&[u8]; 5] = [b"serve", b"0", b"all", b"0", b"4096"];
-    let empty_page: [&[u8]; 5] = [b"serve", b"1", b"all", b"0", b"0"];
-    assert!(rt;
-        ends_so(&rt, &idle, &[INIT, ZEROS], 10, &[REPLY], b"")?,
-        "no thread"
-    );
-    assert!(rt;
-        ends_so(&rt, &empty_page, &[INIT], 2, &[], INIT)?,
-        "an empty page"
-    );
-    assert!(rt; ends_so(&rt, &[], &[INIT], 2, &[], INIT)?, "no words");
-    Ok(())
+fn inputs_have_their_status_and_frames(rt: HostRuntime) -> Result<(), AllocError> {
+    expect_endings(&rt, inputs())
+}
+
+const REQUESTS: &[Ending] = &[
+    (FORM, &[INIT, ZEROS, BATCH_FORGET], 0, &[REPLY], b""),
+    (FORM, &[INIT, ZEROS, READLINK], 0, &[REPLY, NO_CALL], b""),
+    (
+        FORM,
+        &[INIT, ZEROS, SETATTR, ZEROS],
+        0,
+        &[REPLY, NO_CALL],
+        b"",
+    ),
+    (FORM, &[INIT, ZEROS, WRITE], 0, &[REPLY, NO_CALL], b""),
+    (FORM, &[INIT, ZEROS, GETXATTR], 0, &[REPLY, NO_CALL], b""),
+    (FORM, &[INIT, ZEROS, LSEEK], 0, &[REPLY, NO_CALL], b""),
+];
+
+fn requests() -> &'static [Ending] {
+    REQUESTS
+}
+
+#[test]
+fn requests_have_their_frames(rt: HostRuntime) -> Result<(), AllocError> {
+    expect_endings(&rt, requests())
+}
+
+/// DESTROY, a length below the header's, and a short header.
+const LAST_MESSAGES: &[Ending] = &[
+    (
+        FORM,
+        &[INIT, ZEROS, DESTROY, b"what comes after it"],
+        0,
+        &[REPLY, b"\x10\0\0\0\0\0\0\0\x02\0\0\0\0\0\0\0"],
+        b"what comes after it",
+    ),
+    (FORM, &[SHORT_LENGTH, b"the rest"], 4, &[], b"the rest"),
+    (
+        FORM,
+        &[INIT, ZEROS, b"twenty bytes, and so"],
+        4,
+        &[REPLY],
+        b"",
+    ),
+];
+
+fn last_messages() -> &'static [Ending] {
+    LAST_MESSAGES
+}
+
+#[test]
+fn what_comes_after_the_last_message_is_unread(rt: HostRuntime) -> Result<(), AllocError> {
+    expect_endings(&rt, last_messages())
+}
+
+/// No thread, an empty page, and no words.
+const WORDS: &[Ending] = &[
+    (
+        &[b"serve", b"0", b"all", b"0", b"4096"],
+        &[INIT, ZEROS],
+        10,
+        &[REPLY],
+        b"",
+    ),
+    (&[b"serve", b"1", b"all", b"0", b"0"], &[INIT], 2, &[], INIT),
+    (&[], &[INIT], 2, &[], INIT),
+];
+
+fn words() -> &'static [Ending] {
+    WORDS
+}
+
+#[test]
+fn words_say_the_status(rt: HostRuntime) -> Result<(), AllocError> {
+    expect_endings(&rt, words())
 }
 
 /// An input that fails after its bytes, and tells none of them.
@@ -313,39 +290,56 @@ impl ByteSink for FailingOutput {
     }
 }
 
+/// INIT, and these parts after it.
+fn after_init(alloc: Global, parts: &[&[u8]]) -> Result<Vec<u8>, AllocError> {
+    let mut bytes = joined(alloc, &[INIT, ZEROS])?;
+    for part in parts {
+        bytes.extend_from_slice(part)?;
+    }
+    Ok(bytes)
+}
+
+/// Its reply.
+fn reply() -> &'static [u8] {
+    REPLY
+}
+
 #[test]
-fn an_input_that_fails_has_its_status(rt: HostRuntime) -> Result<(), Fail> {
+fn an_input_that_fails_has_its_status(rt: HostRuntime) -> Result<(), AllocError> {
     let alloc = rt.alloc();
+    let bytes = after_init(alloc, &[])?;
     let input = FailingInput {
-        inner: MemoryBytes::new(joined(alloc, &[INIT, ZEROS])?, 1000, Vec::new(alloc)),
+        inner: MemoryBytes::new(bytes, 1000, Vec::new(alloc)),
         faults: 0,
     };
     let output = MemoryOut::new(alloc, 1000, Vec::new(alloc));
-    let served = serve(&rt, &FORM, input, output);
-    assert_eq!(rt; served.status, 7);
-    assert_eq!(rt; served.output.bytes(), REPLY.as_slice());
+    let served = served(&rt, form(), input, output);
+    expect_same(&rt, &(served.status, served.output.bytes()), &(7, reply()));
     Ok(())
 }
 
 #[test]
-fn an_output_that_fails_has_its_status(rt: HostRuntime) -> Result<(), Fail> {
+fn an_output_that_fails_has_its_status(rt: HostRuntime) -> Result<(), AllocError> {
     let alloc = rt.alloc();
-    let bytes = joined(alloc, &[INIT, ZEROS, DESTROY])?;
+    let bytes = after_init(alloc, &[DESTROY])?;
     let input = MemoryBytes::new(bytes, 1000, Vec::new(alloc));
     let output = FailingOutput {
         inner: MemoryOut::new(alloc, 1000, Vec::new(alloc)),
         left: 2,
         faults: 0,
     };
-    let served = serve(&rt, &FORM, input, output);
-    assert_eq!(rt; served.status, 8);
-    assert_eq!(rt; served.output.inner.bytes(), REPLY.as_slice());
+    let served = served(&rt, form(), input, output);
+    expect_same(
+        &rt,
+        &(served.status, served.output.inner.bytes()),
+        &(8, reply()),
+    );
     Ok(())
 }
 
 /// INIT and two LOOKUPs, and an output that fails at its third write, which is the first after those of the reply to INIT.
 fn two_lookups(alloc: Global) -> Result<(MemoryBytes, MemoryOut), AllocError> {
-    let bytes = joined(alloc, &[INIT, ZEROS, LOOKUP, NEXT_LOOKUP])?;
+    let bytes = after_init(alloc, &[LOOKUP, NEXT_LOOKUP])?;
     let faults = [3].to_vec(alloc)?;
     Ok((
         MemoryBytes::new(bytes, 1000, Vec::new(alloc)),
@@ -354,68 +348,47 @@ fn two_lookups(alloc: Global) -> Result<(MemoryBytes, MemoryOut), AllocError> {
 }
 
 #[test]
-fn all_after_a_failed_write_is_lost(rt: HostRuntime) -> Result<(), Fail> {
+fn all_after_a_failed_write_is_lost(rt: HostRuntime) -> Result<(), AllocError> {
     let (input, output) = two_lookups(rt.alloc())?;
-    let served = serve(&rt, &FORM, input, output);
-    assert_eq!(rt; served.status, 8);
-    assert_eq!(rt; served.output.bytes(), REPLY.as_slice());
+    let served = served(&rt, form(), input, output);
+    expect_same(&rt, &(served.status, served.output.bytes()), &(8, reply()));
     Ok(())
 }
 
 #[test]
-fn all_after_a_failed_write_counts_as_lost(rt: HostRuntime) -> Result<(), Fail> {
+fn all_after_a_failed_write_counts_as_lost(rt: HostRuntime) -> Result<(), AllocError> {
     let (input, output) = two_lookups(rt.alloc())?;
-    let mut config = Config::new(rt.alloc());
-    config.acl = SessionACL::All;
-    config.n_threads = Some(1);
+    let (source, sink) = (StreamSource::new(input), StreamSink::new(output));
     let Ended {
         filesystem: _,
         source,
         sink,
         outcome,
         transcript,
-    } = mount(
-        &rt,
-        Hello,
-        StreamSource::new(input),
-        StreamSink::new(output),
-        0,
-        4096,
-        &config,
-    );
+    } = mount_tree(&rt, Some(1), SessionACL::All, 0, source, sink);
     drop(source.into_inner());
-    assert_eq!(rt; outcome, Ok(()));
-    assert_eq!(rt; transcript.received, 3);
-    assert_eq!(rt; transcript.frames, 1);
-    assert_eq!(rt; transcript.lost, 2);
-    assert!(rt; sink.broken(), "a write failed");
-    assert_eq!(rt; sink.into_inner().bytes(), REPLY.as_slice());
+    let broken = sink.broken();
+    let output = sink.into_inner();
+    let counts = (transcript.received, transcript.frames, transcript.lost);
+    expect_same(&rt, &(outcome, counts, broken), &(Ok(()), (3, 1, 2), true));
+    expect_same(&rt, &output.bytes(), &reply());
     Ok(())
 }
 
 #[test]
-fn devices_that_tell_nothing_are_served(rt: HostRuntime) -> Result<(), Fail> {
-    let alloc = rt.alloc();
-    let bytes = joined(alloc, &[INIT, ZEROS])?;
-    let mut written = Vec::new(alloc);
-    let status = run(&rt, &FORM, bytes.as_slice(), &mut written);
-    assert_eq!(rt; status, 0);
-    assert_eq!(rt; written.as_slice(), REPLY.as_slice());
-    let mut unserved = Vec::new(alloc);
-    let unserved_status = run(
-        &rt,
-        &[b"serve", b"0", b"all", b"0", b"4096"],
-        bytes.as_slice(),
-        &mut unserved,
-    );
-    assert_eq!(rt;
-        (unserved_status, unserved.as_slice()),
-        (10, REPLY.as_slice())
-    );
-    let mut unread = Vec::new(alloc);
-    let short_status = run(&rt, &FORM, FRONT.as_slice(), &mut unread);
-    assert_eq!(rt; (short_status, unread.len()), (4, 0));
-    assert_eq!(rt; run(&rt, &[b"serve"], bytes.as_slice(), &mut unread), 2);
-    assert_eq!(rt; unread.len(), 0);
+fn devices_that_tell_nothing_are_served(rt: HostRuntime) -> Result<(), AllocError> {
+    let bytes = after_init(rt.alloc(), &[])?;
+    let mut written = Vec::new(rt.alloc());
+    let status = status_over(&rt, form(), &bytes, &mut written);
+    expect_same(&rt, &(status, written.as_slice()), &(0, reply()));
+    let mut unserved = Vec::new(rt.alloc());
+    let idle: [&[u8]; 5] = [b"serve", b"0", b"all", b"0", b"4096"];
+    let unserved_status = status_over(&rt, &idle, &bytes, &mut unserved);
+    expect_same(&rt, &(unserved_status, unserved.as_slice()), &(10, reply()));
+    let mut unread = Vec::new(rt.alloc());
+    let short_status = status_over(&rt, form(), FRONT, &mut unread);
+    expect_same(&rt, &(short_status, unread.len()), &(4, 0));
+    let no_form_status = status_over(&rt, &[b"serve"], &bytes, &mut unread);
+    expect_same(&rt, &(no_form_status, unread.len()), &(2, 0));
     Ok(())
 }

@@ -1,0 +1,128 @@
+// Runs of the program and of its tree over memory, and what they come to.
+use crate::hello::Hello;
+use crate::program::{Served, serve};
+use crate::run;
+use fuse_config::{Config, SessionACL};
+use fuse_session::{Ended, mount};
+use fuse_wire::{ByteRead, ByteSink, ByteSource, MemoryBytes, MemoryOut, Sink, Source};
+use std::alloc::{AllocError, Global};
+use std::sync::Wait;
+use std::thread::Threads;
+
+/// The words of a form with one thread.
+pub(crate) const FORM: &[&[u8]] = &[b"serve", b"1", b"all", b"0", b"4096"];
+
+/// The same, written once: a constant stands anew in each function that names it.
+pub(crate) fn form() -> &'static [&'static [u8]] {
+    FORM
+}
+
+/// These parts joined.
+pub(crate) fn joined(alloc: Global, parts: &[&[u8]]) -> Result<Vec<u8>, AllocError> {
+    let mut bytes = Vec::new(alloc);
+    for part in parts {
+        bytes.extend_from_slice(part)?;
+    }
+    Ok(bytes)
+}
+
+/// What the program came to: its status, what it wrote, and what it left unread.
+#[derive(Drop)]
+pub(crate) struct Run {
+    pub(crate) status: u8,
+    pub(crate) written: Vec<u8>,
+    pub(crate) unread: Vec<u8>,
+}
+
+/// What is left of the input.
+fn rest_of(alloc: Global, input: &mut MemoryBytes) -> Result<Vec<u8>, AllocError> {
+    let mut rest = Vec::new(alloc);
+    for _ in 0..1000 {
+        let mut piece = [0];
+        if let ByteRead::Got(_) = input.read(&mut piece) {
+            rest.push(piece[0])?;
+        }
+    }
+    Ok(rest)
+}
+
+/// What is left of a run over memory.
+fn left_of(alloc: Global, served: Served<MemoryBytes, MemoryOut>) -> Result<Run, AllocError> {
+    let Served {
+        status,
+        mut input,
+        output,
+    } = served;
+    let unread = rest_of(alloc, &mut input);
+    drop(input);
+    let written = output.bytes().to_vec(alloc);
+    drop(output);
+    Ok(Run {
+        status,
+        written: written?,
+        unread: unread?,
+    })
+}
+
+/// Runs the program over these devices. Nothing is said of what comes of it: a test is to see that.
+pub(crate) fn served<R: Threads + Wait + AllocGlobal + Sync, I: ByteSource, O: ByteSink + Send>(
+    rt: &R,
+    words: &[&[u8]],
+    input: I,
+    output: O,
+) -> Served<I, O> {
+    serve(rt, words, input, output)
+}
+
+/// The same over devices in memory.
+pub(crate) fn run_over<R: Threads + Wait + AllocGlobal + Sync>(
+    rt: &R,
+    words: &[&[u8]],
+    input: MemoryBytes,
+    output: MemoryOut,
+) -> Result<Run, AllocError> {
+    left_of(rt.alloc(), served(rt, words, input, output))
+}
+
+/// The same over these bytes, so many of which are read or written at a time.
+pub(crate) fn run_in_steps<R: Threads + Wait + AllocGlobal + Sync>(
+    rt: &R,
+    words: &[&[u8]],
+    parts: &[&[u8]],
+    step: usize,
+) -> Result<Run, AllocError> {
+    let alloc = rt.alloc();
+    let step = step.max(1);
+    let input = MemoryBytes::new(joined(alloc, parts)?, step, Vec::new(alloc));
+    run_over(
+        rt,
+        words,
+        input,
+        MemoryOut::new(alloc, step, Vec::new(alloc)),
+    )
+}
+
+/// The status of a run over devices that tell nothing.
+pub(crate) fn status_over<R: Threads + Wait + AllocGlobal + Sync>(
+    rt: &R,
+    words: &[&[u8]],
+    input: &[u8],
+    output: &mut Vec<u8>,
+) -> u8 {
+    run(rt, words, input, output)
+}
+
+/// A session of the tree over these devices, for this user, on so many threads. Nothing is said of what comes of it.
+pub(crate) fn mount_tree<R: Threads + Wait + AllocGlobal + Sync, S: Source, K: Sink + Send>(
+    rt: &R,
+    n_threads: Option<usize>,
+    acl: SessionACL,
+    owner: u32,
+    source: S,
+    sink: K,
+) -> Ended<Hello, S, K> {
+    let mut config = Config::new(rt.alloc());
+    config.acl = acl;
+    config.n_threads = n_threads;
+    mount(rt, Hello, source, sink, owner, 4096, &config)
+}
