@@ -1,6 +1,6 @@
 // The tree in sessions from memory to memory: each request, and what it gets.
 use crate::asserts::expect_same;
-use crate::runs::mount_tree;
+use crate::runs::{joined, mount_tree};
 use fuse_config::SessionACL;
 use fuse_session::Ended;
 use fuse_wire::{Items, MemorySink, MemorySource, RequestId, Turn};
@@ -9,18 +9,34 @@ use std::process::Abort;
 use std::sync::Wait;
 use std::thread::Threads;
 
+/// Bytes in parts.
+type Parts = &'static [&'static [u8]];
+
 /// A request, by its opcode, its node, its user and its body.
-type Asked<'a> = (u16, u8, u8, &'a [u8]);
+type Asked = (u16, u8, u8, Parts);
 
 /// A frame for the id 2, by the lowest byte of its status and its payload.
-type Sent<'a> = (u8, &'a [u8]);
+type Sent = (u8, Parts);
 
 /// A request of anybody, by its opcode, its node and its body, and the lowest byte of the status and the payload that it gets.
-type Case<'a> = (u16, u8, &'a [u8], u8, &'a [u8]);
+type Case = (u16, u8, Parts, u8, Parts);
 
 /// A length below 256.
 fn short(length: usize) -> u8 {
     length.min(255) as u8
+}
+
+/// The header of a message with the id 2, gid and pid 0, and a body of this length.
+fn header(opcode: u16, node: u8, uid: u8, length: usize) -> [u8; 40] {
+    let [low, high] = opcode.to_le_bytes();
+    let mut bytes = [0; 40];
+    bytes[0] = short(length.saturating_add(40));
+    bytes[4] = low;
+    bytes[5] = high;
+    bytes[8] = 2;
+    bytes[16] = node;
+    bytes[24] = uid;
+    bytes
 }
 
 /// A message with the id 2, gid and pid 0, and this body.
@@ -29,80 +45,37 @@ fn message(
     opcode: u16,
     node: u8,
     uid: u8,
-    body: &[u8],
+    body: Parts,
 ) -> Result<Vec<u8>, AllocError> {
-    let mut bytes = vec![in alloc; 0; 40]?;
-    bytes[0] = short(body.len().saturating_add(40));
-    bytes[4..6].copy_from_slice(&opcode.to_le_bytes());
-    bytes[8] = 2;
-    bytes[16] = node;
-    bytes[24] = uid;
-    bytes.extend_from_slice(body)?;
-    Ok(bytes)
+    let body = joined(alloc, body)?;
+    joined(alloc, &[&header(opcode, node, uid, body.len()), &body])
 }
 
-/// The body of a READ.
-fn read(offset: u64, size: u8) -> [u8; 40] {
-    let mut bytes = [0; 40];
-    bytes[8..16].copy_from_slice(&offset.to_le_bytes());
-    bytes[16] = size;
-    bytes
+/// The header of a frame for the id 2: this status, whose lowest byte is given, and the length of its payload.
+fn frame_header(status: u8, length: usize) -> [u8; 16] {
+    let above = if status == 0 { 0 } else { 0xff };
+    let length = short(length.saturating_add(16));
+    [
+        length, 0, 0, 0, status, above, above, above, 2, 0, 0, 0, 0, 0, 0, 0,
+    ]
 }
 
 /// A frame for the id 2: this status, whose lowest byte is given, and this payload.
-fn frame(alloc: Global, status: u8, payload: &[u8]) -> Result<Vec<u8>, AllocError> {
-    let above = if status == 0 { 0 } else { 0xff };
-    let length = short(payload.len().saturating_add(16));
-    let mut bytes = [length, 0, 0, 0, status, above, above, above].to_vec(alloc)?;
-    bytes.extend_from_slice(&[2, 0, 0, 0, 0, 0, 0, 0])?;
-    bytes.extend_from_slice(payload)?;
-    Ok(bytes)
-}
-
-/// The attributes of a node: number, size, blocks, and the two lower bytes of its mode, and how many names it has.
-fn attributes(ino: u8, size: u8, blocks: u8, mode: [u8; 2], nlink: u8) -> [u8; 88] {
-    let mut bytes = [0; 88];
-    bytes[0] = ino;
-    bytes[8] = size;
-    bytes[16] = blocks;
-    bytes[60..62].copy_from_slice(&mode);
-    bytes[64] = nlink;
-    bytes[81] = 2;
-    bytes
-}
-
-/// An entry that holds for a second.
-fn entry(ino: u8, attributes: [u8; 88]) -> [u8; 128] {
-    let mut bytes = [0; 128];
-    bytes[0] = ino;
-    bytes[16] = 1;
-    bytes[24] = 1;
-    bytes[40..].copy_from_slice(&attributes);
-    bytes
-}
-
-/// Attributes that hold for a second.
-fn held(attributes: [u8; 88]) -> [u8; 104] {
-    let mut bytes = [0; 104];
-    bytes[0] = 1;
-    bytes[16..].copy_from_slice(&attributes);
-    bytes
+fn frame(alloc: Global, status: u8, payload: Parts) -> Result<Vec<u8>, AllocError> {
+    let payload = joined(alloc, payload)?;
+    joined(alloc, &[&frame_header(status, payload.len()), &payload])
 }
 
 /// INIT of version 7.8, with the id 1.
-fn init(alloc: Global) -> Result<Vec<u8>, AllocError> {
-    let mut bytes = [0; 104];
-    bytes[0] = 104;
-    bytes[4] = 26;
-    bytes[8] = 1;
-    bytes[40] = 7;
-    bytes[44] = 8;
-    bytes[49] = 0x10;
-    bytes.to_vec(alloc)
-}
+const INIT: Parts = &[
+    b"\x68\0\0\0\x1a\0\0\0\x01\0\0\0\0\0\0\0",
+    &[0; 24],
+    b"\x07\0\0\0\x08\0\0\0\0\x10\0\0",
+    &[0; 52],
+];
 
 /// These requests.
-fn messages_of(alloc: Global, requests: &[Asked<'_>]) -> Result<Vec<Vec<u8>>, AllocError> {
+fn messages_of(alloc: Global, requests: &[Asked]) -> Result<Vec<Vec<u8>>, AllocError> {
     let mut messages = Vec::new(alloc);
     for (opcode, node, uid, body) in requests {
         messages.push(message(alloc, *opcode, *node, *uid, body)?)?;
@@ -111,7 +84,7 @@ fn messages_of(alloc: Global, requests: &[Asked<'_>]) -> Result<Vec<Vec<u8>>, Al
 }
 
 /// These frames.
-fn frames_of(alloc: Global, replies: &[Sent<'_>]) -> Result<Vec<Vec<u8>>, AllocError> {
+fn frames_of(alloc: Global, replies: &[Sent]) -> Result<Vec<Vec<u8>>, AllocError> {
     let mut frames = Vec::new(alloc);
     for (status, payload) in replies {
         frames.push(frame(alloc, *status, payload)?)?;
@@ -126,8 +99,9 @@ fn turn(alloc: Global, message: &[u8]) -> Result<Turn, AllocError> {
 
 /// A source of an INIT and these requests.
 fn after_init(alloc: Global, requests: &[Vec<u8>]) -> Result<MemorySource, AllocError> {
+    let init = joined(alloc, INIT)?;
     let mut turns = Vec::new(alloc);
-    turns.push(Turn::Message(Items::from_vec(init(alloc)?)))?;
+    turns.push(turn(alloc, &init)?)?;
     for request in requests {
         turns.push(turn(alloc, request)?)?;
     }
@@ -267,29 +241,33 @@ fn passes(opcode: u16) -> bool {
 }
 
 /// The requests of these cases, of this user.
-fn asked_by(alloc: Global, uid: u8, cases: &[Case<'_>]) -> Result<Vec<Vec<u8>>, AllocError> {
+fn asked_by(alloc: Global, uid: u8, cases: &[&[Case]]) -> Result<Vec<Vec<u8>>, AllocError> {
     let mut messages = Vec::new(alloc);
-    for (opcode, node, body, _, _) in cases {
-        messages.push(message(alloc, *opcode, *node, uid, body)?)?;
+    for some in cases {
+        for (opcode, node, body, _, _) in *some {
+            messages.push(message(alloc, *opcode, *node, uid, body)?)?;
+        }
     }
     Ok(messages)
 }
 
 /// The frame of this case: its own where the user is served, and EACCES where not.
-fn answer(alloc: Global, is_served: bool, case: &Case<'_>) -> Result<Vec<u8>, AllocError> {
+fn answer(alloc: Global, is_served: bool, case: &Case) -> Result<Vec<u8>, AllocError> {
     let (opcode, _, _, status, payload) = *case;
     if is_served || passes(opcode) {
         frame(alloc, status, payload)
     } else {
-        frame(alloc, 0xf3, b"")
+        frame(alloc, 0xf3, &[])
     }
 }
 
 /// The frames of these cases.
-fn answers(alloc: Global, is_served: bool, cases: &[Case<'_>]) -> Result<Vec<Vec<u8>>, AllocError> {
+fn answers(alloc: Global, is_served: bool, cases: &[&[Case]]) -> Result<Vec<Vec<u8>>, AllocError> {
     let mut frames = Vec::new(alloc);
-    for case in cases {
-        frames.push(answer(alloc, is_served, case)?)?;
+    for some in cases {
+        for case in *some {
+            frames.push(answer(alloc, is_served, case)?)?;
+        }
     }
     Ok(frames)
 }
@@ -301,7 +279,7 @@ fn serve_user<R: Threads + Wait + AllocGlobal + Abort + Sync>(
     acl: SessionACL,
     uid: u8,
     is_served: bool,
-    cases: &[Case<'_>],
+    cases: &[&[Case]],
 ) -> Result<(), AllocError> {
     let messages = asked_by(rt.alloc(), uid, cases)?;
     let frames = answers(rt.alloc(), is_served, cases)?;
@@ -311,273 +289,356 @@ fn serve_user<R: Threads + Wait + AllocGlobal + Abort + Sync>(
 /// Serves requests of anybody, in one session, each with its one frame.
 fn serve_all<R: Threads + Wait + AllocGlobal + Abort + Sync>(
     rt: &R,
-    cases: &[Case<'_>],
+    cases: &[&[Case]],
 ) -> Result<(), AllocError> {
     serve_user(rt, SessionACL::All, 0, true, cases)
 }
 
-#[test]
-fn names_and_attributes(rt: HostRuntime) -> Result<(), AllocError> {
-    let hello = attributes(2, 13, 1, [0xa4, 0x81], 1);
-    let big = attributes(3, 200, 1, [0xa4, 0x81], 1);
-    let root = attributes(1, 0, 0, [0xed, 0x41], 2);
-    let cases: [Case<'_>; 10] = [
-        (1, 1, b"hello.txt\0", 0, &entry(2, hello)),
-        (1, 1, b"big\0hello.txt\0", 0, &entry(3, big)),
-        (1, 1, b"none\0", 0xfe, b""),
-        (1, 2, b"big\0", 0xfe, b""),
-        (1, 1, b"big", 0xda, b""),
-        (3, 1, &[0; 16], 0, &held(root)),
-        (3, 2, &[1; 16], 0, &held(hello)),
-        (3, 3, &[0; 16], 0, &held(big)),
-        (3, 4, &[0; 16], 0xfe, b""),
-        (3, 1, &[0; 15], 0xda, b""),
-    ];
-    serve_all(&rt, &cases)
+/// The attributes of `hello.txt`: node, size, blocks, four times, mode, names, owner, and the size of a block.
+const HELLO: &[u8; 88] =
+    b"\x02\0\0\0\0\0\0\0\x0d\0\0\0\0\0\0\0\x01\0\0\0\0\0\0\0\0\0\0\0\0\0\0\0\0\0\0\0\0\0\0\0\0\0\0\0\0\0\0\0\0\0\0\0\0\0\0\0\0\0\0\0\xa4\x81\0\0\x01\0\0\0\0\0\0\0\0\0\0\0\0\0\0\0\0\x02\0\0\0\0\0\0";
+
+/// The same of `big`.
+const BIG: &[u8; 88] =
+    b"\x03\0\0\0\0\0\0\0\xc8\0\0\0\0\0\0\0\x01\0\0\0\0\0\0\0\0\0\0\0\0\0\0\0\0\0\0\0\0\0\0\0\0\0\0\0\0\0\0\0\0\0\0\0\0\0\0\0\0\0\0\0\xa4\x81\0\0\x01\0\0\0\0\0\0\0\0\0\0\0\0\0\0\0\0\x02\0\0\0\0\0\0";
+
+/// The same of the directory.
+const ROOT: &[u8; 88] =
+    b"\x01\0\0\0\0\0\0\0\0\0\0\0\0\0\0\0\0\0\0\0\0\0\0\0\0\0\0\0\0\0\0\0\0\0\0\0\0\0\0\0\0\0\0\0\0\0\0\0\0\0\0\0\0\0\0\0\0\0\0\0\xedA\0\0\x02\0\0\0\0\0\0\0\0\0\0\0\0\0\0\0\0\x02\0\0\0\0\0\0";
+
+/// An entry of node 2 that holds for a second, but for its attributes.
+const ENTRY_2: &[u8; 40] =
+    b"\x02\0\0\0\0\0\0\0\0\0\0\0\0\0\0\0\x01\0\0\0\0\0\0\0\x01\0\0\0\0\0\0\0\0\0\0\0\0\0\0\0";
+
+/// The same of node 3.
+const ENTRY_3: &[u8; 40] =
+    b"\x03\0\0\0\0\0\0\0\0\0\0\0\0\0\0\0\x01\0\0\0\0\0\0\0\x01\0\0\0\0\0\0\0\0\0\0\0\0\0\0\0";
+
+/// Attributes that hold for a second, but for these.
+const HELD: &[u8; 16] = b"\x01\0\0\0\0\0\0\0\0\0\0\0\0\0\0\0";
+
+/// The front and the end of the body of READ, READDIR and READDIRPLUS, between which offset and size stand.
+const FH: &[u8; 8] = &[0; 8];
+
+const REST: &[u8; 20] = &[0; 20];
+
+/// Offset 0 and a size of 100.
+const READ_100: &[u8; 12] = b"\0\0\0\0\0\0\0\0d\0\0\0";
+
+/// The numbers from 0 to 140.
+const FIRST_NUMBERS: &[u8; 141] = &[
+    0, 1, 2, 3, 4, 5, 6, 7, 8, 9, 10, 11, 12, 13, 14, 15, 16, 17, 18, 19, 20, 21, 22, 23, 24, 25,
+    26, 27, 28, 29, 30, 31, 32, 33, 34, 35, 36, 37, 38, 39, 40, 41, 42, 43, 44, 45, 46, 47, 48, 49,
+    50, 51, 52, 53, 54, 55, 56, 57, 58, 59, 60, 61, 62, 63, 64, 65, 66, 67, 68, 69, 70, 71, 72, 73,
+    74, 75, 76, 77, 78, 79, 80, 81, 82, 83, 84, 85, 86, 87, 88, 89, 90, 91, 92, 93, 94, 95, 96, 97,
+    98, 99, 100, 101, 102, 103, 104, 105, 106, 107, 108, 109, 110, 111, 112, 113, 114, 115, 116,
+    117, 118, 119, 120, 121, 122, 123, 124, 125, 126, 127, 128, 129, 130, 131, 132, 133, 134, 135,
+    136, 137, 138, 139, 140,
+];
+
+/// The numbers from 141 to 199.
+const LAST_NUMBERS: &[u8; 59] = &[
+    141, 142, 143, 144, 145, 146, 147, 148, 149, 150, 151, 152, 153, 154, 155, 156, 157, 158, 159,
+    160, 161, 162, 163, 164, 165, 166, 167, 168, 169, 170, 171, 172, 173, 174, 175, 176, 177, 178,
+    179, 180, 181, 182, 183, 184, 185, 186, 187, 188, 189, 190, 191, 192, 193, 194, 195, 196, 197,
+    198, 199,
+];
+
+/// The entries of the directory: `struct fuse_dirent` with a name, whose type is that of `dirent.h`.
+const HERE: &[u8; 32] = b"\x01\0\0\0\0\0\0\0\x01\0\0\0\0\0\0\0\x01\0\0\0\x04\0\0\0.\0\0\0\0\0\0\0";
+
+const ABOVE: &[u8; 32] = b"\x01\0\0\0\0\0\0\0\x02\0\0\0\0\0\0\0\x02\0\0\0\x04\0\0\0..\0\0\0\0\0\0";
+
+const HELLO_ENTRY: &[u8; 40] =
+    b"\x02\0\0\0\0\0\0\0\x03\0\0\0\0\0\0\0\x09\0\0\0\x08\0\0\0hello.txt\0\0\0\0\0\0\0";
+
+const BIG_ENTRY: &[u8; 32] =
+    b"\x03\0\0\0\0\0\0\0\x04\0\0\0\0\0\0\0\x03\0\0\0\x08\0\0\0big\0\0\0\0\0";
+
+const NAMES: &[Case] = &[
+    (1, 1, &[b"hello.txt\0"], 0, &[ENTRY_2, HELLO]),
+    (1, 1, &[b"big\0hello.txt\0"], 0, &[ENTRY_3, BIG]),
+    (1, 1, &[b"none\0"], 0xfe, &[]),
+    (1, 2, &[b"big\0"], 0xfe, &[]),
+    (1, 1, &[b"big"], 0xda, &[]),
+    (3, 1, &[&[0; 16]], 0, &[HELD, ROOT]),
+    (3, 2, &[&[1; 16]], 0, &[HELD, HELLO]),
+    (3, 3, &[&[0; 16]], 0, &[HELD, BIG]),
+    (3, 4, &[&[0; 16]], 0xfe, &[]),
+    (3, 1, &[&[0; 15]], 0xda, &[]),
+];
+
+/// The same, written once: a constant stands anew in each function that names it.
+fn names() -> &'static [Case] {
+    NAMES
 }
 
-/// The numbers below 200.
-fn numbers(alloc: Global) -> Result<Vec<u8>, AllocError> {
-    let mut numbers = Vec::new(alloc);
-    for number in 0..200u8 {
-        numbers.push(number)?;
-    }
-    Ok(numbers)
+#[test]
+fn names_and_attributes(rt: HostRuntime) -> Result<(), AllocError> {
+    serve_all(&rt, &[names()])
+}
+
+const CONTENTS: &[Case] = &[
+    (
+        15,
+        2,
+        &[FH, b"\0\0\0\0\0\0\0\0d\0\0\0", REST],
+        0,
+        &[b"Hello World!\n"],
+    ),
+    (
+        15,
+        2,
+        &[FH, b"\x06\0\0\0\0\0\0\0\x05\0\0\0", REST],
+        0,
+        &[b"World"],
+    ),
+    (15, 2, &[FH, b"\x0d\0\0\0\0\0\0\0\x05\0\0\0", REST], 0, &[]),
+    (
+        15,
+        2,
+        &[FH, b"\xff\xff\xff\xff\xff\xff\xff\x7f\x05\0\0\0", REST],
+        0,
+        &[],
+    ),
+    (
+        15,
+        2,
+        &[FH, b"\0\0\0\0\0\0\0\x80\x05\0\0\0", REST],
+        0xea,
+        &[],
+    ),
+    (
+        15,
+        3,
+        &[FH, b"\0\0\0\0\0\0\0\0\xff\0\0\0", REST],
+        0,
+        &[FIRST_NUMBERS, LAST_NUMBERS],
+    ),
+    (
+        15,
+        3,
+        &[FH, b"\x8d\0\0\0\0\0\0\0d\0\0\0", REST],
+        0,
+        &[LAST_NUMBERS],
+    ),
+    (15, 1, &[FH, b"\0\0\0\0\0\0\0\0\x05\0\0\0", REST], 0xfe, &[]),
+];
+
+fn readings() -> &'static [Case] {
+    CONTENTS
 }
 
 #[test]
 fn contents(rt: HostRuntime) -> Result<(), AllocError> {
-    let numbers = numbers(rt.alloc())?;
-    let cases: [Case<'_>; 8] = [
-        (15, 2, &read(0, 100), 0, b"Hello World!\n"),
-        (15, 2, &read(6, 5), 0, b"World"),
-        (15, 2, &read(13, 5), 0, b""),
-        (15, 2, &read(0x7fff_ffff_ffff_ffff, 5), 0, b""),
-        (15, 2, &read(0x8000_0000_0000_0000, 5), 0xea, b""),
-        (15, 3, &read(0, 255), 0, numbers.as_slice()),
-        (15, 3, &read(141, 100), 0, numbers.get(141..).unwrap_or(&[])),
-        (15, 1, &read(0, 5), 0xfe, b""),
-    ];
-    serve_all(&rt, &cases)
+    serve_all(&rt, &[readings()])
 }
 
-/// The body of a BATCH_FORGET: one lookup of node 2, and four of node 3.
-const TWO_ROWS: [u8; 40] = [
-    2, 0, 0, 0, 0, 0, 0, 0, 2, 0, 0, 0, 0, 0, 0, 0, 1, 0, 0, 0, 0, 0, 0, 0, 3, 0, 0, 0, 0, 0, 0, 0,
-    4, 0, 0, 0, 0, 0, 0, 0,
+/// Two rows of BATCH_FORGET but for the last byte: one lookup of node 2, and four of node 3.
+const TWO_ROWS: &[u8; 39] =
+    b"\x02\0\0\0\0\0\0\0\x02\0\0\0\0\0\0\0\x01\0\0\0\0\0\0\0\x03\0\0\0\0\0\0\0\x04\0\0\0\0\0\0";
+
+/// Two forgets, the second of which is cut short, three of many, the last of which is, and requests of whom it does not serve.
+const FORGETS: &[Asked] = &[
+    (2, 2, 5, &[b"\x01\0\0\0\0\0\0\0"]),
+    (2, 2, 5, &[b"\x01\0\0\0\0\0\0"]),
+    (42, 0, 5, &[TWO_ROWS, b"\0"]),
+    (42, 0, 5, &[&[0; 8]]),
+    (42, 0, 5, &[TWO_ROWS]),
+    (7, 1, 5, &[]),
+    (1, 1, 5, &[b"big\0"]),
+    (15, 2, 5, &[FH, READ_100, REST]),
 ];
+
+const AFTER_FORGETS: &[Sent] = &[
+    (0xda, &[]),
+    (0xda, &[]),
+    (0xda, &[]),
+    (0xf3, &[]),
+    (0, &[b"Hello World!\n"]),
+];
+
+const NOTES: &[(RequestId, u64)] = &[(RequestId(2), 1), (RequestId(2), 2), (RequestId(2), 0)];
 
 #[test]
 fn forgets_and_whom_it_serves(rt: HostRuntime) -> Result<(), AllocError> {
-    let text = read(0, 100);
-    // Two forgets, the second of which is cut short, and three of many, the last of which is.
-    let requests: [Asked<'_>; 8] = [
-        (2, 2, 5, &[1, 0, 0, 0, 0, 0, 0, 0]),
-        (2, 2, 5, &[1, 0, 0, 0, 0, 0, 0]),
-        (42, 0, 5, &TWO_ROWS),
-        (42, 0, 5, &[0; 8]),
-        (42, 0, 5, TWO_ROWS.get(..39).unwrap_or(&[])),
-        (7, 1, 5, b""),
-        (1, 1, 5, b"big\0"),
-        (15, 2, 5, &text),
-    ];
-    let replies: [Sent<'_>; 5] = [
-        (0xda, b""),
-        (0xda, b""),
-        (0xda, b""),
-        (0xf3, b""),
-        (0, b"Hello World!\n"),
-    ];
-    let notes = [(RequestId(2), 1), (RequestId(2), 2), (RequestId(2), 0)];
-    let messages = messages_of(rt.alloc(), &requests)?;
-    let frames = frames_of(rt.alloc(), &replies)?;
-    serves(&rt, SessionACL::Owner, &messages, &frames, &notes)
+    let messages = messages_of(rt.alloc(), FORGETS)?;
+    let frames = frames_of(rt.alloc(), AFTER_FORGETS)?;
+    serves(&rt, SessionACL::Owner, &messages, &frames, NOTES)
 }
 
-/// A LOOKUP of a name that is not there, of root and of the owner, one of a file of another, and again the first: with
-/// these statuses under this rule.
+/// A LOOKUP of a name that is not there, of root and of the owner, one of a file of another, and again the first.
+const USERS: &[Asked] = &[
+    (1, 1, 0, &[b"none\0"]),
+    (1, 1, 7, &[b"none\0"]),
+    (1, 1, 5, &[b"big\0"]),
+    (1, 1, 0, &[b"none\0"]),
+];
+
+const ROOT_AND_OWNER: &[Sent] = &[(0xfe, &[]), (0xfe, &[]), (0xf3, &[]), (0xfe, &[])];
+
+const OWNER: &[Sent] = &[(0xf3, &[]), (0xfe, &[]), (0xf3, &[]), (0xf3, &[])];
+
+/// Serves them under this rule, each with its frame.
 fn serve_users<R: Threads + Wait + AllocGlobal + Abort + Sync>(
     rt: &R,
     acl: SessionACL,
-    [of_root, of_owner, of_another]: [u8; 3],
+    replies: &[Sent],
 ) -> Result<(), AllocError> {
-    let requests: [Asked<'_>; 4] = [
-        (1, 1, 0, b"none\0"),
-        (1, 1, 7, b"none\0"),
-        (1, 1, 5, b"big\0"),
-        (1, 1, 0, b"none\0"),
-    ];
-    let replies: [Sent<'_>; 4] = [
-        (of_root, b""),
-        (of_owner, b""),
-        (of_another, b""),
-        (of_root, b""),
-    ];
-    let messages = messages_of(rt.alloc(), &requests)?;
-    let frames = frames_of(rt.alloc(), &replies)?;
+    let messages = messages_of(rt.alloc(), USERS)?;
+    let frames = frames_of(rt.alloc(), replies)?;
     serves(rt, acl, &messages, &frames, &[])
 }
 
 #[test]
 fn root_is_served_where_the_rule_says_so(rt: HostRuntime) -> Result<(), AllocError> {
-    serve_users(&rt, SessionACL::RootAndOwner, [0xfe, 0xfe, 0xf3])?;
-    serve_users(&rt, SessionACL::Owner, [0xf3, 0xfe, 0xf3])
+    serve_users(&rt, SessionACL::RootAndOwner, ROOT_AND_OWNER)?;
+    serve_users(&rt, SessionACL::Owner, OWNER)
 }
 
-/// An entry of the directory: `struct fuse_dirent` with a name, whose type is that of `dirent.h`.
-fn dirent<const N: usize>(ino: u8, offset: u8, kind: u8, name: &[u8]) -> [u8; N] {
-    let mut bytes = [0; N];
-    for (place, byte) in [(0, ino), (8, offset), (16, short(name.len())), (20, kind)] {
-        if let Some(slot) = bytes.get_mut(place) {
-            *slot = byte;
-        }
-    }
-    for (slot, byte) in bytes.iter_mut().skip(24).zip(name) {
-        *slot = *byte;
-    }
-    bytes
-}
-
-/// All entries of the directory.
-fn entries(alloc: Global) -> Result<Vec<u8>, AllocError> {
-    let here: [u8; 32] = dirent(1, 1, 4, b".");
-    let above: [u8; 32] = dirent(1, 2, 4, b"..");
-    let hello: [u8; 40] = dirent(2, 3, 8, b"hello.txt");
-    let big: [u8; 32] = dirent(3, 4, 8, b"big");
-    let mut all = Vec::new(alloc);
-    all.extend_from_slice(&here)?;
-    all.extend_from_slice(&above)?;
-    all.extend_from_slice(&hello)?;
-    all.extend_from_slice(&big)?;
-    Ok(all)
-}
-
-/// A READDIR: its node, its offset and its size, the lowest byte of the status, and which bytes of all entries it gets, from
-/// the one place up to the other.
-const LISTINGS: &[(u8, u64, u8, u8, (usize, usize))] = &[
-    (1, 0, 136, 0, (0, 136)),
-    (1, 0, 135, 0, (0, 104)),
-    (1, 0, 63, 0, (0, 32)),
-    (1, 0, 31, 0, (0, 0)),
-    (1, 1, 103, 0, (32, 104)),
-    (1, 2, 255, 0, (64, 136)),
-    (1, 3, 255, 0, (104, 136)),
-    (1, 4, 255, 0, (0, 0)),
-    (1, 0x8000_0000_0000_0000, 255, 0, (0, 0)),
-    (2, 0, 255, 0xfe, (0, 0)),
+const LISTINGS: &[Case] = &[
+    (
+        28,
+        1,
+        &[FH, b"\0\0\0\0\0\0\0\0\x88\0\0\0", REST],
+        0,
+        &[HERE, ABOVE, HELLO_ENTRY, BIG_ENTRY],
+    ),
+    (
+        28,
+        1,
+        &[FH, b"\0\0\0\0\0\0\0\0\x87\0\0\0", REST],
+        0,
+        &[HERE, ABOVE, HELLO_ENTRY],
+    ),
+    (28, 1, &[FH, b"\0\0\0\0\0\0\0\0?\0\0\0", REST], 0, &[HERE]),
+    (28, 1, &[FH, b"\0\0\0\0\0\0\0\0\x1f\0\0\0", REST], 0, &[]),
+    (
+        28,
+        1,
+        &[FH, b"\x01\0\0\0\0\0\0\0g\0\0\0", REST],
+        0,
+        &[ABOVE, HELLO_ENTRY],
+    ),
+    (
+        28,
+        1,
+        &[FH, b"\x02\0\0\0\0\0\0\0\xff\0\0\0", REST],
+        0,
+        &[HELLO_ENTRY, BIG_ENTRY],
+    ),
+    (
+        28,
+        1,
+        &[FH, b"\x03\0\0\0\0\0\0\0\xff\0\0\0", REST],
+        0,
+        &[BIG_ENTRY],
+    ),
+    (28, 1, &[FH, b"\x04\0\0\0\0\0\0\0\xff\0\0\0", REST], 0, &[]),
+    (28, 1, &[FH, b"\0\0\0\0\0\0\0\x80\xff\0\0\0", REST], 0, &[]),
+    (28, 2, &[FH, b"\0\0\0\0\0\0\0\0\xff\0\0\0", REST], 0xfe, &[]),
 ];
 
-/// The requests of these listings.
-fn listing_requests(alloc: Global) -> Result<Vec<Vec<u8>>, AllocError> {
-    let mut messages = Vec::new(alloc);
-    for &(node, offset, size, _, _) in LISTINGS {
-        messages.push(message(alloc, 28, node, 0, &read(offset, size))?)?;
-    }
-    Ok(messages)
-}
-
-/// Their frames.
-fn listing_frames(alloc: Global) -> Result<Vec<Vec<u8>>, AllocError> {
-    let all = entries(alloc)?;
-    let mut frames = Vec::new(alloc);
-    for &(_, _, _, status, (from, to)) in LISTINGS {
-        let payload = all.get(from..to).unwrap_or(b"not so many bytes");
-        frames.push(frame(alloc, status, payload)?)?;
-    }
-    Ok(frames)
+fn listings() -> &'static [Case] {
+    LISTINGS
 }
 
 #[test]
 fn the_directory(rt: HostRuntime) -> Result<(), AllocError> {
-    let messages = listing_requests(rt.alloc())?;
-    let frames = listing_frames(rt.alloc())?;
-    serves(&rt, SessionACL::All, &messages, &frames, &[])
+    serve_all(&rt, &[listings()])
 }
 
-/// The body of a WRITE of five bytes.
-fn write(offset: u64) -> [u8; 45] {
-    let mut bytes = [0; 45];
-    bytes[8..16].copy_from_slice(&offset.to_le_bytes());
-    bytes[16] = 5;
-    bytes[40..].copy_from_slice(b"hello");
-    bytes
+/// No blocks and no inodes, a block of 512 bytes, and names of 255.
+const FULL: &[u8; 80] =
+    b"\0\0\0\0\0\0\0\0\0\0\0\0\0\0\0\0\0\0\0\0\0\0\0\0\0\0\0\0\0\0\0\0\0\0\0\0\0\0\0\0\0\x02\0\0\xff\0\0\0\0\0\0\0\0\0\0\0\0\0\0\0\0\0\0\0\0\0\0\0\0\0\0\0\0\0\0\0\0\0\0\0";
+
+/// A good message of each operation but the forgets.
+const FIRST_OPERATIONS: &[Case] = &[
+    (1, 1, &[b"hello.txt\0"], 0, &[ENTRY_2, HELLO]),
+    (3, 2, &[&[0; 16]], 0, &[HELD, HELLO]),
+    (4, 2, &[&[0; 88]], 0xda, &[]),
+    (5, 2, &[], 0xda, &[]),
+    (6, 1, &[b"link\0hello.txt\0"], 0xff, &[]),
+    (
+        8,
+        1,
+        &[b"\xa4\x81\0\0\0\0\0\0\0\0\0\0\0\0\0\0new\0"],
+        0xda,
+        &[],
+    ),
+    (9, 1, &[b"\xed\x01\0\0\0\0\0\0new\0"], 0xda, &[]),
+    (10, 1, &[b"big\0"], 0xda, &[]),
+    (11, 1, &[b"big\0"], 0xda, &[]),
+    (12, 1, &[b"\x01\0\0\0\0\0\0\0big\0new\0"], 0xda, &[]),
+    (13, 1, &[b"\x02\0\0\0\0\0\0\0again\0"], 0xff, &[]),
+    (14, 2, &[&[0; 8]], 0, &[&[0; 16]]),
+    (15, 2, &[FH, READ_100, REST], 0, &[b"Hello World!\n"]),
+    (16, 2, &[FH, FH, b"\x05\0\0\0", REST, b"hello"], 0xda, &[]),
+    (17, 1, &[], 0, &[FULL]),
+    (18, 2, &[&[0; 24]], 0, &[]),
+    (20, 2, &[&[0; 16]], 0xda, &[]),
+    (21, 2, &[b"\x01\0\0\0\0\0\0\0user.a\0b"], 0xda, &[]),
+    (22, 2, &[b"\xff\0\0\0\0\0\0\0user.a\0"], 0xda, &[]),
+    (23, 2, &[&[0; 8]], 0xda, &[]),
+    (24, 2, &[b"user.a\0"], 0xda, &[]),
+    (25, 2, &[&[0; 24]], 0xda, &[]),
+];
+
+fn first_operations() -> &'static [Case] {
+    FIRST_OPERATIONS
 }
 
-/// A good message of each operation but the forgets has the reply of the tree, and no other from whom it does not serve.
+const LAST_OPERATIONS: &[Case] = &[
+    (26, 0, &[&[0; 16]], 0xfb, &[]),
+    (27, 1, &[&[0; 8]], 0, &[&[0; 16]]),
+    (28, 1, &[FH, b"\0\0\0\0\0\0\0\0 \0\0\0", REST], 0, &[HERE]),
+    (29, 1, &[&[0; 24]], 0, &[]),
+    (30, 1, &[&[0; 16]], 0xda, &[]),
+    (31, 2, &[&[0; 48]], 0xda, &[]),
+    (32, 2, &[&[0; 48]], 0xda, &[]),
+    (33, 2, &[&[0; 48]], 0xda, &[]),
+    (34, 2, &[&[0; 8]], 0xda, &[]),
+    (
+        35,
+        1,
+        &[b"\0\0\0\0\xa4\x81\0\0\0\0\0\0\0\0\0\0new\0"],
+        0xda,
+        &[],
+    ),
+    (36, 0, &[&[0; 8]], 0xda, &[]),
+    (37, 2, &[&[0; 16]], 0xda, &[]),
+    (39, 2, &[&[0; 32]], 0xda, &[]),
+    (40, 2, &[&[0; 24]], 0xda, &[]),
+    (41, 2, &[b"hello"], 0xda, &[]),
+    (43, 2, &[&[0; 32]], 0xda, &[]),
+    (44, 1, &[FH, b"\0\0\0\0\0\0\0\0\x88\0\0\0", REST], 0xda, &[]),
+    (
+        45,
+        1,
+        &[b"\x01\0\0\0\0\0\0\0\x01\0\0\0\0\0\0\0big\0new\0"],
+        0xda,
+        &[],
+    ),
+    (
+        46,
+        2,
+        &[b"\0\0\0\0\0\0\0\0\xff\xff\xff\xff\xff\xff\xff\xff\0\0\0\0\0\0\0\0"],
+        0xda,
+        &[],
+    ),
+    (47, 2, &[&[0; 56]], 0xda, &[]),
+    (4096, 0, &[&[0; 64]], 0xda, &[]),
+    (38, 0, &[], 0, &[]),
+];
+
+fn last_operations() -> &'static [Case] {
+    LAST_OPERATIONS
+}
+
+/// Each has the reply of the tree, and no other from whom it does not serve.
 #[test]
 fn each_operation(rt: HostRuntime) -> Result<(), AllocError> {
-    let hello = attributes(2, 13, 1, [0xa4, 0x81], 1);
-    let here: [u8; 32] = dirent(1, 1, 4, b".");
-    // No blocks and no inodes, a block of 512 bytes, and names of 255.
-    let mut full = [0; 80];
-    full[41] = 2;
-    full[44] = 255;
-    let mut backward = [0; 24];
-    backward[8..16].copy_from_slice(&[0xff; 8]);
-    let cases: [Case<'_>; 44] = [
-        (1, 1, b"hello.txt\0", 0, &entry(2, hello)),
-        (3, 2, &[0; 16], 0, &held(hello)),
-        (4, 2, &[0; 88], 0xda, b""),
-        (5, 2, b"", 0xda, b""),
-        (6, 1, b"link\0hello.txt\0", 0xff, b""),
-        (
-            8,
-            1,
-            b"\xa4\x81\0\0\0\0\0\0\0\0\0\0\0\0\0\0new\0",
-            0xda,
-            b"",
-        ),
-        (9, 1, b"\xed\x01\0\0\0\0\0\0new\0", 0xda, b""),
-        (10, 1, b"big\0", 0xda, b""),
-        (11, 1, b"big\0", 0xda, b""),
-        (12, 1, b"\x01\0\0\0\0\0\0\0big\0new\0", 0xda, b""),
-        (13, 1, b"\x02\0\0\0\0\0\0\0again\0", 0xff, b""),
-        (14, 2, &[0; 8], 0, &[0; 16]),
-        (15, 2, &read(0, 100), 0, b"Hello World!\n"),
-        (16, 2, &write(0), 0xda, b""),
-        (17, 1, b"", 0, &full),
-        (18, 2, &[0; 24], 0, b""),
-        (20, 2, &[0; 16], 0xda, b""),
-        (21, 2, b"\x01\0\0\0\0\0\0\0user.a\0b", 0xda, b""),
-        (22, 2, b"\xff\0\0\0\0\0\0\0user.a\0", 0xda, b""),
-        (23, 2, &[0; 8], 0xda, b""),
-        (24, 2, b"user.a\0", 0xda, b""),
-        (25, 2, &[0; 24], 0xda, b""),
-        (26, 0, &[0; 16], 0xfb, b""),
-        (27, 1, &[0; 8], 0, &[0; 16]),
-        (28, 1, &read(0, 32), 0, &here),
-        (29, 1, &[0; 24], 0, b""),
-        (30, 1, &[0; 16], 0xda, b""),
-        (31, 2, &[0; 48], 0xda, b""),
-        (32, 2, &[0; 48], 0xda, b""),
-        (33, 2, &[0; 48], 0xda, b""),
-        (34, 2, &[0; 8], 0xda, b""),
-        (
-            35,
-            1,
-            b"\0\0\0\0\xa4\x81\0\0\0\0\0\0\0\0\0\0new\0",
-            0xda,
-            b"",
-        ),
-        (36, 0, &[0; 8], 0xda, b""),
-        (37, 2, &[0; 16], 0xda, b""),
-        (39, 2, &[0; 32], 0xda, b""),
-        (40, 2, &[0; 24], 0xda, b""),
-        (41, 2, b"hello", 0xda, b""),
-        (43, 2, &[0; 32], 0xda, b""),
-        (44, 1, &read(0, 136), 0xda, b""),
-        (
-            45,
-            1,
-            b"\x01\0\0\0\0\0\0\0\x01\0\0\0\0\0\0\0big\0new\0",
-            0xda,
-            b"",
-        ),
-        (46, 2, &backward, 0xda, b""),
-        (47, 2, &[0; 56], 0xda, b""),
-        (4096, 0, &[0; 64], 0xda, b""),
-        (38, 0, b"", 0, b""),
-    ];
-    serve_all(&rt, &cases)?;
-    serve_user(&rt, SessionACL::Owner, 5, false, &cases)
+    let operations = [first_operations(), last_operations()];
+    serve_all(&rt, &operations)?;
+    serve_user(&rt, SessionACL::Owner, 5, false, &operations)
 }
