@@ -1,42 +1,46 @@
 // Inputs and outputs that fail, one call at a time, over a stream of ten messages.
 use crate::asserts::expect_same;
-use crate::runs::{Run, form, run_over};
+use crate::runs::{Run, form, joined, run_over};
 use fuse_wire::{MemoryBytes, MemoryOut};
-use std::alloc::{AllocError, Global};
+use std::alloc::AllocError;
 use std::process::Abort;
 use std::sync::Wait;
 use std::thread::Threads;
 
-/// INIT of version 7.8 with the id 1, but for 48 zero bytes at its end.
-const INIT: &[u8; 56] =
-    b"\x68\0\0\0\x1a\0\0\0\x01\0\0\0\0\0\0\0\0\0\0\0\0\0\0\0\0\0\0\0\0\0\0\0\0\0\0\0\0\0\0\0\x07\0\0\0\x08\0\0\0\0\x10\0\0\0\0\0\0";
+/// INIT of version 7.8 with the id 1, eight LOOKUPs of a name that is not there, and DESTROY.
+const STREAM: &[&[u8]] = &[
+    b"\x68\0\0\0\x1a\0\0\0\x01\0\0\0\0\0\0\0\0\0\0\0\0\0\0\0\0\0\0\0\0\0\0\0\0\0\0\0\0\0\0\0\x07\0\0\0\x08\0\0\0\0\x10\0\0\0\0\0\0",
+    &[0; 48],
+    LOOKUP,
+    LOOKUP,
+    LOOKUP,
+    LOOKUP,
+    LOOKUP,
+    LOOKUP,
+    LOOKUP,
+    LOOKUP,
+    b"\x28\0\0\0\x26\0\0\0\x02\0\0\0\0\0\0\0\0\0\0\0\0\0\0\0",
+    &[0; 16],
+];
 
-/// Its reply.
-const REPLY: &[u8; 40] =
-    b"\x28\0\0\0\0\0\0\0\x01\0\0\0\0\0\0\0\x07\0\0\0\x28\0\0\0\0\x10\0\0\0\0\0\0\x10\0\x0c\0\0\0\0\x01";
-
-/// INIT, eight LOOKUPs of a name that is not there, and DESTROY.
-fn stream(alloc: Global) -> Result<Vec<u8>, AllocError> {
-    let mut bytes = INIT.to_vec(alloc)?;
-    bytes.extend_from_slice(&[0; 48])?;
-    for _ in 0..8 {
-        bytes.extend_from_slice(b"\x2d\0\0\0\x01\0\0\0\x02\0\0\0\0\0\0\0\x01\0\0\0\0\0\0\0")?;
-        bytes.extend_from_slice(b"\0\0\0\0\0\0\0\0\0\0\0\0\0\0\0\0none\0")?;
-    }
-    bytes.extend_from_slice(b"\x28\0\0\0\x26\0\0\0\x02\0\0\0\0\0\0\0\0\0\0\0\0\0\0\0")?;
-    bytes.extend_from_slice(&[0; 16])?;
-    Ok(bytes)
-}
+const LOOKUP: &[u8; 45] =
+    b"\x2d\0\0\0\x01\0\0\0\x02\0\0\0\0\0\0\0\x01\0\0\0\0\0\0\0\0\0\0\0\0\0\0\0\0\0\0\0\0\0\0\0none\0";
 
 /// All that the program writes for them.
-fn replies(alloc: Global) -> Result<Vec<u8>, AllocError> {
-    let mut bytes = REPLY.to_vec(alloc)?;
-    for _ in 0..8 {
-        bytes.extend_from_slice(b"\x10\0\0\0\xfe\xff\xff\xff\x02\0\0\0\0\0\0\0")?;
-    }
-    bytes.extend_from_slice(b"\x10\0\0\0\0\0\0\0\x02\0\0\0\0\0\0\0")?;
-    Ok(bytes)
-}
+const REPLIES: &[&[u8]] = &[
+    b"\x28\0\0\0\0\0\0\0\x01\0\0\0\0\0\0\0\x07\0\0\0\x28\0\0\0\0\x10\0\0\0\0\0\0\x10\0\x0c\0\0\0\0\x01",
+    NO_ENTRY,
+    NO_ENTRY,
+    NO_ENTRY,
+    NO_ENTRY,
+    NO_ENTRY,
+    NO_ENTRY,
+    NO_ENTRY,
+    NO_ENTRY,
+    b"\x10\0\0\0\0\0\0\0\x02\0\0\0\0\0\0\0",
+];
+
+const NO_ENTRY: &[u8; 16] = b"\x10\0\0\0\xfe\xff\xff\xff\x02\0\0\0\0\0\0\0";
 
 /// Runs the program over streams that fail at these calls.
 fn run_failing<R: Threads + Wait + AllocGlobal + Sync>(
@@ -45,7 +49,7 @@ fn run_failing<R: Threads + Wait + AllocGlobal + Sync>(
     writes: &[u64],
 ) -> Result<Run, AllocError> {
     let alloc = rt.alloc();
-    let bytes = stream(alloc)?;
+    let bytes = joined(alloc, STREAM)?;
     let reads = reads.to_vec(alloc)?;
     let writes = writes.to_vec(alloc)?;
     let input = MemoryBytes::new(bytes, 1000, reads);
@@ -62,7 +66,7 @@ fn ends_so<R: Threads + Wait + AllocGlobal + Abort + Sync>(
     left: usize,
 ) -> Result<(), AllocError> {
     let run = run_failing(rt, reads, writes)?;
-    let replies = replies(rt.alloc())?;
+    let replies = joined(rt.alloc(), REPLIES)?;
     let found = (run.status, Some(run.written.as_slice()), run.unread.len());
     let expected = (status, replies.get(..count), left);
     expect_same(rt, &(reads, writes, found), &(reads, writes, expected));

@@ -67,19 +67,28 @@ const ANSWERS: &[(&[u8], (u8, u8))] = &[
     (b"\x10\0\0\0\0\0\0\0\x07\0\0\0\0\0\0\0", (0, 0)),
 ];
 
+/// DESTROY with this id.
+fn destroy(id: u8) -> [u8; 40] {
+    let mut bytes = [0; 40];
+    bytes[0] = 0x28;
+    bytes[4] = 0x26;
+    bytes[8] = id;
+    bytes
+}
+
 /// The bytes of INIT, of these requests in parts, and of DESTROY with this id.
 fn stream_of(alloc: Global, requests: &[&[u8]], id: u8) -> Result<Vec<u8>, AllocError> {
-    let mut destroy = [0; 40];
-    destroy[0] = 0x28;
-    destroy[4] = 0x26;
-    destroy[8] = id;
-    let mut bytes = joined(alloc, INIT)?;
-    for part in requests {
-        bytes.extend_from_slice(part)?;
-    }
-    bytes.extend_from_slice(&destroy)?;
-    Ok(bytes)
+    let init = joined(alloc, INIT)?;
+    let requests = joined(alloc, requests)?;
+    joined(alloc, &[&init, &requests, &destroy(id)])
 }
+
+/// The words `gen 1 5`.
+fn five_words() -> &'static [&'static [u8]] {
+    FIVE_WORDS
+}
+
+const FIVE_WORDS: &[&[u8]] = &[b"gen", b"1", b"5"];
 
 /// The bytes that `gen 1 5` writes.
 fn five_requests_in_a_stream(alloc: Global) -> Result<Vec<u8>, AllocError> {
@@ -153,7 +162,7 @@ fn nothing_is_asked_between_init_and_destroy(rt: HostRuntime) -> Result<(), Allo
 fn five_requests(rt: HostRuntime) -> Result<(), AllocError> {
     let stream = five_requests_in_a_stream(rt.alloc())?;
     expect_same(&rt, &stream.len(), &519);
-    writes(&rt, &[b"gen", b"1", b"5"], &stream)
+    writes(&rt, five_words(), &stream)
 }
 
 /// A seed, and the request that it gives, in parts.
@@ -235,64 +244,89 @@ fn kinds() -> &'static [Kind] {
     KINDS
 }
 
+/// The seed gives just this request.
+fn gives<R: Threads + Wait + AllocGlobal + Abort + Sync>(
+    rt: &R,
+    seed: &[u8],
+    request: &[&[u8]],
+) -> Result<(), AllocError> {
+    let stream = stream_of(rt.alloc(), request, 3)?;
+    ends_so(rt, &[b"gen", seed, b"1"], 1000, &[], 0, &stream)
+}
+
 #[test]
 fn each_kind_of_request(rt: HostRuntime) -> Result<(), AllocError> {
     for (seed, request) in kinds() {
-        let stream = stream_of(rt.alloc(), request, 3)?;
-        ends_so(&rt, &[b"gen", *seed, b"1"], 1000, &[], 0, stream.as_slice())?;
+        gives(&rt, seed, request)?;
+    }
+    Ok(())
+}
+
+/// The words of a run, how many bytes its output takes at a time, the writes that fail, and its status and its bytes.
+pub(crate) type Ending = (
+    &'static [&'static [u8]],
+    usize,
+    &'static [u64],
+    u8,
+    &'static [u8],
+);
+
+/// Each of these runs ends so.
+pub(crate) fn end_so<R: Threads + Wait + AllocGlobal + Abort + Sync>(
+    rt: &R,
+    endings: &[Ending],
+) -> Result<(), AllocError> {
+    for (words, step, faults, status, written) in endings {
+        ends_so(rt, words, *step, faults, *status, written)?;
     }
     Ok(())
 }
 
 /// Words that are no form.
-const NO_FORMS: &[&[&[u8]]] = &[
-    &[b"gen", b"2147483648", b"0"],
-    &[b"gen", b"9999999999", b"0"],
-    &[b"gen", b"00000000001", b"0"],
-    &[b"gen", b"", b"0"],
-    &[b"gen", b"-1", b"0"],
-    &[b"gen", b"x", b"0"],
-    &[b"gen", b"1", b"65536"],
-    &[b"gen", b"1", b"00000000001"],
-    &[b"gen", b"1", b""],
-    &[b"gen", b"1", b"1x"],
-    &[b"gen", b"1"],
-    &[b"gen", b"1", b"5", b"2"],
-    &[b"Gen", b"1", b"5"],
-    &[b"load", b"1", b"5"],
+const NO_FORMS: &[Ending] = &[
+    (&[b"gen", b"2147483648", b"0"], 1000, &[], 2, b""),
+    (&[b"gen", b"9999999999", b"0"], 1000, &[], 2, b""),
+    (&[b"gen", b"00000000001", b"0"], 1000, &[], 2, b""),
+    (&[b"gen", b"", b"0"], 1000, &[], 2, b""),
+    (&[b"gen", b"-1", b"0"], 1000, &[], 2, b""),
+    (&[b"gen", b"x", b"0"], 1000, &[], 2, b""),
+    (&[b"gen", b"1", b"65536"], 1000, &[], 2, b""),
+    (&[b"gen", b"1", b"00000000001"], 1000, &[], 2, b""),
+    (&[b"gen", b"1", b""], 1000, &[], 2, b""),
+    (&[b"gen", b"1", b"1x"], 1000, &[], 2, b""),
+    (&[b"gen", b"1"], 1000, &[], 2, b""),
+    (&[b"gen", b"1", b"5", b"2"], 1000, &[], 2, b""),
+    (&[b"Gen", b"1", b"5"], 1000, &[], 2, b""),
+    (&[b"load", b"1", b"5"], 1000, &[], 2, b""),
 ];
 
 #[test]
 fn numbers_out_of_range_are_no_form(rt: HostRuntime) -> Result<(), AllocError> {
-    for words in NO_FORMS {
-        ends_so(&rt, words, 1000, &[], 2, b"")?;
-    }
-    Ok(())
+    end_so(&rt, NO_FORMS)
 }
 
-/// A write that fails, and how many bytes stand before it, where there is one write for each message.
-const FAULTS: &[(u64, usize)] = &[
-    (1, 0),
-    (2, 104),
-    (3, 189),
-    (4, 274),
-    (5, 319),
-    (6, 399),
-    (7, 479),
+/// How many bytes are written at a time, a write that fails, the status, and how many bytes stand before it. At 1000 there is
+/// one write for each message. At 30 there are four for INIT, and the second of the three for the next message fails.
+const FAULTS: &[(usize, u64, u8, usize)] = &[
+    (1000, 1, 8, 0),
+    (1000, 2, 8, 104),
+    (1000, 3, 8, 189),
+    (1000, 4, 8, 274),
+    (1000, 5, 8, 319),
+    (1000, 6, 8, 399),
+    (1000, 7, 8, 479),
+    (1000, 8, 0, 519),
+    (30, 6, 8, 134),
 ];
 
 #[test]
 fn each_write_of_the_stream_may_fail(rt: HostRuntime) -> Result<(), AllocError> {
     let stream = five_requests_in_a_stream(rt.alloc())?;
-    let words: [&[u8]; 3] = [b"gen", b"1", b"5"];
-    for (write, count) in FAULTS {
-        let front = stream.get(..*count).unwrap_or(b"not so many bytes");
-        ends_so(&rt, &words, 1000, &[*write], 8, front)?;
+    for &(step, write, status, count) in FAULTS {
+        let front = stream.get(..count).unwrap_or(b"not so many bytes");
+        ends_so(&rt, five_words(), step, &[write], status, front)?;
     }
-    ends_so(&rt, &words, 1000, &[8], 0, stream.as_slice())?;
-    // Four writes for INIT, and the second of the three for the next message.
-    let torn = stream.get(..134).unwrap_or(b"not so many bytes");
-    ends_so(&rt, &words, 30, &[6], 8, torn)
+    Ok(())
 }
 
 /// Runs the program on these words over these bytes.
@@ -317,7 +351,7 @@ fn answered<R: Threads + Wait + AllocGlobal + Sync>(rt: &R) -> Result<(u8, Run),
         status,
         written,
         unread,
-    } = run_of(rt, &[b"gen", b"1", b"5"], Vec::new(rt.alloc()))?;
+    } = run_of(rt, five_words(), Vec::new(rt.alloc()))?;
     drop(unread);
     let served = run_of(rt, form(), written)?;
     Ok((status, served))
@@ -337,7 +371,7 @@ fn a_session_answers_the_stream(rt: HostRuntime) -> Result<(), AllocError> {
 fn devices_that_tell_nothing_get_the_stream(rt: HostRuntime) -> Result<(), AllocError> {
     let stream = five_requests_in_a_stream(rt.alloc())?;
     let mut written = Vec::new(rt.alloc());
-    let status = status_over(&rt, &[b"gen", b"1", b"5"], b"input", &mut written);
+    let status = status_over(&rt, five_words(), b"input", &mut written);
     expect_same(&rt, &(status, written.as_slice()), &(0, stream.as_slice()));
     Ok(())
 }

@@ -2,7 +2,9 @@
 ghost use Rattle.std.specs.Prelude.{None};
 
 use crate::asserts::expect_same;
-use crate::runs::{FORM, Run, form, joined, mount_tree, run_in_steps, served, status_over};
+use crate::runs::{
+    FORM, Run, form, joined, mount_tree, run_in_steps, run_over, served, status_over,
+};
 use fuse_config::SessionACL;
 use fuse_session::Ended;
 use fuse_wire::{
@@ -224,15 +226,15 @@ fn what_comes_after_the_last_message_is_unread(rt: HostRuntime) -> Result<(), Al
     expect_endings(&rt, last_messages())
 }
 
+/// The words of a form without a thread.
+const IDLE: &[&[u8]] = &[b"serve", b"0", b"all", b"0", b"4096"];
+
+/// Words that are no form.
+const NO_FORM: &[&[u8]] = &[b"serve"];
+
 /// No thread, an empty page, and no words.
 const WORDS: &[Ending] = &[
-    (
-        &[b"serve", b"0", b"all", b"0", b"4096"],
-        &[INIT, ZEROS],
-        10,
-        &[REPLY],
-        b"",
-    ),
+    (IDLE, &[INIT, ZEROS], 10, &[REPLY], b""),
     (&[b"serve", b"1", b"all", b"0", b"0"], &[INIT], 2, &[], INIT),
     (&[], &[INIT], 2, &[], INIT),
 ];
@@ -350,8 +352,8 @@ fn two_lookups(alloc: Global) -> Result<(MemoryBytes, MemoryOut), AllocError> {
 #[test]
 fn all_after_a_failed_write_is_lost(rt: HostRuntime) -> Result<(), AllocError> {
     let (input, output) = two_lookups(rt.alloc())?;
-    let served = served(&rt, form(), input, output);
-    expect_same(&rt, &(served.status, served.output.bytes()), &(8, reply()));
+    let run = run_over(&rt, form(), input, output)?;
+    expect_same(&rt, &(run.status, run.written.as_slice()), &(8, reply()));
     Ok(())
 }
 
@@ -375,20 +377,38 @@ fn all_after_a_failed_write_counts_as_lost(rt: HostRuntime) -> Result<(), AllocE
     Ok(())
 }
 
+/// Over devices that tell nothing the program ends with this status, and writes these bytes.
+fn expect_untold<R: Threads + Wait + AllocGlobal + Abort + Sync>(
+    rt: &R,
+    words: &[&[u8]],
+    input: &[u8],
+    status: u8,
+    written: &[u8],
+) {
+    let mut output = Vec::new(rt.alloc());
+    let found = status_over(rt, words, input, &mut output);
+    expect_same(rt, &(found, output.as_slice()), &(status, written));
+}
+
+fn idle() -> &'static [&'static [u8]] {
+    IDLE
+}
+
+fn no_form() -> &'static [&'static [u8]] {
+    NO_FORM
+}
+
+/// The front of an INIT.
+fn front() -> &'static [u8] {
+    FRONT
+}
+
 #[test]
 fn devices_that_tell_nothing_are_served(rt: HostRuntime) -> Result<(), AllocError> {
     let bytes = after_init(rt.alloc(), &[])?;
-    let mut written = Vec::new(rt.alloc());
-    let status = status_over(&rt, form(), &bytes, &mut written);
-    expect_same(&rt, &(status, written.as_slice()), &(0, reply()));
-    let mut unserved = Vec::new(rt.alloc());
-    let idle: [&[u8]; 5] = [b"serve", b"0", b"all", b"0", b"4096"];
-    let unserved_status = status_over(&rt, &idle, &bytes, &mut unserved);
-    expect_same(&rt, &(unserved_status, unserved.as_slice()), &(10, reply()));
-    let mut unread = Vec::new(rt.alloc());
-    let short_status = status_over(&rt, form(), FRONT, &mut unread);
-    expect_same(&rt, &(short_status, unread.len()), &(4, 0));
-    let no_form_status = status_over(&rt, &[b"serve"], &bytes, &mut unread);
-    expect_same(&rt, &(no_form_status, unread.len()), &(2, 0));
+    expect_untold(&rt, form(), &bytes, 0, reply());
+    expect_untold(&rt, idle(), &bytes, 10, reply());
+    expect_untold(&rt, form(), front(), 4, b"");
+    expect_untold(&rt, no_form(), &bytes, 2, b"");
     Ok(())
 }
