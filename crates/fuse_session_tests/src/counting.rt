@@ -1,10 +1,8 @@
 // A filesystem for tests, which counts its calls, and sessions of it.
 ghost use Rattle.std.specs.Prelude.{◌<◌, false};
 
-use crate::argument::Argument;
-use crate::probe::Probe;
-use crate::probing::Probing;
 use fuse_config::Config;
+use fuse_probing::{Argument, Probe, Probing};
 use fuse_reply::{Replied, ReplyAttr, ReplyData, ReplyEntry};
 use fuse_request::Request;
 use fuse_session::{Ended, SessionError, Transcript, mount};

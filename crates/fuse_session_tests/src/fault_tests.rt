@@ -2,11 +2,11 @@
 ghost use Rattle.std.specs.Prelude.{None};
 
 use crate::counting::{Course, run};
-use crate::test_messages::{
-    ACCEPTED, ENOENT, INIT_7_8, Next, error_reply, forget, lookup, source_of, turns_of,
-};
 use crate::tests::{Counts, serves_source};
 use fuse_config::Config;
+use fuse_probing::test_messages::{
+    ACCEPTED, ENOENT, INIT_7_8, Next, error_reply, forget, lookup, source_of, turns_of,
+};
 use fuse_session::{SessionError, Transcript};
 use fuse_wire::{
     MemorySink, MemorySource, Noting, Received, RequestId, Sending, Sink, Source, receive_buffer,

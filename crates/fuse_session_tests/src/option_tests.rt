@@ -1,9 +1,11 @@
 // Options that are refused before anything is taken, and options that are not.
 use crate::counting::{Course, run};
-use crate::test_messages::{INIT_7_8, source_of};
-use fuse_config::{Config, MountOption, SessionACL};
+use crate::session_tests::config_of;
+use fuse_config::{Config, SessionACL};
+use fuse_probing::test_messages::{INIT_7_8, source_of};
 use fuse_session::{SessionError, Transcript};
-use fuse_wire::{Items, MemorySink};
+use fuse_wire::MemorySink;
+use std::alloc::AllocError;
 use std::process::Abort;
 use std::sync::Wait;
 use std::test::Fail;
@@ -36,31 +38,39 @@ fn course_of(outcome: Result<(), SessionError>, taken: u64) -> Course {
     }
 }
 
+/// Serves a session of an INIT, and then one without options over the same devices: what the first did, how many frames
+/// the sink had then, and how many messages the second took.
+fn serves_twice<R: Threads + Wait + AllocGlobal + Sync>(
+    rt: &R,
+    config: &Config,
+) -> Result<(Course, u64, u64), AllocError> {
+    let alloc = rt.alloc();
+    let source = source_of(alloc, &[&INIT_7_8])?;
+    let sink = MemorySink::new(alloc, Vec::new(alloc));
+    let (course, source, sink) = run(rt, source, sink, config);
+    let frames = sink.frames().len() as u64;
+    let (later, source, sink) = run(rt, source, sink, &Config::new(alloc));
+    drop(source);
+    drop(sink);
+    Ok((course, frames, later.transcript.received))
+}
+
 /// Serves a session of an INIT, which is taken or not. Where it was not, it is there for a session without options.
 fn ends<R: Threads + Wait + AllocGlobal + Abort + Sync>(
     rt: &R,
     row: &Row,
     taken: u64,
 ) -> Result<(), Fail> {
-    let alloc = rt.alloc();
     let (texts, acl, n_threads, clone_fd, outcome) = row;
-    let mut options = Vec::new(alloc);
-    for text in *texts {
-        options.push(MountOption::from_str(alloc, text)?)?;
-    }
-    let config = Config {
-        mount_options: Items::from_vec(options),
-        acl: *acl,
-        n_threads: *n_threads,
-        clone_fd: *clone_fd,
-    };
-    let source = source_of(alloc, &[&INIT_7_8])?;
-    let sink = MemorySink::new(alloc, Vec::new(alloc));
-    let (course, source, sink) = run(rt, source, sink, &config);
-    assert_eq!(rt; course, course_of(*outcome, taken));
-    assert_eq!(rt; sink.frames().len() as u64, taken);
-    let (later, _, _) = run(rt, source, sink, &Config::new(alloc));
-    assert_eq!(rt; later.transcript.received, 1u64.saturating_sub(taken));
+    let config = config_of(rt.alloc(), texts, *acl, *n_threads, *clone_fd)?;
+    let served = serves_twice(rt, &config);
+    drop(config);
+    let expected = (
+        course_of(*outcome, taken),
+        taken,
+        1u64.saturating_sub(taken),
+    );
+    assert_eq!(rt; served?, expected);
     Ok(())
 }
 

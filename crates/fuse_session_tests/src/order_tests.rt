@@ -1,13 +1,16 @@
 // When a message is answered.
 ghost use Rattle.std.specs.Prelude.{None};
 
-use crate::counting::run;
-use crate::test_messages::{INIT_7_8, NO_OPCODE, forget, lookup, message, source_of};
+use crate::counting::{Course, run};
 use fuse_config::Config;
+use fuse_probing::test_messages::{INIT_7_8, NO_OPCODE, forget, lookup, message, source_of};
 use fuse_request::opcode::{FUSE_DESTROY, FUSE_STATFS};
 use fuse_wire::{MemorySource, Noting, Received, RequestId, Sending, Sink, Source};
+use std::alloc::AllocError;
+use std::sync::Wait;
 use std::sync::atomic::{AtomicU64, Ordering};
 use std::test::Fail;
+use std::thread::Threads;
 
 /// A source that fails where a message before was not answered, and tells nothing.
 #[derive(Drop)]
@@ -64,6 +67,27 @@ impl Sink for Answering<'_> {
     }
 }
 
+/// Serves these messages. How the session went, how often the source failed, and how much was handed to the sink.
+fn serve<R: Threads + Wait + AllocGlobal + Sync>(
+    rt: &R,
+    messages: &[&[u8]],
+) -> Result<(Course, u64, u64), AllocError> {
+    let answered = AtomicU64::new(0);
+    let source = Awaiting {
+        inner: source_of(rt.alloc(), messages)?,
+        answered: &answered,
+        given: 0,
+        faults: 0,
+    };
+    let sink = Answering {
+        answered: &answered,
+    };
+    let (course, source, _) = run(rt, source, sink, &Config::new(rt.alloc()));
+    let faults = source.faults;
+    drop(source);
+    Ok((course, faults, answered.load(Ordering::SeqCst)))
+}
+
 #[test]
 fn each_message_is_answered_before_the_next_is_taken(rt: HostRuntime) -> Result<(), Fail> {
     let mut later = INIT_7_8;
@@ -77,19 +101,8 @@ fn each_message_is_answered_before_the_next_is_taken(rt: HostRuntime) -> Result<
         &message(FUSE_STATFS, 5, 1, 0),
         &message(FUSE_DESTROY, 6, 1, 0),
     ];
-    let answered = AtomicU64::new(0);
-    let source = Awaiting {
-        inner: source_of(rt.alloc(), &messages)?,
-        answered: &answered,
-        given: 0,
-        faults: 0,
-    };
-    let sink = Answering {
-        answered: &answered,
-    };
-    let (course, source, _) = run(&rt, source, sink, &Config::new(rt.alloc()));
-    let answered = answered.load(Ordering::SeqCst);
-    assert_eq!(rt; (course.outcome, source.faults), (Ok(()), 0));
+    let (course, faults, answered) = serve(&rt, &messages)?;
+    assert_eq!(rt; (course.outcome, faults), (Ok(()), 0));
     assert_eq!(rt; (course.transcript.received, answered), (7, 7));
     Ok(())
 }

@@ -1,9 +1,9 @@
 // What a session itself refuses, where it never asks the filesystem.
 use crate::counting::{Course, run};
-use crate::test_messages::{
+use fuse_config::{Config, SessionACL};
+use fuse_probing::test_messages::{
     EACCES, EINVAL, EIO, ENOSYS, INIT_7_8, NO_OPCODE, error_reply, with_argument,
 };
-use fuse_config::{Config, SessionACL};
 use fuse_request::opcode::{
     FUSE_COPY_FILE_RANGE, FUSE_FALLOCATE, FUSE_INIT, FUSE_INTERRUPT, FUSE_IOCTL, FUSE_LSEEK,
     FUSE_NOTIFY_REPLY, FUSE_READ, FUSE_READDIR, FUSE_READDIRPLUS, FUSE_STATFS, FUSE_WRITE,
@@ -30,11 +30,16 @@ fn after_init(alloc: Global, rows: &[Refusal]) -> Result<MemorySource, AllocErro
     Ok(MemorySource::new(turns))
 }
 
+/// The error that a message gets.
+fn reply_to(row: &Refusal) -> [u8; 16] {
+    error_reply(row.1, row.4)
+}
+
 /// After its first frame the sink took one for each of these, and no other: its error.
 fn took_errors<R: Abort>(rt: &R, sink: &MemorySink, rows: &[Refusal]) {
     assert_eq!(rt; sink.frames().len(), rows.len().saturating_add(1));
-    for (sent, (_, id, _, _, errno)) in sink.frames().iter().skip(1).zip(rows) {
-        assert_eq!(rt; sent.as_slice(), error_reply(*id, *errno).as_slice());
+    for (sent, row) in sink.frames().iter().skip(1).zip(rows) {
+        assert_eq!(rt; sent.as_slice(), reply_to(row).as_slice());
     }
 }
 

@@ -1,10 +1,11 @@
 // Sessions that are opened first, and run then.
 use crate::counting::Counting;
-use crate::probing::Probing;
-use crate::test_messages::{
-    ACCEPTED, EACCES, EIO, ENOENT, EPROTO, INIT_7_8, error_reply, init, lookup, source_of,
-};
 use fuse_config::{Config, MountOption, SessionACL};
+use fuse_probing::Probing;
+use fuse_probing::test_messages::{
+    ACCEPTED, EACCES, EIO, ENOENT, EPROTO, INIT_7_8, differ_at, error_reply, init, lookup,
+    source_of,
+};
 use fuse_request::RequestError;
 use fuse_request::opcode::FUSE_LOOKUP;
 use fuse_session::{Ended, InvalidData, Session, SessionError, Transcript};
@@ -19,12 +20,13 @@ pub(crate) type Over = Ended<Probing<Counting>, MemorySource, MemorySink>;
 
 type Opening = Result<Session<Probing<Counting>, MemorySource, MemorySink>, Over>;
 
-/// A configuration of these options and threads.
-fn config_of(
+/// A configuration of these options and threads, of which each has a device of its own or not.
+pub(crate) fn config_of(
     alloc: Global,
     texts: &[&str],
     acl: SessionACL,
     n_threads: Option<usize>,
+    clone_fd: bool,
 ) -> Result<Config, Fail> {
     let mut options = Vec::new(alloc);
     for text in texts {
@@ -34,7 +36,7 @@ fn config_of(
         mount_options: Items::from_vec(options),
         acl,
         n_threads,
-        clone_fd: true,
+        clone_fd,
     })
 }
 
@@ -46,21 +48,30 @@ fn open<R: Wait + AllocGlobal>(
     device: Option<SessionACL>,
 ) -> Result<Opening, Fail> {
     let alloc = rt.alloc();
+    let source = source_of(alloc, messages)?;
+    let sink = MemorySink::new(alloc, Vec::new(alloc));
     let filesystem = Probing {
         probe: Counting::new(None),
     };
-    let source = source_of(alloc, messages)?;
-    let sink = MemorySink::new(alloc, Vec::new(alloc));
     Ok(match device {
         Some(acl) => Session::from_device(rt, filesystem, source, sink, acl, 5, 4096, config),
         None => Session::new(rt, filesystem, source, sink, 5, 4096, &config),
     })
 }
 
-/// A session that ended so, after so many messages, has sent these frames, and destroyed its filesystem so often.
-pub(crate) fn is_left<A: Abort>(
+/// The end of a session that was to be opened, which is run where it was.
+fn end_of<R: Threads + Wait + AllocGlobal + Sync>(rt: &R, opening: Opening) -> Over {
+    match opening {
+        Ok(session) => session.run(rt),
+        Err(over) => over,
+    }
+}
+
+/// What is left of a session that ended so, after so many messages: it has sent these frames, and destroyed its filesystem
+/// so often.
+fn shows<A: Abort>(
     rt: &A,
-    over: Over,
+    over: &Over,
     outcome: Result<(), SessionError>,
     received: u64,
     frames: &[&[u8]],
@@ -73,29 +84,33 @@ pub(crate) fn is_left<A: Abort>(
         lost: 0,
         unrecorded: 0,
     };
-    let Ended {
-        filesystem: Probing { probe },
-        source: _,
-        sink,
-        outcome: found,
-        transcript,
-    } = over;
-    assert_eq!(rt; (found, transcript), (outcome, counts));
-    assert_eq!(rt; probe.destroyed(), destroyed);
-    assert_eq!(rt; sink.frames().len(), frames.len());
-    for (sent, frame) in sink.frames().iter().zip(frames) {
-        assert_eq!(rt; sent.as_slice(), *frame);
-    }
+    let found = (
+        over.filesystem.probe.destroyed(),
+        differ_at(over.sink.frames(), frames),
+    );
+    assert_eq!(rt; (over.outcome, over.transcript), (outcome, counts));
+    assert_eq!(rt; found, (destroyed, None));
+}
+
+/// The same, of a session that is let go.
+pub(crate) fn is_left<A: Abort>(
+    rt: &A,
+    over: Over,
+    outcome: Result<(), SessionError>,
+    received: u64,
+    frames: &[&[u8]],
+    destroyed: u64,
+) {
+    shows(rt, &over, outcome, received, frames, destroyed);
+    drop(over);
 }
 
 #[test]
 fn a_session_is_opened_and_then_run(rt: HostRuntime) -> Result<(), Fail> {
     for device in [None, Some(SessionACL::All)] {
-        let config = config_of(rt.alloc(), &[], SessionACL::All, None)?;
-        let over = match open(&rt, &[&INIT_7_8, &lookup(2, 6)], config, device)? {
-            Ok(session) => session.run(&rt),
-            Err(over) => over,
-        };
+        let config = config_of(rt.alloc(), &[], SessionACL::All, None, true)?;
+        let opening = open(&rt, &[&INIT_7_8, &lookup(2, 6)], config, device)?;
+        let over = end_of(&rt, opening);
         let frames: [&[u8]; 2] = [&ACCEPTED, &error_reply(2, ENOENT)];
         is_left(&rt, over, Ok(()), 2, &frames, 1);
     }
@@ -110,12 +125,10 @@ fn opens_none<R: Threads + Wait + AllocGlobal + Abort + Sync>(
     outcome: &Result<(), SessionError>,
 ) -> Result<(), Fail> {
     for device in [None, Some(SessionACL::All)] {
-        let config = config_of(rt.alloc(), &[], SessionACL::All, Some(0))?;
-        let (over, opened) = match open(rt, messages, config, device)? {
-            Ok(session) => (session.run(rt), true),
-            Err(over) => (over, false),
-        };
-        assert_eq!(rt; opened, false);
+        let config = config_of(rt.alloc(), &[], SessionACL::All, Some(0), true)?;
+        let opening = open(rt, messages, config, device)?;
+        assert!(rt; opening.is_err());
+        let over = end_of(rt, opening);
         is_left(rt, over, *outcome, messages.len() as u64, frames, 1);
     }
     Ok(())
@@ -138,47 +151,44 @@ fn a_handshake_that_is_not_accepted_opens_no_session(rt: HostRuntime) -> Result<
 #[test]
 fn no_thread_is_to_serve_a_session_that_is_opened(rt: HostRuntime) -> Result<(), Fail> {
     for device in [None, Some(SessionACL::All)] {
-        let config = config_of(rt.alloc(), &[], SessionACL::All, Some(0))?;
-        match open(&rt, &[&INIT_7_8, &lookup(2, 5)], config, device)? {
-            Ok(session) => {
-                let over = session.run(&rt);
-                is_left(&rt, over, Err(SessionError::Threads), 1, &[&ACCEPTED], 1);
-            }
-            Err(over) => is_left(&rt, over, Ok(()), 2, &[], 0),
-        }
+        let config = config_of(rt.alloc(), &[], SessionACL::All, Some(0), true)?;
+        let opening = open(&rt, &[&INIT_7_8, &lookup(2, 5)], config, device)?;
+        assert!(rt; opening.is_ok());
+        let over = end_of(&rt, opening);
+        is_left(&rt, over, Err(SessionError::Threads), 1, &[&ACCEPTED], 1);
     }
     Ok(())
 }
 
+/// The end of a session of an INIT, with options that conflict, and with the unmount for an owner.
+fn end_with_options<R: Threads + Wait + AllocGlobal + Sync>(
+    rt: &R,
+    n_threads: Option<usize>,
+    device: Option<SessionACL>,
+) -> Result<Over, Fail> {
+    let options = ["ro", "rw", "auto_unmount"];
+    let config = config_of(rt.alloc(), &options, SessionACL::Owner, n_threads, true)?;
+    let opening = open(rt, &[&INIT_7_8], config, device)?;
+    Ok(end_of(rt, opening))
+}
+
+// Options that conflict, and the unmount for an owner, are of a mount.
+const CONFLICT: Result<(), SessionError> = Err(SessionError::Conflict {
+    first: 0,
+    second: 1,
+});
+
 #[test]
 fn of_its_options_a_device_looks_at_one(rt: HostRuntime) -> Result<(), Fail> {
-    let options = ["ro", "rw", "auto_unmount"];
-    // Options that conflict, and the unmount for an owner, are of a mount.
-    let conflict = SessionError::Conflict {
-        first: 0,
-        second: 1,
-    };
-    let rows: [(Option<usize>, SessionError, Option<SessionError>); 2] = [
-        (None, conflict, None),
-        (Some(2), conflict, Some(SessionError::CloneFd)),
-    ];
-    for (n_threads, refused, device) in rows {
-        let config = config_of(rt.alloc(), &options, SessionACL::Owner, n_threads)?;
-        match open(&rt, &[&INIT_7_8], config, None)? {
-            Ok(session) => is_left(&rt, session.run(&rt), Err(refused), 0, &[], 0),
-            Err(over) => is_left(&rt, over, Err(refused), 0, &[], 0),
-        }
-        let config = config_of(rt.alloc(), &options, SessionACL::Owner, n_threads)?;
-        match (
-            open(&rt, &[&INIT_7_8], config, Some(SessionACL::Owner))?,
-            device,
-        ) {
-            (Ok(session), None) => is_left(&rt, session.run(&rt), Ok(()), 1, &[&ACCEPTED], 1),
-            (Err(over), Some(error)) => is_left(&rt, over, Err(error), 0, &[], 0),
-            (Ok(session), Some(error)) => is_left(&rt, session.run(&rt), Err(error), 0, &[], 0),
-            (Err(over), None) => is_left(&rt, over, Ok(()), 1, &[&ACCEPTED], 1),
-        }
-    }
+    let owner = Some(SessionACL::Owner);
+    let over = end_with_options(&rt, None, None)?;
+    is_left(&rt, over, CONFLICT, 0, &[], 0);
+    let over = end_with_options(&rt, None, owner)?;
+    is_left(&rt, over, Ok(()), 1, &[&ACCEPTED], 1);
+    let over = end_with_options(&rt, Some(2), None)?;
+    is_left(&rt, over, CONFLICT, 0, &[], 0);
+    let over = end_with_options(&rt, Some(2), owner)?;
+    is_left(&rt, over, Err(SessionError::CloneFd), 0, &[], 0);
     Ok(())
 }
 
@@ -189,11 +199,9 @@ fn a_device_serves_whom_its_own_rule_admits(rt: HostRuntime) -> Result<(), Fail>
         (SessionACL::Owner, SessionACL::All, ENOENT),
     ];
     for (configured, acl, errno) in rows {
-        let config = config_of(rt.alloc(), &[], configured, None)?;
-        let over = match open(&rt, &[&INIT_7_8, &lookup(2, 6)], config, Some(acl))? {
-            Ok(session) => session.run(&rt),
-            Err(over) => over,
-        };
+        let config = config_of(rt.alloc(), &[], configured, None, true)?;
+        let opening = open(&rt, &[&INIT_7_8, &lookup(2, 6)], config, Some(acl))?;
+        let over = end_of(&rt, opening);
         let frames: [&[u8]; 2] = [&ACCEPTED, &error_reply(2, errno)];
         is_left(&rt, over, Ok(()), 2, &frames, 1);
     }

@@ -1,16 +1,15 @@
 // Sessions in the background.
 ghost use Rattle.std.specs.Prelude.{false};
 
-use crate::argument::Argument;
 use crate::counting::Counting;
-use crate::probe::Probe;
-use crate::probing::Probing;
 use crate::session_tests::{Over, is_left};
-use crate::test_messages::{ACCEPTED, ENOENT, INIT_7_8, error_reply, lookup, source_of};
 use fuse_config::{Config, SessionACL};
+use fuse_probing::test_messages::{ACCEPTED, ENOENT, INIT_7_8, error_reply, lookup, source_of};
+use fuse_probing::{Argument, Probe, Probing};
 use fuse_request::Request;
 use fuse_session::{
-    BackgroundSession, InlineSpawner, SessionError, SpawnError, Spawner, ThreadSpawner, spawn_mount,
+    BackgroundSession, Ended, InlineSpawner, Session, SessionError, SpawnError, Spawner,
+    ThreadSpawner, spawn_mount,
 };
 use fuse_wire::{MemorySink, MemorySource};
 use std::alloc::Global;
@@ -26,6 +25,8 @@ const MOST_TURNS: u64 = 1_000_000;
 
 type Background = BackgroundSession<Probing<Counting>, MemorySource, MemorySink>;
 
+type Opened = Session<Probing<Counting>, MemorySource, MemorySink>;
+
 type Refusal = SpawnError<Probing<Counting>, MemorySource, MemorySink>;
 
 /// Mounts a filesystem that counts over these messages, in the background.
@@ -36,14 +37,14 @@ fn spawn<R: Threads + Wait + AllocGlobal + Send + Sync + Copy + 'static>(
     messages: &[&[u8]],
 ) -> Result<Result<Background, Refusal>, Fail> {
     let alloc = rt.alloc();
-    let mut config = Config::new(alloc);
-    config.acl = SessionACL::All;
-    config.n_threads = n_threads;
+    let source = source_of(alloc, messages)?;
+    let sink = MemorySink::new(alloc, Vec::new(alloc));
     let filesystem = Probing {
         probe: Counting::new(None),
     };
-    let source = source_of(alloc, messages)?;
-    let sink = MemorySink::new(alloc, Vec::new(alloc));
+    let mut config = Config::new(alloc);
+    config.acl = SessionACL::All;
+    config.n_threads = n_threads;
     Ok(spawn_mount(rt, spawner, filesystem, source, sink, 0, 4096, &config))
 }
 
@@ -146,32 +147,40 @@ fn is_called(calls: &AtomicU64) -> bool {
     false
 }
 
+/// Starts a session of it over these devices, in the background.
+fn spawn_telling<R: Threads + Wait + AllocGlobal + Abort + Send + Sync + Copy + 'static>(
+    rt: &R,
+    probe: Telling,
+    source: MemorySource,
+    sink: MemorySink,
+) -> BackgroundSession<Probing<Telling>, MemorySource, MemorySink> {
+    let mut spawner = Spawner::Thread(ThreadSpawner::new());
+    let mut config = Config::new(rt.alloc());
+    config.acl = SessionACL::All;
+    let filesystem = Probing { probe };
+    match spawn_mount(rt, &mut spawner, filesystem, source, sink, 0, 4096, &config) {
+        Ok(background) => background,
+        Err(_) => panic!(rt; "not started"),
+    }
+}
+
+/// How a session ended, of which all else is let go.
+fn outcome_of<FS: Drop>(over: Ended<FS, MemorySource, MemorySink>) -> Result<(), SessionError> {
+    over.outcome
+}
+
 #[test]
 fn a_session_runs_before_it_is_joined(rt: HostRuntime) -> Result<(), Fail> {
     let alloc = rt.alloc();
     let calls = Arc::new(alloc, AtomicU64::new(0))?;
+    let source = source_of(alloc, &[&INIT_7_8, &lookup(2, 0)])?;
     let probe = Telling {
         calls: Arc::try_clone(&calls)?,
     };
-    let mut config = Config::new(alloc);
-    config.acl = SessionACL::All;
-    let spawned = spawn_mount(
-        &rt,
-        &mut Spawner::Thread(ThreadSpawner::new()),
-        Probing { probe },
-        source_of(alloc, &[&INIT_7_8, &lookup(2, 0)])?,
-        MemorySink::new(alloc, Vec::new(alloc)),
-        0,
-        4096,
-        &config,
-    );
-    match spawned {
-        Ok(background) => {
-            assert!(rt; is_called(&calls));
-            assert_eq!(rt; background.join(&rt).outcome, Ok(()));
-        }
-        Err(_) => panic!(rt; "not started"),
-    }
+    let sink = MemorySink::new(alloc, Vec::new(alloc));
+    let background = spawn_telling(&rt, probe, source, sink);
+    assert!(rt; is_called(&calls));
+    assert_eq!(rt; outcome_of(background.join(&rt)), Ok(()));
     Ok(())
 }
 
@@ -185,22 +194,44 @@ fn makes_notifiers<R: Threads + Wait + AllocGlobal + Abort + Sync>(
     made
 }
 
-#[test]
-fn a_session_in_the_background_has_notifiers(rt: HostRuntime) -> Result<(), Fail> {
-    let refusals = vec![in rt.alloc(); 1]?;
-    let mut refusing = Spawner::Inline(InlineSpawner::new(refusals));
-    let messages: [&[u8]; 2] = [&INIT_7_8, &lookup(2, 0)];
-    match spawn(&rt, &mut refusing, None, &messages)? {
-        Err(SpawnError::Refused(session)) => match session.spawn(&rt, &mut refusing) {
-            Ok(background) => assert!(rt; makes_notifiers(&rt, background)),
-            Err(_) => panic!(rt; "refused twice"),
-        },
+/// The session that a spawner refused to start.
+fn refused<R: Abort>(rt: &R, spawned: Result<Background, Refusal>) -> Opened {
+    match spawned {
+        Err(SpawnError::Refused(session)) => session,
         _ => panic!(rt; "not refused"),
     }
-    let mut threads = Spawner::Thread(ThreadSpawner::new());
-    match spawn(&rt, &mut threads, None, &messages)? {
-        Ok(background) => assert!(rt; makes_notifiers(&rt, background)),
+}
+
+/// The session that a spawner started.
+fn started<R: Abort>(rt: &R, spawned: Result<Background, Refusal>) -> Background {
+    match spawned {
+        Ok(background) => background,
         Err(_) => panic!(rt; "not started"),
     }
+}
+
+/// Starts a session that was opened.
+fn start<R: Threads + Wait + AllocGlobal + Abort + Send + Sync + Copy + 'static>(
+    rt: &R,
+    spawner: &mut Spawner,
+    session: Opened,
+) -> Background {
+    match session.spawn(rt, spawner) {
+        Ok(background) => background,
+        Err(_) => panic!(rt; "refused twice"),
+    }
+}
+
+#[test]
+fn a_session_in_the_background_has_notifiers(rt: HostRuntime) -> Result<(), Fail> {
+    let messages: [&[u8]; 2] = [&INIT_7_8, &lookup(2, 0)];
+    let refusals = vec![in rt.alloc(); 1]?;
+    let mut refusing = Spawner::Inline(InlineSpawner::new(refusals));
+    let session = refused(&rt, spawn(&rt, &mut refusing, None, &messages)?);
+    let background = start(&rt, &mut refusing, session);
+    assert!(rt; makes_notifiers(&rt, background));
+    let mut threads = Spawner::Thread(ThreadSpawner::new());
+    let background = started(&rt, spawn(&rt, &mut threads, None, &messages)?);
+    assert!(rt; makes_notifiers(&rt, background));
     Ok(())
 }

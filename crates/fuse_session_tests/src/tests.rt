@@ -1,12 +1,12 @@
 // Whole sessions, from memory to memory.
 
 use crate::counting::{CONTENTS, Counting, Course, run, run_with};
-use crate::test_messages::{
+use fuse_config::{Config, SessionACL};
+use fuse_probing::test_messages::{
     ACCEPTED, EACCES, EINVAL, EIO, ENOENT, ENOSYS, EPROTO, INIT_7_8, NO_OPCODE, batch_forget,
     empty_batch_forget, endless_lookup, error_reply, forget, getattr, init, lookup, message, read,
     short_forget, source_of,
 };
-use fuse_config::{Config, SessionACL};
 use fuse_request::RequestError;
 use fuse_request::opcode::{FUSE_DESTROY, FUSE_LOOKUP};
 use fuse_session::{InvalidData, SessionError, Transcript};
@@ -49,21 +49,73 @@ fn ordered(config: &Config, frames: &[&[u8]]) -> usize {
     }
 }
 
-/// These frames were sent, and no other: the first of them in this order, and the others in any.
-fn are_sent<R: Abort>(rt: &R, config: &Config, sent: &[Items<u8>], frames: &[&[u8]]) {
+/// The frames from this place on that are this one, of those that were sent.
+fn times_sent(sent: &[Items<u8>], place: usize, frame: &[u8]) -> usize {
+    let others = sent.get(place..).unwrap_or(&[]);
+    others.iter().filter(|one| one.as_slice() == frame).count()
+}
+
+/// The same, of those that are listed.
+fn times_listed(frames: &[&[u8]], place: usize, frame: &[u8]) -> usize {
+    let others = frames.get(place..).unwrap_or(&[]);
+    others.iter().filter(|one| **one == frame).count()
+}
+
+/// These frames were sent, and no other: so many of them in this order, and the others in any.
+fn are_sent<R: Abort>(rt: &R, ordered: usize, sent: &[Items<u8>], frames: &[&[u8]]) {
     assert_eq!(rt; sent.len(), frames.len());
-    let ordered = ordered(config, frames);
     for (one, frame) in sent.iter().zip(frames).take(ordered) {
         assert_eq!(rt; one.as_slice(), *frame);
     }
     for frame in frames.iter().skip(ordered) {
-        let wanted = frames.iter().skip(ordered).filter(|other| *other == frame);
-        let found = sent
-            .iter()
-            .skip(ordered)
-            .filter(|other| other.as_slice() == *frame);
-        assert_eq!(rt; found.count(), wanted.count());
+        let times = times_sent(sent, ordered, frame);
+        assert_eq!(rt; times, times_listed(frames, ordered, frame));
     }
+}
+
+/// These notes were sent, and no other: in this order, or in any.
+fn are_noted<R: Abort>(
+    rt: &R,
+    is_ordered: bool,
+    sent: &[(RequestId, u64)],
+    notes: &[(RequestId, u64)],
+) {
+    if is_ordered {
+        assert_eq!(rt; sent, notes);
+        return;
+    }
+    assert_eq!(rt; sent.len(), notes.len());
+    for note in notes {
+        assert!(rt; sent.contains(note));
+    }
+}
+
+/// A session that one thread or several served went so: with this outcome and these counts. Of it the sink took these
+/// frames and the notes, and no other.
+fn went_so<R: Abort>(
+    rt: &R,
+    config: &Config,
+    course: Course,
+    sink: &MemorySink,
+    frames: &[&[u8]],
+    outcome: Result<(), SessionError>,
+    counts: Counts<'_>,
+) {
+    let expected = Course {
+        outcome,
+        transcript: Transcript {
+            received: counts.received,
+            frames: frames.len() as u64,
+            notes: counts.notes.len() as u64,
+            lost: counts.lost,
+            unrecorded: 0,
+        },
+        calls: counts.calls,
+        destroyed: 1,
+    };
+    assert_eq!(rt; course, expected);
+    are_sent(rt, ordered(config, frames), sink.frames(), frames);
+    are_noted(rt, is_ordered(config), sink.notes(), counts.notes);
 }
 
 /// Serves this source in a session with this outcome and these counts, of which the sink takes these frames and the
@@ -78,28 +130,8 @@ pub(crate) fn serves_source<R: Threads + Wait + AllocGlobal + Abort + Sync>(
     counts: Counts<'_>,
 ) -> MemorySource {
     let (course, source, sink) = run(rt, source, sink, config);
-    let expected = Course {
-        outcome,
-        transcript: Transcript {
-            received: counts.received,
-            frames: frames.len() as u64,
-            notes: counts.notes.len() as u64,
-            lost: counts.lost,
-            unrecorded: 0,
-        },
-        calls: counts.calls,
-        destroyed: 1,
-    };
-    assert_eq!(rt; course, expected);
-    are_sent(rt, config, sink.frames(), frames);
-    if is_ordered(config) {
-        assert_eq!(rt; sink.notes(), counts.notes);
-    } else {
-        assert_eq!(rt; sink.notes().len(), counts.notes.len());
-        for note in counts.notes {
-            assert!(rt; sink.notes().iter().any(|other| other == note));
-        }
-    }
+    went_so(rt, config, course, &sink, frames, outcome, counts);
+    drop(sink);
     source
 }
 
@@ -390,28 +422,45 @@ fn serves_any_owner_pages_and_threads(rt: HostRuntime) -> Result<(), Fail> {
     Ok(())
 }
 
+/// Reads a file of these contents at once. The outcome, and the sink.
+fn read_at_once<R: Threads + Wait + AllocGlobal + Sync>(
+    rt: &R,
+    contents: &[u8],
+    size: u32,
+) -> Result<(Result<(), SessionError>, MemorySink), AllocError> {
+    let alloc = rt.alloc();
+    let source = source_of(alloc, &[&INIT_7_8, &read(2, 0, 0, size)])?;
+    let full = Counting::new(Some(contents.to_vec(alloc)?));
+    let sink = MemorySink::new(alloc, Vec::new(alloc));
+    let (course, source, sink) = run_with(rt, full, source, sink, 0, 4096, &Config::new(alloc));
+    drop(source);
+    Ok((course.outcome, sink))
+}
+
+/// The last of the frames has this header, and then these contents.
+fn ends_with_contents<R: Abort>(rt: &R, frames: &[Items<u8>], header: &[u8; 16], contents: &[u8]) {
+    let frame = frames.last().expect(rt, "no frame").as_slice();
+    assert_eq!(rt; frame.len(), contents.len().saturating_add(16));
+    assert!(rt; frame.starts_with(header));
+    assert!(rt; frame.ends_with(contents));
+}
+
 /// Reads a file of so many bytes at once: the frame has this header and all of them.
 fn reads_whole<R: Threads + Wait + AllocGlobal + Abort + Sync>(
     rt: &R,
     size: u32,
     header: &[u8; 16],
-) -> Result<(), Fail> {
-    let alloc = rt.alloc();
-    let contents = vec![in alloc; 0x2a; size as usize]?;
-    let source = source_of(alloc, &[&INIT_7_8, &read(2, 0, 0, size)])?;
-    let sink = MemorySink::new(alloc, Vec::new(alloc));
-    let full = Counting::new(Some(contents.clone()?));
-    let (course, _, sink) = run_with(rt, full, source, sink, 0, 4096, &Config::new(rt.alloc()));
-    assert_eq!(rt; course.outcome, Ok(()));
-    let frame = sink.frames().last().ok_or("no frame")?.as_slice();
-    assert_eq!(rt; frame.len(), contents.len().saturating_add(16));
-    assert!(rt; frame.starts_with(header));
-    assert!(rt; frame.ends_with(&contents));
+) -> Result<(), AllocError> {
+    let contents = vec![in rt.alloc(); 0x2a; size as usize]?;
+    let (outcome, sink) = read_at_once(rt, &contents, size)?;
+    assert_eq!(rt; outcome, Ok(()));
+    ends_with_contents(rt, sink.frames(), header, &contents);
     Ok(())
 }
 
 #[test]
 fn reads_two_mebibytes_whole(rt: HostRuntime) -> Result<(), Fail> {
     let header = [16, 0, 0x20, 0, 0, 0, 0, 0, 2, 0, 0, 0, 0, 0, 0, 0];
-    reads_whole(&rt, 0x20_0000, &header)
+    reads_whole(&rt, 0x20_0000, &header)?;
+    Ok(())
 }

@@ -1,0 +1,188 @@
+// What reaches a filesystem of each message, and what the message gets where the filesystem wants nothing of its own.
+use crate::every_call::{Call, Reply, Row, asker, frame_of, message_of};
+use crate::file_calls::files;
+use crate::node_calls::nodes;
+use crate::recording::{Recorded, Recording};
+use fuse_config::{Config, SessionACL};
+use fuse_probing::Probing;
+use fuse_probing::test_messages::{ACCEPTED, INIT_7_8};
+use fuse_session::{Ended, SessionError, Transcript, mount};
+use fuse_wire::{Items, MemorySink, MemorySource, RequestId, Turn};
+use std::alloc::{AllocError, Global};
+use std::process::Abort;
+use std::sync::Wait;
+use std::test::Fail;
+use std::thread::Threads;
+
+/// The lowest byte of the id of the message of a row.
+fn id_at(place: usize) -> u8 {
+    place.min(200) as u8 + 2
+}
+
+/// A source of INIT and the messages of these rows.
+fn source_of_rows(alloc: Global, rows: &[Row]) -> Result<MemorySource, AllocError> {
+    let mut turns = Vec::new(alloc);
+    turns.push(Turn::Message(Items::from_vec(INIT_7_8.to_vec(alloc)?)))?;
+    for (place, row) in rows.iter().enumerate() {
+        let message = message_of(alloc, row, id_at(place))?;
+        turns.push(Turn::Message(Items::from_vec(message)))?;
+    }
+    Ok(MemorySource::new(turns))
+}
+
+/// Whether what was recorded is this call of the request with this lowest byte of its id.
+fn is_call(recorded: &Recorded, id: u8, call: &Call) -> bool {
+    let (method, arguments, texts) = call;
+    (recorded.method, recorded.asker) == (*method, asker(id))
+        && recorded.arguments.as_slice() == *arguments
+        && recorded.texts.as_slice() == *texts
+}
+
+/// What was recorded after these calls of the request with this lowest byte of its id. None: they do not stand first.
+fn after_calls<'a>(recorded: &'a [Recorded], id: u8, calls: &[Call]) -> Option<&'a [Recorded]> {
+    let first = recorded.get(..calls.len())?;
+    if first
+        .iter()
+        .zip(calls)
+        .all(|(one, call)| is_call(one, id, call))
+    {
+        recorded.get(calls.len()..)
+    } else {
+        None
+    }
+}
+
+/// The first row whose calls are not recorded next. After the last row it is recorded that the session is over, and
+/// nothing more; else this is the number of the rows.
+fn first_unmet(recorded: &[Recorded], rows: &[Row]) -> Option<usize> {
+    let mut left = recorded;
+    for (place, row) in rows.iter().enumerate() {
+        match after_calls(left, id_at(place), row.calls) {
+            Some(rest) => left = rest,
+            None => return Some(place),
+        }
+    }
+    if left.len() == 1 && left[0].method == "destroy" {
+        None
+    } else {
+        Some(rows.len())
+    }
+}
+
+/// What reached the filesystem is INIT, then what the rows say, in order, and then that the session is over.
+fn reached<R: Abort>(rt: &R, recorded: &[Recorded], rows: &[Row]) {
+    let asker = (0xdead_beef_baad_f00d, 0xc001_d00d, 0xc001_cafe, 0xc0de_ba5e);
+    let (init, others) = recorded.split_first().expect(rt, "INIT");
+    assert_eq!(rt; (init.method, init.asker), ("init", asker));
+    assert_eq!(rt; first_unmet(others, rows), None);
+}
+
+/// The frames that the sink takes for INIT and the messages of these rows.
+fn frames_of(alloc: Global, rows: &[Row]) -> Result<Vec<Items<u8>>, AllocError> {
+    let mut frames = Vec::new(alloc);
+    frames.push(Items::from_vec(ACCEPTED.to_vec(alloc)?))?;
+    for (place, row) in rows.iter().enumerate() {
+        if let Some(frame) = frame_of(alloc, row.reply, id_at(place))? {
+            frames.push(Items::from_vec(frame))?;
+        }
+    }
+    Ok(frames)
+}
+
+/// The notes that it takes for them.
+fn notes_of(alloc: Global, rows: &[Row]) -> Result<Vec<(RequestId, u64)>, AllocError> {
+    let mut notes = Vec::new(alloc);
+    for (place, row) in rows.iter().enumerate() {
+        if let Reply::Note = row.reply {
+            notes.push((RequestId(asker(id_at(place)).0), 0))?;
+        }
+    }
+    Ok(notes)
+}
+
+/// The sink took the frames and the notes of INIT and these rows, and no other.
+fn replied<R: AllocGlobal + Abort>(
+    rt: &R,
+    sink: &MemorySink,
+    rows: &[Row],
+) -> Result<(), AllocError> {
+    let frames = frames_of(rt.alloc(), rows)?;
+    let notes = notes_of(rt.alloc(), rows)?;
+    assert_eq!(rt; sink.frames(), frames.as_slice());
+    assert_eq!(rt; sink.notes(), notes.as_slice());
+    Ok(())
+}
+
+/// What a session came to: what reached its filesystem, the sink, and how it ended and what it did.
+#[derive(Drop)]
+struct Served {
+    recorded: Vec<Recorded>,
+    sink: MemorySink,
+    outcome: Result<(), SessionError>,
+    transcript: Transcript,
+}
+
+/// Takes what reached the filesystem of a session that has ended.
+fn served_by<R: Wait + Drop>(
+    over: Ended<Probing<Recording<R>>, MemorySource, MemorySink>,
+) -> Served {
+    let Ended {
+        filesystem,
+        source,
+        sink,
+        outcome,
+        transcript,
+    } = over;
+    drop(source);
+    let recorded = filesystem.probe.take();
+    drop(filesystem);
+    Served {
+        recorded,
+        sink,
+        outcome,
+        transcript,
+    }
+}
+
+/// Serves these messages.
+fn serve_rows<R: Threads + Wait + AllocGlobal + Send + Sync + Copy>(
+    rt: &R,
+    rows: &[Row],
+) -> Result<Served, AllocError> {
+    let alloc = rt.alloc();
+    let source = source_of_rows(alloc, rows)?;
+    let sink = MemorySink::new(alloc, Vec::new(alloc));
+    let probe = Recording::new(*rt, alloc);
+    let mut config = Config::new(alloc);
+    config.acl = SessionACL::All;
+    Ok(served_by(mount(rt, Probing { probe }, source, sink, 0, 4096, &config)))
+}
+
+/// Serves these messages: they come to the calls and the replies that they say, and to no other.
+fn comes_to<R: Threads + Wait + AllocGlobal + Abort + Send + Sync + Copy>(
+    rt: &R,
+    rows: &[Row],
+) -> Result<(), AllocError> {
+    let served = serve_rows(rt, rows)?;
+    let messages = rows.len().saturating_add(1) as u64;
+    assert_eq!(rt;
+        (served.outcome, served.transcript.received),
+        (Ok(()), messages)
+    );
+    reached(rt, served.recorded.as_slice(), rows);
+    let compared = replied(rt, &served.sink, rows);
+    drop(served);
+    compared
+}
+
+#[test]
+fn what_is_asked_of_inodes_and_names_reaches_the_filesystem(rt: HostRuntime) -> Result<(), Fail> {
+    comes_to(&rt, nodes())?;
+    Ok(())
+}
+
+#[test]
+fn what_is_asked_of_open_files_reaches_the_filesystem(rt: HostRuntime) -> Result<(), Fail> {
+    comes_to(&rt, files())?;
+    Ok(())
+}

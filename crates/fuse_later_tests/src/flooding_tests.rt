@@ -1,0 +1,160 @@
+// Notices that a filesystem sends of its own, by the session's notifier.
+ghost use Rattle.std.specs.Prelude.{◌≡◌, false, refl};
+ghost use Rattle.fuse_dispatch.specs.Defaults.{default_answer};
+
+use crate::serving::{Rest, counts, rest_of};
+use fuse_config::{Config, SessionACL};
+use fuse_notify::{Notifier, NotifyError};
+use fuse_probing::test_messages::{
+    ACCEPTED, ENOSYS, INIT_7_8, differ_at, error_reply, lookup, source_of,
+};
+use fuse_probing::{Argument, Probe, Probing};
+use fuse_reply::{Replied, ReplyEntry};
+use fuse_request::Request;
+use fuse_session::{Session, defaults};
+use fuse_wire::{INodeNo, Items, MemorySink, NoMemory, PollHandle};
+use std::alloc::{AllocError, Global};
+use std::sync::atomic::{AtomicU64, Ordering};
+use std::sync::{Arc, Mutex, Wait};
+use std::test::Fail;
+use std::thread::Threads;
+
+/// One more than the line of a session holds.
+const SENT: u64 = 65;
+
+/// Where a filesystem finds the notifier of its session, once there is one.
+type Slot = Arc<Mutex<Option<Notifier>>, Global>;
+
+/// A filesystem that sends so many notices in each lookup, and counts those that are queued, and those for which there
+/// is no place.
+#[derive(Drop)]
+struct Flooding<R> {
+    rt: R,
+    slot: Slot,
+    queued: AtomicU64,
+    full: AtomicU64,
+}
+
+impl<R: Wait + AllocGlobal> Probe for Flooding<R> {
+    ghost own = { λ call answer. default_answer call ≡ answer };
+
+    const DEFERS: bool = false;
+
+    ghost DEFERS = { false };
+
+    fn started(&mut self, _request: &Request) {}
+
+    fn called(
+        &self,
+        _request: &Request,
+        _method: &'static str,
+        _arguments: &[Argument],
+        _texts: &[&[u8]],
+    ) {}
+
+    fn lookup(
+        &self,
+        _request: &Request,
+        _parent: INodeNo,
+        _name: &[u8],
+        reply: ReplyEntry,
+    ) -> Replied {
+        let mut slot = self.slot.lock(&self.rt);
+        if let Some(notifier) = &mut *slot {
+            for handle in 0..SENT {
+                match notifier.poll(&self.rt, PollHandle(handle)) {
+                    Ok(()) => {
+                        self.queued.fetch_add(1, Ordering::SeqCst);
+                    }
+                    Err(NotifyError::Full) => {
+                        self.full.fetch_add(1, Ordering::SeqCst);
+                    }
+                    Err(_) => {}
+                }
+            }
+        }
+        defaults::lookup(reply)
+    }
+
+    fn destroyed(&mut self) {}
+
+    ghost allows_default = { λ call. refl };
+}
+
+/// Puts another notifier, made by this one, where the filesystem finds it.
+fn hand_over<R: Wait>(rt: &R, slot: &Slot, made: Result<Notifier, NoMemory>) {
+    if let Ok(mut notifier) = made {
+        if let Ok(another) = notifier.again() {
+            *slot.lock(rt) = Some(another);
+        }
+    }
+}
+
+/// Serves it, in a session whose notifier it finds in the slot.
+fn serve_flooding<R: Threads + Wait + AllocGlobal + Send + Sync + Copy>(
+    rt: &R,
+    slot: &Slot,
+) -> Result<Rest<Probing<Flooding<R>>>, AllocError> {
+    let alloc = rt.alloc();
+    let mut config = Config::new(alloc);
+    config.acl = SessionACL::All;
+    let source = source_of(alloc, &[&INIT_7_8, &lookup(2, 0)])?;
+    let sink = MemorySink::new(alloc, Vec::new(alloc));
+    let probe = Flooding {
+        rt: *rt,
+        slot: Arc::try_clone(slot)?,
+        queued: AtomicU64::new(0),
+        full: AtomicU64::new(0),
+    };
+    Ok(rest_of(
+        match Session::new(rt, Probing { probe }, source, sink, 0, 4096, &config) {
+            Ok(mut session) => {
+                hand_over(rt, slot, session.notifier());
+                session.run(rt)
+            }
+            Err(over) => over,
+        },
+    ))
+}
+
+/// The notice of a poll with this handle, `struct fuse_notify_poll_wakeup_out`, whose code is 1.
+fn news(handle: usize) -> [u8; 24] {
+    let mut frame = [0; 24];
+    frame[0] = 24;
+    frame[4] = 1;
+    frame[16] = handle.min(255) as u8;
+    frame
+}
+
+/// The first of these frames that is not the notice with its place as the handle.
+fn first_other(frames: &[Items<u8>]) -> Option<usize> {
+    frames.iter().enumerate().position(|(handle, frame)| frame.as_slice()
+        != news(handle).as_slice())
+}
+
+/// How many frames there are, where the first two are these and all others notices, in order.
+fn notices_after(frames: &[Items<u8>], replies: &[&[u8]; 2]) -> Option<usize> {
+    let (first, others) = (frames.get(..2)?, frames.get(2..)?);
+    if differ_at(first, replies).is_none() && first_other(others).is_none() {
+        Some(frames.len())
+    } else {
+        None
+    }
+}
+
+#[test]
+fn the_notices_of_a_filesystem_follow_its_reply(rt: HostRuntime) -> Result<(), Fail> {
+    let slot = Arc::new(rt.alloc(), Mutex::new(None))?;
+    let rest = serve_flooding(&rt, &slot)?;
+    assert_eq!(rt; (rest.outcome, rest.transcript), (Ok(()), counts(2, 2)));
+    let probe = &rest.filesystem.probe;
+    let told = (
+        probe.queued.load(Ordering::SeqCst),
+        probe.full.load(Ordering::SeqCst),
+    );
+    assert_eq!(rt; told, (SENT - 1, 1));
+    let replies: [&[u8]; 2] = [&ACCEPTED, &error_reply(2, ENOSYS)];
+    let expected = Some(SENT as usize + 1);
+    assert_eq!(rt; notices_after(rest.sink.frames(), &replies), expected);
+    Ok(())
+}

@@ -1,0 +1,164 @@
+// Notices, which are sent after the frame of the message that was answered last.
+use crate::polling::Polling;
+use crate::serving::{Rest, counts, serve};
+use fuse_probing::Probing;
+use fuse_probing::test_messages::{
+    ACCEPTED, ENOENT, INIT_7_8, differ_at, error_reply, getattr, poll, source_of, turn,
+};
+use fuse_session::Transcript;
+use fuse_wire::{Items, MemorySink, MemorySource, Sending};
+use std::alloc::{AllocError, Global};
+use std::process::Abort;
+use std::sync::Wait;
+use std::test::Fail;
+use std::thread::Threads;
+
+/// How many notices the line of a session holds.
+const PLACES: usize = 64;
+
+/// The reply that a file is ready for reading: `struct fuse_poll_out` with `POLLIN` of `poll.h`.
+fn ready(id: u8) -> [u8; 24] {
+    let mut frame = [0; 24];
+    frame[0] = 24;
+    frame[8] = id;
+    frame[16] = 1;
+    frame
+}
+
+/// The notice of a poll with this handle, `struct fuse_notify_poll_wakeup_out`, whose code is 1.
+fn news(handle: [u8; 2]) -> [u8; 24] {
+    let mut frame = [0; 24];
+    frame[0] = 24;
+    frame[4] = 1;
+    frame[16..18].copy_from_slice(&handle);
+    frame
+}
+
+/// Serves this source in a session that ends well, with these counts, and leaves so many polls waiting. The sink comes back.
+fn serves<R: Threads + Wait + AllocGlobal + Abort + Send + Sync + Copy>(
+    rt: &R,
+    source: MemorySource,
+    sink: MemorySink,
+    counts: Transcript,
+    waiting: usize,
+) -> MemorySink {
+    let probe = Polling::new(*rt, rt.alloc());
+    let Rest {
+        filesystem,
+        sink,
+        outcome,
+        transcript,
+    } = serve(rt, Probing { probe }, source, sink, None);
+    assert_eq!(rt; (outcome, transcript), (Ok(()), counts));
+    assert_eq!(rt; filesystem.probe.waiting(), waiting);
+    drop(filesystem);
+    sink
+}
+
+#[test]
+fn a_poll_that_is_told_at_once_is_answered_before_its_notice(rt: HostRuntime) -> Result<(), Fail> {
+    let polls: [&[u8]; 2] = [&INIT_7_8, &poll(2, [0x21, 0x43], 0)];
+    let frames: [&[u8]; 3] = [&ACCEPTED, &ready(2), &news([0x21, 0x43])];
+    let source = source_of(rt.alloc(), &polls)?;
+    let sink = MemorySink::new(rt.alloc(), Vec::new(rt.alloc()));
+    let sink = serves(&rt, source, sink, counts(2, 2), 0);
+    assert_eq!(rt; differ_at(sink.frames(), &frames), None);
+    Ok(())
+}
+
+#[test]
+fn a_poll_is_told_once_there_is_news(rt: HostRuntime) -> Result<(), Fail> {
+    let messages: [&[u8]; 4] = [
+        &INIT_7_8,
+        &poll(2, [7, 0], 1),
+        &getattr(3, 0),
+        &getattr(4, 0),
+    ];
+    let frames: [&[u8]; 5] = [
+        &ACCEPTED,
+        &ready(2),
+        &error_reply(3, ENOENT),
+        &news([7, 0]),
+        &error_reply(4, ENOENT),
+    ];
+    let source = source_of(rt.alloc(), &messages)?;
+    let sink = MemorySink::new(rt.alloc(), Vec::new(rt.alloc()));
+    let sink = serves(&rt, source, sink, counts(4, 4), 0);
+    assert_eq!(rt; differ_at(sink.frames(), &frames), None);
+    Ok(())
+}
+
+/// A sink that does not take its third, fifth and sixth frame.
+fn refusing(alloc: Global) -> Result<MemorySink, AllocError> {
+    let mut faults = Vec::new(alloc);
+    faults.push((3, Sending::Absent))?;
+    faults.push((5, Sending::Failed))?;
+    faults.push((6, Sending::Failed))?;
+    Ok(MemorySink::new(alloc, faults))
+}
+
+#[test]
+fn a_notice_that_is_not_taken_is_counted_nowhere(rt: HostRuntime) -> Result<(), Fail> {
+    let messages: [&[u8]; 4] = [
+        &INIT_7_8,
+        &poll(2, [7, 0], 0),
+        &poll(3, [8, 0], 0),
+        &poll(4, [9, 0], 0),
+    ];
+    // The sends are the reply to INIT, and then a reply and its notice for each poll.
+    let frames: [&[u8]; 4] = [&ACCEPTED, &ready(2), &ready(3), &news([9, 0])];
+    let source = source_of(rt.alloc(), &messages)?;
+    let sink = refusing(rt.alloc())?;
+    let mut expected = counts(4, 3);
+    expected.lost = 1;
+    let sink = serves(&rt, source, sink, expected, 0);
+    assert_eq!(rt; differ_at(sink.frames(), &frames), None);
+    Ok(())
+}
+
+/// A source of one poll more than there are places, and of two GETATTRs.
+fn many_polls(alloc: Global) -> Result<MemorySource, AllocError> {
+    let mut turns = Vec::new(alloc);
+    turns.push(turn(alloc, &INIT_7_8)?)?;
+    for handle in 0..=PLACES {
+        turns.push(turn(alloc, &poll(2, [handle as u8, 0], 1))?)?;
+    }
+    turns.push(turn(alloc, &getattr(3, 0))?)?;
+    turns.push(turn(alloc, &getattr(3, 0))?)?;
+    Ok(MemorySource::new(turns))
+}
+
+/// Puts this frame behind the others.
+fn put(alloc: Global, frames: &mut Vec<Items<u8>>, frame: &[u8]) -> Result<(), AllocError> {
+    frames.push(Items::from_vec(frame.to_vec(alloc)?))?;
+    Ok(())
+}
+
+/// What is sent for them: the reply to INIT, and then those to the polls; the reply to a GETATTR, and the notices for which
+/// there are places; the reply to the other one, and the notice that is left.
+fn many_frames(alloc: Global) -> Result<Vec<Items<u8>>, AllocError> {
+    let mut frames = Vec::new(alloc);
+    put(alloc, &mut frames, &ACCEPTED)?;
+    for _ in 0..=PLACES {
+        put(alloc, &mut frames, &ready(2))?;
+    }
+    put(alloc, &mut frames, &error_reply(3, ENOENT))?;
+    for place in 0..PLACES {
+        // The filesystem tells of the newest poll first.
+        put(alloc, &mut frames, &news([(PLACES - place) as u8, 0]))?;
+    }
+    put(alloc, &mut frames, &error_reply(3, ENOENT))?;
+    put(alloc, &mut frames, &news([0, 0]))?;
+    Ok(frames)
+}
+
+#[test]
+fn a_notice_for_which_there_is_no_place_waits(rt: HostRuntime) -> Result<(), Fail> {
+    let messages = PLACES as u64 + 4;
+    let frames = many_frames(rt.alloc())?;
+    let source = many_polls(rt.alloc())?;
+    let sink = MemorySink::new(rt.alloc(), Vec::new(rt.alloc()));
+    let sink = serves(&rt, source, sink, counts(messages, messages), 0);
+    assert_eq!(rt; sink.frames(), frames.as_slice());
+    Ok(())
+}

@@ -1,0 +1,28 @@
+-- What filesystems of tests promise.
+use Rattle.std.specs.Prelude.{◌≡◌, ℕ, Result}
+use Rattle.fuse_request.specs.Call.{Call}
+use Rattle.fuse_request.specs.Call.Call.{Lookup, GetAttr, Link, Read, Poll}
+use Rattle.fuse_request.specs.declared.request.Request.{Request}
+use Rattle.fuse_reply.specs.Answer.{Answer}
+use Rattle.fuse_reply.specs.Door.{DoorSeen}
+use Rattle.fuse_reply.specs.declared.door.NoDoor.{NoDoor}
+use Rattle.fuse_reply.specs.declared.out.Out.{Out}
+use Rattle.fuse_dispatch.specs.Defaults.{default_answer}
+use Rattle.fuse_dispatch.specs.Owed.{Answers}
+
+-- which answer a call may have
+abbrev pub Allows : Type 1
+Allows = Call → Answer → Type 0
+
+-- their own answer to a call that they may answer themselves, and the default answer to each other one
+abbrev pub own_or_default : (own : Allows) → Allows
+own_or_default own (Lookup parent name) a = own (Lookup parent name) a
+own_or_default own (GetAttr ino fh) a = own (GetAttr ino fh) a
+own_or_default own (Link ino newparent newname) a = own (Link ino newparent newname) a
+own_or_default own (Read ino fh offset size flags lock_owner) a = own (Read ino fh offset size flags lock_owner) a
+own_or_default own (Poll ino fh kh events flags) a = own (Poll ino fh kh events flags) a
+own_or_default own c a = default_answer c ≡ a
+
+-- what they give back to the call, by an answer of their own
+abbrev pub IsAnswered : (own : Allows) → Request → Call → (id : ℕ) → Result DoorSeen NoDoor → Out → Type 0
+IsAnswered own request c id door out = Answers {F = Unit {0}} (λ fs r c' a. own c' a) tt request c id door out

@@ -1,5 +1,0 @@
-use Rattle.fuse_session_tests.proofs.deferring.Counts.answer_all.Given as goal
-
--- a token less each time
-abbrev pub decreases-loop-later : goal.decreases-loop-later
-decreases-loop-later g l = l.tokens.len

@@ -1,6 +1,0 @@
-use Rattle.fuse_reply.specs.Answer.Answer.{Error}
-use Rattle.fuse_dispatch.proofs.Answering.{Answered-frame}
-use Rattle.fuse_session_tests.proofs.worker_tests.HoldingProbe.lookup.Goals as goal
-
-pub returns : goal.returns
-returns c = Answered-frame (Error c.answer_to.result) tt c.error.ensures.answer tt c.error.ensures.reply
