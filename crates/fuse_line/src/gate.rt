@@ -38,6 +38,12 @@ impl Gate {
         }
     }
 
+    /// Whether a thread waits that the next move wakes.
+    #[cfg(test)]
+    pub(crate) fn is_waited_at(&self) -> bool {
+        self.waiting.load(Ordering::SeqCst) > 0
+    }
+
     // From here on each move wakes this thread: what it looks at after this, it cannot miss.
     fn enter(&self) -> u64 {
         self.waiting.fetch_add(1, Ordering::SeqCst);

@@ -29,8 +29,8 @@ pub struct Full<T> {
 #[derive(Drop)]
 pub struct Line<T: Class> {
     queue: RuledArrayQueue<T, Hand<T>, Moved>,
-    items: Gate,
-    places: Gate,
+    pub(crate) items: Gate,
+    pub(crate) places: Gate,
 }
 
 impl<T: Class> Model for Line<T> {

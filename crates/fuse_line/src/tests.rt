@@ -1,12 +1,13 @@
 ghost use Rattle.std.specs.Prelude.{◌≡◌};
 ghost use Rattle.fuse_line.specs.declared.hand.Kind.TheVariants.{First, Inner};
 
+use crate::gate::Gate;
 use crate::*;
 use std::sync::Wait;
 use std::sync::atomic::{AtomicBool, Ordering};
 use std::test::*;
-use std::time::{Clock, CpuClock, Duration};
-use std::{io, thread};
+use std::thread;
+use std::time::{Clock, Duration};
 
 #[derive(Clone, Copy, Debug, PartialEq, Eq)]
 struct Item {
@@ -141,112 +142,90 @@ fn moves_a_million_items_in_order_through_few_places(rt: HostRuntime) -> Result<
     Ok(())
 }
 
-// A pop that waits, and the processor time of this thread for it, in milliseconds.
-fn timed_pop<R: Wait + CpuClock>(
-    rt: &R,
-    line: &Line<Item>,
-    mut pass: Pass<Item>,
-    stop: &AtomicBool,
-) -> io::Result<(Option<Item>, u128)>
-    requires { (pass.line ≡ line.now) × (pass.hand.kind ≡ Inner) }
-{
-    let before = rt.thread_cpu_time()?;
-    let found = line.pop_waiting(rt, &mut pass, stop);
-    let after = rt.thread_cpu_time()?;
-    Ok((found, after.saturating_sub(before).as_millis()))
+// Whether a thread comes to wait at the gate within ten seconds.
+fn comes_to_wait<R: Clock>(rt: &R, gate: &Gate) -> bool {
+    for _ in 0..10_000 {
+        if gate.is_waited_at() {
+            return true;
+        }
+        thread::sleep(rt, Duration::from_millis(1));
+    }
+    false
 }
 
-// The same of a push that waits.
-fn timed_push<R: Wait + CpuClock>(
-    rt: &R,
-    line: &Line<Item>,
-    mut pass: Pass<Item>,
-) -> io::Result<u128>
-    requires { (pass.line ≡ line.now) × (pass.hand.kind ≡ First) }
-{
-    let before = rt.thread_cpu_time()?;
-    line.push_waiting(rt, &mut pass, job(2));
-    let after = rt.thread_cpu_time()?;
-    Ok(after.saturating_sub(before).as_millis())
-}
-
-fn push_later<R: Wait + Clock>(rt: &R, line: &Line<Item>, mut pass: Pass<Item>) -> bool
-    requires { (pass.line ≡ line.now) × (pass.hand.kind ≡ First) }
-{
-    thread::sleep(rt, Duration::from_millis(300));
-    line.push(rt, &mut pass, job(1)).is_ok()
-}
-
-fn pop_later<R: Wait + Clock>(rt: &R, line: &Line<Item>, mut pass: Pass<Item>) -> Option<Item>
-    requires { (pass.line ≡ line.now) × (pass.hand.kind ≡ Inner) }
-{
-    thread::sleep(rt, Duration::from_millis(300));
-    line.pop(rt, &mut pass)
+// Whether a thread comes to wait at the gate and sleeps there: most of a hundred looks find it waiting. One that tries
+// again and again is between two waits most of the time.
+fn sleeps_at<R: Clock>(rt: &R, gate: &Gate) -> bool {
+    if !comes_to_wait(rt, gate) {
+        return false;
+    }
+    let mut asleep = 0u64;
+    for _ in 0..100 {
+        thread::sleep(rt, Duration::from_millis(1));
+        asleep = asleep.wrapping_add(u64::from(gate.is_waited_at()));
+    }
+    asleep > 50
 }
 
 #[test]
 fn a_pop_sleeps_until_an_item_comes(rt: HostRuntime) -> Result<(), Fail> {
     let (line, mut pass) = Line::new(rt.alloc(), 1)?;
-    let taker = line.split(&mut pass, false);
+    let mut taker = line.split(&mut pass, false);
     let stop = AtomicBool::new(false);
-    let (pushed, timed) = thread::join(
+    let (slept, found) = thread::join(
         &rt,
         ||
             requires { (pass.line ≡ line) × (pass.hand.kind ≡ First) }
-        { push_later(&rt, &line, pass) },
+        {
+            let slept = sleeps_at(&rt, &line.items);
+            (slept, line.push(&rt, &mut pass, job(1)))
+        },
         ||
             requires { (taker.line ≡ line) × (taker.hand.kind ≡ Inner) }
-        { timed_pop(&rt, &line, taker, &stop) },
+        { line.pop_waiting(&rt, &mut taker, &stop) },
     );
-    let (found, spent) = timed?;
-    assert_eq!(rt; (pushed, found), (true, Some(job(1))));
-    assert!(rt; spent < 50, "{spent} of 300 milliseconds");
+    assert_eq!(rt; (slept, found), ((true, Ok(())), Some(job(1))));
     Ok(())
 }
 
 #[test]
 fn a_push_sleeps_until_a_place_comes(rt: HostRuntime) -> Result<(), Fail> {
     let (line, mut pass) = Line::new(rt.alloc(), 1)?;
-    let taker = line.split(&mut pass, false);
+    let mut taker = line.split(&mut pass, false);
     let pushed = line.push(&rt, &mut pass, job(1));
-    let (popped, spent) = thread::join(
+    let (slept, ()) = thread::join(
         &rt,
         ||
             requires { (taker.line ≡ line) × (taker.hand.kind ≡ Inner) }
-        { pop_later(&rt, &line, taker) },
+        {
+            let slept = sleeps_at(&rt, &line.places);
+            (slept, line.pop(&rt, &mut taker))
+        },
         ||
             requires { (pass.line ≡ line) × (pass.hand.kind ≡ First) }
-        { timed_push(&rt, &line, pass) },
+        { line.push_waiting(&rt, &mut pass, job(2)) },
     );
-    let spent = spent?;
-    assert_eq!(rt; (pushed, popped), (Ok(()), Some(job(1))));
-    assert!(rt; spent < 50, "{spent} of 300 milliseconds");
+    assert_eq!(rt; (pushed, slept), (Ok(()), (true, Some(job(1)))));
     Ok(())
 }
 
 #[test]
 fn a_pop_sleeps_until_its_flag_is_up(rt: HostRuntime) -> Result<(), Fail> {
     let (line, mut pass) = Line::new(rt.alloc(), 1)?;
-    let taker = line.split(&mut pass, false);
+    let mut taker = line.split(&mut pass, false);
     let stop = AtomicBool::new(false);
-    let (still, timed) = thread::join(
+    let (slept, found): (bool, Option<Item>) = thread::join(
         &rt,
         || {
-            thread::sleep(&rt, Duration::from_millis(300));
-            let still = !stop.swap(true, Ordering::SeqCst);
+            let slept = sleeps_at(&rt, &line.items);
+            stop.store(true, Ordering::SeqCst);
             line.wake();
-            still
+            slept
         },
         ||
             requires { (taker.line ≡ line) × (taker.hand.kind ≡ Inner) }
-        {
-            let timed = timed_pop(&rt, &line, taker, &stop);
-            (timed, stop.load(Ordering::SeqCst))
-        },
+        { line.pop_waiting(&rt, &mut taker, &stop) },
     );
-    let (timed, stopped) = timed;
-    let (found, spent) = timed?;
-    assert_eq!(rt; (still, found, stopped), (true, None, true));
-    assert!(rt; spent < 50, "{spent} of 300 milliseconds");
+    assert_eq!(rt; (slept, found), (true, None));
     Ok(())
 }
