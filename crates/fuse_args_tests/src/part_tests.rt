@@ -1,4 +1,5 @@
 // Each part of fixed size, fetched from bytes of which each 4 are their number, from 1.
+use crate::asserts::expect_same_in;
 use fuse_args::{
     AccessArguments, ArgumentIterator, BMapArguments, BatchForgetArguments, CopyFileRangeArguments,
     CreateArguments, FAllocateArguments, FSyncArguments, FlushArguments, GetAttrArguments,
@@ -6,7 +7,6 @@ use fuse_args::{
     MkNodArguments, OpenArguments, PollArguments, ReadArguments, ReleaseArguments,
     Rename2Arguments, SetAttrArguments, SetXAttrArguments, WriteArguments,
 };
-use std::test::Fail;
 
 /// Bytes of which each 4 are their number, from 1.
 fn numbered() -> [u8; 91] {
@@ -260,28 +260,29 @@ const PARTS: [(u16, usize); 25] = [
 ];
 
 #[test]
-fn fetches_each_part(rt: HostRuntime) -> Result<(), Fail> {
+fn fetches_each_part(rt: HostRuntime) {
     let bytes = numbered();
     for (opcode, size) in PARTS {
         for length in 0..size {
             let mut arguments = ArgumentIterator::new(bytes.get(..length).unwrap_or(&[]));
             let found = is_in_place(opcode, &mut arguments);
-            assert_eq!(rt;
-                (found, arguments.len()),
-                (None, length),
-                "{opcode} of {length}"
+            expect_same_in(
+                &rt,
+                &(opcode, length),
+                &(found, arguments.len()),
+                &(None, length),
             );
         }
         for more in [0, 3] {
             let front = bytes.get(..size.saturating_add(more)).unwrap_or(&[]);
             let mut arguments = ArgumentIterator::new(front);
             let found = is_in_place(opcode, &mut arguments);
-            assert_eq!(rt;
-                (found, arguments.len()),
-                (Some(true), more),
-                "{opcode} before {more}"
+            expect_same_in(
+                &rt,
+                &(opcode, more),
+                &(found, arguments.len()),
+                &(Some(true), more),
             );
         }
     }
-    Ok(())
 }

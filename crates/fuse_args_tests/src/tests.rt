@@ -1,6 +1,6 @@
 // What is fetched from bodies of several lengths: INIT as kernels of several ages send it, names, and rows.
+use crate::asserts::{expect, expect_same, expect_same_in};
 use fuse_args::ArgumentIterator;
-use std::test::Fail;
 
 /// What a new kernel sends: an older one sends fewer of these bytes.
 const BYTES: [u8; 64] = [
@@ -22,41 +22,41 @@ fn fetched_init(arguments: &mut ArgumentIterator<'_>) -> Option<[u32; 5]> {
 }
 
 #[test]
-fn fetches_init_of_each_length(rt: HostRuntime) -> Result<(), Fail> {
+fn fetches_init_of_each_length(rt: HostRuntime) {
     for (length, flags2) in [(16, 0), (18, 0x102), (64, 0x0403_0102)] {
         let mut arguments = ArgumentIterator::new(BYTES.get(..length).unwrap_or(&[]));
         let expected = Some([7, 40, 4096, 0x4000_0001, flags2]);
-        assert_eq!(rt; fetched_init(&mut arguments), expected, "of {length}");
-        assert_eq!(rt; arguments.len(), 0, "of {length}");
+        expect_same_in(&rt, &length, &fetched_init(&mut arguments), &expected);
+        expect_same_in(&rt, &length, &arguments.len(), &0);
     }
     let mut arguments = ArgumentIterator::new(BYTES.get(..15).unwrap_or(&[]));
-    assert_eq!(rt; fetched_init(&mut arguments), None);
-    assert_eq!(rt; arguments.len(), 15);
-    Ok(())
+    expect_same(&rt, &fetched_init(&mut arguments), &None);
+    expect_same(&rt, &arguments.len(), &15);
 }
 
 #[test]
-fn fetches_numbers_below_zero(rt: HostRuntime) -> Result<(), Fail> {
+fn fetches_numbers_below_zero(rt: HostRuntime) {
     let mut bytes = [0xff; 48];
     bytes[8] = 0xfe;
     bytes[32] = 0xfd;
     let write = ArgumentIterator::new(&bytes).fetch_write();
-    assert_eq!(rt;
-        write.map(|write| (write.offset, write.flags)),
-        Some((-2, -3))
+    expect_same(
+        &rt,
+        &write.map(|write| (write.offset, write.flags)),
+        &Some((-2, -3)),
     );
     let lseek = ArgumentIterator::new(&bytes).fetch_lseek();
-    assert_eq!(rt;
-        lseek.map(|lseek| (lseek.offset, lseek.whence)),
-        Some((-2, -1))
+    expect_same(
+        &rt,
+        &lseek.map(|lseek| (lseek.offset, lseek.whence)),
+        &Some((-2, -1)),
     );
     let lock = ArgumentIterator::new(&bytes).fetch_getlk();
-    assert_eq!(rt; lock.map(|lock| lock.typ), Some(-3));
-    Ok(())
+    expect_same(&rt, &lock.map(|lock| lock.typ), &Some(-3));
 }
 
 #[test]
-fn fetches_rows(rt: HostRuntime) -> Result<(), Fail> {
+fn fetches_rows(rt: HostRuntime) {
     let bytes = [7; 35];
     let cases = [
         (0, Some(0), 35),
@@ -69,14 +69,13 @@ fn fetches_rows(rt: HostRuntime) -> Result<(), Fail> {
     for (count, size, left) in cases {
         let mut arguments = ArgumentIterator::new(&bytes);
         let rows = arguments.fetch_slice(count);
-        assert_eq!(rt; rows.map(|rows| rows.len()), size, "of {count}");
-        assert_eq!(rt; arguments.len(), left, "of {count}");
+        expect_same_in(&rt, &count, &rows.map(|rows| rows.len()), &size);
+        expect_same_in(&rt, &count, &arguments.len(), &left);
     }
     let mut arguments = ArgumentIterator::new(b"0123456789abcdef0123456789ABCDEF*");
-    assert!(rt; arguments.fetch_slice(1).is_some());
+    expect(&rt, "a row is there", arguments.fetch_slice(1).is_some());
     let second: &[u8] = b"0123456789ABCDEF";
-    assert_eq!(rt; arguments.fetch_slice(1), Some(second));
-    Ok(())
+    expect_same(&rt, &arguments.fetch_slice(1), &Some(second));
 }
 
 /// What a fetch of a name from these bytes gives, and how many bytes it leaves.
@@ -87,7 +86,7 @@ fn name_and_left(bytes: &[u8]) -> (Option<&[u8]>, usize) {
 }
 
 #[test]
-fn fetches_names(rt: HostRuntime) -> Result<(), Fail> {
+fn fetches_names(rt: HostRuntime) {
     let cases: [(&[u8], Option<&[u8]>, usize); 6] = [
         (b"bar\0ba", Some(b"bar"), 2),
         (b"bar\0", Some(b"bar"), 0),
@@ -97,36 +96,38 @@ fn fetches_names(rt: HostRuntime) -> Result<(), Fail> {
         (b"", None, 0),
     ];
     for (bytes, name, left) in cases {
-        assert_eq!(rt; name_and_left(bytes), (name, left));
+        expect_same(&rt, &name_and_left(bytes), &(name, left));
     }
-    Ok(())
 }
 
 #[test]
-fn fetches_one_after_another(rt: HostRuntime) -> Result<(), Fail> {
+fn fetches_one_after_another(rt: HostRuntime) {
     let bytes = b"foo\0bar\0ba";
     let names: [&[u8]; 2] = [b"foo", b"bar"];
     let mut arguments = ArgumentIterator::new(bytes);
     for name in names {
-        assert_eq!(rt; arguments.fetch_str(), Some(name));
+        expect_same(&rt, &arguments.fetch_str(), &Some(name));
     }
-    assert_eq!(rt; arguments.len(), 2);
+    expect_same(&rt, &arguments.len(), &2);
 
     let mut arguments = ArgumentIterator::new(bytes);
-    assert!(rt; arguments.fetch_u64().is_some());
-    assert_eq!(rt; arguments.fetch_u64(), None);
-    assert!(rt; arguments.fetch_access().is_none());
-    assert_eq!(rt; arguments.fetch_str(), None);
-    assert_eq!(rt; arguments.len(), 2);
+    expect(&rt, "a number is there", arguments.fetch_u64().is_some());
+    expect_same(&rt, &arguments.fetch_u64(), &None);
+    expect(
+        &rt,
+        "no access mask is there",
+        arguments.fetch_access().is_none(),
+    );
+    expect_same(&rt, &arguments.fetch_str(), &None);
+    expect_same(&rt, &arguments.len(), &2);
     let end: &[u8] = b"ba";
-    assert_eq!(rt; arguments.fetch_all(), end);
-    assert_eq!(rt; arguments.len(), 0);
+    expect_same(&rt, &arguments.fetch_all(), &end);
+    expect_same(&rt, &arguments.len(), &0);
 
     let mut arguments = ArgumentIterator::new(bytes);
-    assert!(rt; arguments.fetch_str().is_some());
+    expect(&rt, "a name is there", arguments.fetch_str().is_some());
     let end: &[u8] = b"bar\0ba";
-    assert_eq!(rt; arguments.fetch_all(), end);
+    expect_same(&rt, &arguments.fetch_all(), &end);
     let none: &[u8] = b"";
-    assert_eq!(rt; arguments.fetch_all(), none);
-    Ok(())
+    expect_same(&rt, &arguments.fetch_all(), &none);
 }

@@ -1,4 +1,5 @@
 // What reaches a filesystem of each message, and what the message gets where the filesystem wants nothing of its own.
+use crate::asserts::expect_same;
 use crate::every_call::{Call, Reply, Row, asker, frame_of, message_of};
 use crate::file_calls::files;
 use crate::node_calls::nodes;
@@ -11,7 +12,6 @@ use fuse_wire::{Items, MemorySink, MemorySource, RequestId, Turn};
 use std::alloc::{AllocError, Global};
 use std::process::Abort;
 use std::sync::Wait;
-use std::test::Fail;
 use std::thread::Threads;
 
 /// The lowest byte of the id of the message of a row.
@@ -73,8 +73,8 @@ fn first_unmet(recorded: &[Recorded], rows: &[Row]) -> Option<usize> {
 fn reached<R: Abort>(rt: &R, recorded: &[Recorded], rows: &[Row]) {
     let asker = (0xdead_beef_baad_f00d, 0xc001_d00d, 0xc001_cafe, 0xc0de_ba5e);
     let (init, others) = recorded.split_first().expect(rt, "INIT");
-    assert_eq!(rt; (init.method, init.asker), ("init", asker));
-    assert_eq!(rt; first_unmet(others, rows), None);
+    expect_same(rt, &(init.method, init.asker), &("init", asker));
+    expect_same(rt, &first_unmet(others, rows), &None);
 }
 
 /// The frames that the sink takes for INIT and the messages of these rows.
@@ -108,8 +108,8 @@ fn replied<R: AllocGlobal + Abort>(
 ) -> Result<(), AllocError> {
     let frames = frames_of(rt.alloc(), rows)?;
     let notes = notes_of(rt.alloc(), rows)?;
-    assert_eq!(rt; sink.frames(), frames.as_slice());
-    assert_eq!(rt; sink.notes(), notes.as_slice());
+    expect_same(rt, &sink.frames(), &frames.as_slice());
+    expect_same(rt, &sink.notes(), &notes.as_slice());
     Ok(())
 }
 
@@ -165,9 +165,10 @@ fn comes_to<R: Threads + Wait + AllocGlobal + Abort + Send + Sync + Copy>(
 ) -> Result<(), AllocError> {
     let served = serve_rows(rt, rows)?;
     let messages = rows.len().saturating_add(1) as u64;
-    assert_eq!(rt;
-        (served.outcome, served.transcript.received),
-        (Ok(()), messages)
+    expect_same(
+        rt,
+        &(served.outcome, served.transcript.received),
+        &(Ok(()), messages),
     );
     reached(rt, served.recorded.as_slice(), rows);
     let compared = replied(rt, &served.sink, rows);
@@ -176,13 +177,11 @@ fn comes_to<R: Threads + Wait + AllocGlobal + Abort + Send + Sync + Copy>(
 }
 
 #[test]
-fn what_is_asked_of_inodes_and_names_reaches_the_filesystem(rt: HostRuntime) -> Result<(), Fail> {
-    comes_to(&rt, nodes())?;
-    Ok(())
+fn what_is_asked_of_inodes_and_names_reaches_the_filesystem(rt: HostRuntime) {
+    comes_to(&rt, nodes()).expect(&rt, "there is memory");
 }
 
 #[test]
-fn what_is_asked_of_open_files_reaches_the_filesystem(rt: HostRuntime) -> Result<(), Fail> {
-    comes_to(&rt, files())?;
-    Ok(())
+fn what_is_asked_of_open_files_reaches_the_filesystem(rt: HostRuntime) {
+    comes_to(&rt, files()).expect(&rt, "there is memory");
 }

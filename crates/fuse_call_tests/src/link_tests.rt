@@ -1,6 +1,7 @@
 // LINK: which inode gets one more name, and in which directory.
 ghost use Rattle.std.specs.Prelude.{false};
 
+use crate::asserts::expect_same;
 use fuse_config::{Config, SessionACL};
 use fuse_probing::test_messages::{
     ACCEPTED, EIO, EPERM, INIT_7_8, differ_at, error_reply, link, source_of,
@@ -10,7 +11,6 @@ use fuse_reply::{Replied, ReplyEntry};
 use fuse_request::Request;
 use fuse_session::mount;
 use fuse_wire::{Errno, INodeNo, MemorySink};
-use std::test::Fail;
 
 /// A filesystem that lets no name be given, and answers EPERM for the inode 2 in the directory 1 alone, and else EIO.
 #[derive(Drop)]
@@ -54,17 +54,19 @@ impl Probe for Linking {
 }
 
 #[test]
-fn a_link_is_of_the_old_inode_in_the_new_directory(rt: HostRuntime) -> Result<(), Fail> {
+fn a_link_is_of_the_old_inode_in_the_new_directory(rt: HostRuntime) {
     let alloc = rt.alloc();
-    let source = source_of(alloc, &[&INIT_7_8, &link(3, 2, 1), &link(4, 1, 2)])?;
+    let source = source_of(alloc, &[&INIT_7_8, &link(3, 2, 1), &link(4, 1, 2)]).expect(
+        &rt,
+        "there is memory",
+    );
     let sink = MemorySink::new(alloc, Vec::new(alloc));
     let filesystem = Probing { probe: Linking };
     let mut config = Config::new(alloc);
     config.acl = SessionACL::All;
     let over = mount(&rt, filesystem, source, sink, 0, 4096, &config);
-    assert_eq!(rt; (over.outcome, over.transcript.frames), (Ok(()), 3));
+    expect_same(&rt, &(over.outcome, over.transcript.frames), &(Ok(()), 3));
     let expected: [&[u8]; 3] = [&ACCEPTED, &error_reply(3, EPERM), &error_reply(4, EIO)];
-    assert_eq!(rt; differ_at(over.sink.frames(), &expected), None);
+    expect_same(&rt, &differ_at(over.sink.frames(), &expected), &None);
     drop(over);
-    Ok(())
 }

@@ -1,5 +1,6 @@
 // The verdicts on messages, in the order of the rules.
 
+use crate::asserts::expect_same_in;
 use crate::every_call::{Reply, Row, message_of};
 use crate::file_calls::files;
 use crate::node_calls::nodes;
@@ -17,7 +18,6 @@ use fuse_request::opcode::{
 use fuse_request::{Operation, RequestError};
 use fuse_session::{Verdict, verdict};
 use std::process::Abort;
-use std::test::Fail;
 
 /// A verdict as plain data: an error by its number, a forget by its lookups, a batch of them by its rows, a read by its
 /// offset.
@@ -68,7 +68,7 @@ fn ruling_on(acl: SessionACL, message: &[u8]) -> Ruling {
 /// The verdicts on these messages, in a session of user 5 that serves these users.
 fn rules<R: Abort>(rt: &R, acl: SessionACL, rows: &[(&[u8], Ruling)]) {
     for (place, (message, expected)) in rows.iter().enumerate() {
-        assert_eq!(rt; ruling_on(acl, message), *expected, "row {place}");
+        expect_same_in(rt, &place, &ruling_on(acl, message), expected);
     }
 }
 
@@ -244,9 +244,9 @@ fn expected_of(row: &Row) -> Course {
 }
 
 /// The verdicts on the messages of these rows, whose user is neither root nor the user 5.
-fn rules_on_rows<R: AllocGlobal + Abort>(rt: &R, rows: &[Row]) -> Result<(), Fail> {
+fn rules_on_rows<R: AllocGlobal + Abort>(rt: &R, rows: &[Row]) {
     for (place, row) in rows.iter().enumerate() {
-        let message = message_of(rt.alloc(), row, 2)?;
+        let message = message_of(rt.alloc(), row, 2).expect(rt, "there is memory");
         let served = expected_of(row);
         let refused = if PASSING.contains(&row.opcode) {
             served
@@ -259,13 +259,12 @@ fn rules_on_rows<R: AllocGlobal + Abort>(rt: &R, rows: &[Row]) -> Result<(), Fai
             course_on(SessionACL::Owner, 5, &message),
             course_on(SessionACL::Owner, 0xb4b3_b2b1, &message),
         );
-        assert_eq!(rt; found, (served, refused, refused, served), "row {place}");
+        expect_same_in(rt, &place, &found, &(served, refused, refused, served));
     }
-    Ok(())
 }
 
 #[test]
-fn rules_on_every_opcode(rt: HostRuntime) -> Result<(), Fail> {
-    rules_on_rows(&rt, nodes())?;
+fn rules_on_every_opcode(rt: HostRuntime) {
+    rules_on_rows(&rt, nodes());
     rules_on_rows(&rt, files())
 }

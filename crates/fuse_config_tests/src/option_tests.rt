@@ -1,4 +1,5 @@
 // Each option, its text there and back, and each pair of options.
+use crate::asserts::{expect, expect_same};
 use fuse_config::{
     Config, Conflict, InvalidOption, MountOption, MountOptionGroup, OptionText, SessionACL,
     check_option_conflicts, conflicts_with, option_group, option_to_flag, option_to_string,
@@ -74,11 +75,12 @@ fn each_option_has_its_text_group_and_flag(rt: HostRuntime) -> Result<(), Fail> 
     let alloc = rt.alloc();
     for (place, (text, group, flag, _)) in ROWS.iter().enumerate() {
         let option = option_at(alloc, place)?;
-        assert_eq!(rt; option_to_string(alloc, &option)?.as_str(), *text);
-        assert_eq!(rt; MountOption::from_str(alloc, text)?, option);
-        assert_eq!(rt;
-            (option_group(&option), option_to_flag(&option)),
-            (*group, *flag)
+        expect_same(&rt, &option_to_string(alloc, &option)?.as_str(), text);
+        expect_same(&rt, &MountOption::from_str(alloc, text)?, &option);
+        expect_same(
+            &rt,
+            &(option_group(&option), option_to_flag(&option)),
+            &(*group, *flag),
         );
     }
     Ok(())
@@ -106,13 +108,15 @@ fn tries_pair<R: Abort>(rt: &R, alloc: Global, first: usize, second: usize) -> R
     } else {
         Ok(())
     };
-    assert_eq!(rt;
-        conflicts_with(&option) == Some(option_at(alloc, second)?),
-        conflicting
+    expect_same(
+        rt,
+        &(conflicts_with(&option) == Some(option_at(alloc, second)?)),
+        &conflicting,
     );
-    assert_eq!(rt;
-        conflict_of(vec![in alloc; option, other]?, alloc),
-        expected
+    expect_same(
+        rt,
+        &conflict_of(vec![in alloc; option, other]?, alloc),
+        &expected,
     );
     Ok(())
 }
@@ -152,7 +156,11 @@ fn names_the_least_places_of_a_conflict(rt: HostRuntime) -> Result<(), Fail> {
         (&[5, 7, 10, 11, 13, 17, 5], Ok(())),
     ];
     for (places, expected) in rows {
-        assert_eq!(rt; conflict_of(options_at(alloc, places)?, alloc), expected);
+        expect_same(
+            &rt,
+            &conflict_of(options_at(alloc, places)?, alloc),
+            &expected,
+        );
     }
     Ok(())
 }
@@ -190,8 +198,8 @@ fn reads_texts_that_nobody_wrote(rt: HostRuntime) -> Result<(), Fail> {
     ];
     for (text, kind, rest) in rows {
         let option = MountOption::from_str(alloc, text)?;
-        assert_eq!(rt; told(&option), (kind, rest));
-        assert_eq!(rt; option_to_string(alloc, &option)?.as_str(), text);
+        expect_same(&rt, &told(&option), &(kind, rest));
+        expect_same(&rt, &option_to_string(alloc, &option)?.as_str(), &text);
     }
     Ok(())
 }
@@ -202,8 +210,12 @@ fn a_custom_text_may_name_another_option(rt: HostRuntime) -> Result<(), Fail> {
     for text in ["ro", "auto_unmount", "fsname=", "subtype=x"] {
         let custom = MountOption::CUSTOM(OptionText::new(alloc, text)?);
         let written = option_to_string(alloc, &custom)?;
-        assert_eq!(rt; written.as_str(), text);
-        assert!(rt; MountOption::from_str(alloc, written.as_str())? != custom);
+        expect_same(&rt, &written.as_str(), &text);
+        expect(
+            &rt,
+            "the text is another option",
+            MountOption::from_str(alloc, written.as_str())? != custom,
+        );
     }
     Ok(())
 }
@@ -216,7 +228,7 @@ fn others_than_the_owner_ask_for_an_option(rt: HostRuntime) -> Result<(), Fail> 
         (SessionACL::Owner, None),
     ];
     for (acl, option) in rows {
-        assert_eq!(rt; acl.to_mount_option(), option);
+        expect_same(&rt, &acl.to_mount_option(), &option);
     }
     Ok(())
 }

@@ -1,4 +1,5 @@
 // Lookups that are answered after their methods have returned, in whole sessions.
+use crate::asserts::{expect, expect_same};
 use crate::deferring::{Deferring, HELD, LAST, SOON, Shelf, Tally, close, shared_shelf};
 use crate::serving::{Rest, are_replies, counts, rest_of};
 use fuse_config::{Config, SessionACL};
@@ -12,7 +13,6 @@ use fuse_wire::{Items, MemorySink, MemorySource};
 use std::alloc::{AllocError, AllocGlobal, Global};
 use std::process::Abort;
 use std::sync::{Arc, Wait};
-use std::test::Fail;
 use std::thread;
 use std::thread::Threads;
 
@@ -168,13 +168,21 @@ fn has_replied<R: Abort>(
     tally: Tally,
 ) {
     let expected = counts(received, (replies.len() as u64).saturating_add(1));
-    assert_eq!(rt; (served.outcome, served.transcript), (Ok(()), expected));
-    assert!(rt; are_replies(served.sink.frames(), replies));
-    assert_eq!(rt; served.tally, Some(tally));
+    expect_same(
+        rt,
+        &(served.outcome, served.transcript),
+        &(Ok(()), expected),
+    );
+    expect(
+        rt,
+        "the frames are the replies",
+        are_replies(served.sink.frames(), replies),
+    );
+    expect_same(rt, &served.tally, &Some(tally));
 }
 
 #[test]
-fn a_lookup_is_answered_by_another_thread(rt: HostRuntime) -> Result<(), Fail> {
+fn a_lookup_is_answered_by_another_thread(rt: HostRuntime) {
     let plan = Plan {
         way: Way::Mount,
         n_threads: 2,
@@ -182,14 +190,13 @@ fn a_lookup_is_answered_by_another_thread(rt: HostRuntime) -> Result<(), Fail> {
         least_held: 0,
     };
     let messages: [&[u8]; 3] = [&INIT_7_8, &lookup_of(2, SOON), &lookup_of(3, HELD)];
-    let served = serve(&rt, plan, &messages)?;
+    let served = serve(&rt, plan, &messages).expect(&rt, "there is memory");
     let replies = [error_reply(2, ENOENT), error_reply(3, ENOENT)];
     has_replied(&rt, &served, 3, &replies, all_queued(1));
-    Ok(())
 }
 
 #[test]
-fn two_lookups_under_one_id_are_answered_later(rt: HostRuntime) -> Result<(), Fail> {
+fn two_lookups_under_one_id_are_answered_later(rt: HostRuntime) {
     let plan = Plan {
         way: Way::NewAndRun,
         n_threads: 2,
@@ -202,18 +209,17 @@ fn two_lookups_under_one_id_are_answered_later(rt: HostRuntime) -> Result<(), Fa
         &lookup_of(2, SOON),
         &lookup_of(3, HELD),
     ];
-    let served = serve(&rt, plan, &messages)?;
+    let served = serve(&rt, plan, &messages).expect(&rt, "there is memory");
     let replies = [
         error_reply(2, ENOENT),
         error_reply(2, ENOENT),
         error_reply(3, ENOENT),
     ];
     has_replied(&rt, &served, 4, &replies, all_queued(2));
-    Ok(())
 }
 
 #[test]
-fn one_thread_puts_no_lookup_off(rt: HostRuntime) -> Result<(), Fail> {
+fn one_thread_puts_no_lookup_off(rt: HostRuntime) {
     let plan = Plan {
         way: Way::Mount,
         n_threads: 1,
@@ -226,7 +232,7 @@ fn one_thread_puts_no_lookup_off(rt: HostRuntime) -> Result<(), Fail> {
         &lookup_of(3, LAST),
         &lookup_of(4, HELD),
     ];
-    let served = serve(&rt, plan, &messages)?;
+    let served = serve(&rt, plan, &messages).expect(&rt, "there is memory");
     let replies = [
         error_reply(2, ENOENT),
         error_reply(3, ENOENT),
@@ -240,12 +246,11 @@ fn one_thread_puts_no_lookup_off(rt: HostRuntime) -> Result<(), Fail> {
     };
     has_replied(&rt, &served, 4, &replies, shut);
     let in_order: [&[u8]; 4] = [&ACCEPTED, &replies[0], &replies[1], &replies[2]];
-    assert_eq!(rt; differ_at(served.sink.frames(), &in_order), None);
-    Ok(())
+    expect_same(&rt, &differ_at(served.sink.frames(), &in_order), &None);
 }
 
 #[test]
-fn a_lookup_after_the_end_is_told_how_many_were_taken(rt: HostRuntime) -> Result<(), Fail> {
+fn a_lookup_after_the_end_is_told_how_many_were_taken(rt: HostRuntime) {
     // Once both threads hold a lookup, the methods of the others have returned.
     let plan = Plan {
         way: Way::NewAndRun,
@@ -260,7 +265,7 @@ fn a_lookup_after_the_end_is_told_how_many_were_taken(rt: HostRuntime) -> Result
         &lookup_of(4, HELD),
         &lookup_of(5, HELD),
     ];
-    let served = serve(&rt, plan, &messages)?;
+    let served = serve(&rt, plan, &messages).expect(&rt, "there is memory");
     let replies = [
         error_reply(2, ENOENT),
         error_reply(4, ENOENT),
@@ -273,11 +278,10 @@ fn a_lookup_after_the_end_is_told_how_many_were_taken(rt: HostRuntime) -> Result
         taken: 4,
     };
     has_replied(&rt, &served, 5, &replies, told);
-    Ok(())
 }
 
 #[test]
-fn what_is_answered_at_once_keeps_its_frame(rt: HostRuntime) -> Result<(), Fail> {
+fn what_is_answered_at_once_keeps_its_frame(rt: HostRuntime) {
     let plan = Plan {
         way: Way::Mount,
         n_threads: 2,
@@ -291,7 +295,7 @@ fn what_is_answered_at_once_keeps_its_frame(rt: HostRuntime) -> Result<(), Fail>
         &lookup_of(4, SOON),
         &lookup_of(5, HELD),
     ];
-    let served = serve(&rt, plan, &messages)?;
+    let served = serve(&rt, plan, &messages).expect(&rt, "there is memory");
     let replies = [
         error_reply(2, ENOENT),
         error_reply(3, ENOSYS),
@@ -299,7 +303,6 @@ fn what_is_answered_at_once_keeps_its_frame(rt: HostRuntime) -> Result<(), Fail>
         error_reply(5, ENOENT),
     ];
     has_replied(&rt, &served, 5, &replies, all_queued(2));
-    Ok(())
 }
 
 /// How many lookups the long session puts off.
@@ -343,23 +346,23 @@ fn refusals(alloc: Global, frames: &[Items<u8>], ids: u64) -> Result<(u64, u64),
 }
 
 #[test]
-fn many_lookups_are_answered_by_four_threads(rt: HostRuntime) -> Result<(), Fail> {
+fn many_lookups_are_answered_by_four_threads(rt: HostRuntime) {
     let plan = Plan {
         way: Way::Mount,
         n_threads: 2,
         awaited: MANY,
         least_held: 0,
     };
-    let source = many_lookups(rt.alloc(), MANY)?;
-    let served = serve_source(&rt, plan, 4, source)?;
+    let source = many_lookups(rt.alloc(), MANY).expect(&rt, "there is memory");
+    let served = serve_source(&rt, plan, 4, source).expect(&rt, "there is memory");
     let refused = refusals(rt.alloc(), served.sink.frames(), MANY + 1);
-    assert_eq!(rt;
-        (served.outcome, served.transcript),
-        (Ok(()), counts(MANY + 2, MANY + 2))
+    expect_same(
+        &rt,
+        &(served.outcome, served.transcript),
+        &(Ok(()), counts(MANY + 2, MANY + 2)),
     );
-    assert_eq!(rt; served.tally, Some(all_queued(MANY)));
+    expect_same(&rt, &served.tally, &Some(all_queued(MANY)));
     drop(served);
     // All but the handshake's reply.
-    assert_eq!(rt; refused?, (MANY + 1, 1));
-    Ok(())
+    expect_same(&rt, &refused.expect(&rt, "there is memory"), &(MANY + 1, 1));
 }

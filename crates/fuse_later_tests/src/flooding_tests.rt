@@ -2,6 +2,7 @@
 ghost use Rattle.std.specs.Prelude.{◌≡◌, false, refl};
 ghost use Rattle.fuse_dispatch.specs.Defaults.{default_answer};
 
+use crate::asserts::expect_same;
 use crate::serving::{Rest, counts, rest_of};
 use fuse_config::{Config, SessionACL};
 use fuse_notify::{Notifier, NotifyError};
@@ -16,7 +17,6 @@ use fuse_wire::{INodeNo, Items, MemorySink, NoMemory, PollHandle};
 use std::alloc::{AllocError, Global};
 use std::sync::atomic::{AtomicU64, Ordering};
 use std::sync::{Arc, Mutex, Wait};
-use std::test::Fail;
 use std::thread::Threads;
 
 /// One more than the line of a session holds.
@@ -143,18 +143,21 @@ fn notices_after(frames: &[Items<u8>], replies: &[&[u8]; 2]) -> Option<usize> {
 }
 
 #[test]
-fn the_notices_of_a_filesystem_follow_its_reply(rt: HostRuntime) -> Result<(), Fail> {
-    let slot = Arc::new(rt.alloc(), Mutex::new(None))?;
-    let rest = serve_flooding(&rt, &slot)?;
-    assert_eq!(rt; (rest.outcome, rest.transcript), (Ok(()), counts(2, 2)));
+fn the_notices_of_a_filesystem_follow_its_reply(rt: HostRuntime) {
+    let slot = Arc::new(rt.alloc(), Mutex::new(None)).expect(&rt, "there is memory");
+    let rest = serve_flooding(&rt, &slot).expect(&rt, "there is memory");
+    expect_same(
+        &rt,
+        &(rest.outcome, rest.transcript),
+        &(Ok(()), counts(2, 2)),
+    );
     let probe = &rest.filesystem.probe;
     let told = (
         probe.queued.load(Ordering::SeqCst),
         probe.full.load(Ordering::SeqCst),
     );
-    assert_eq!(rt; told, (SENT - 1, 1));
+    expect_same(&rt, &told, &(SENT - 1, 1));
     let replies: [&[u8]; 2] = [&ACCEPTED, &error_reply(2, ENOSYS)];
     let expected = Some(SENT as usize + 1);
-    assert_eq!(rt; notices_after(rest.sink.frames(), &replies), expected);
-    Ok(())
+    expect_same(&rt, &notices_after(rest.sink.frames(), &replies), &expected);
 }

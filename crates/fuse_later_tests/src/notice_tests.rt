@@ -1,4 +1,5 @@
 // Notices, which are sent after the frame of the message that was answered last.
+use crate::asserts::expect_same;
 use crate::polling::Polling;
 use crate::serving::{Rest, counts, serve};
 use fuse_probing::Probing;
@@ -10,7 +11,6 @@ use fuse_wire::{Items, MemorySink, MemorySource, Sending};
 use std::alloc::{AllocError, Global};
 use std::process::Abort;
 use std::sync::Wait;
-use std::test::Fail;
 use std::thread::Threads;
 
 /// How many notices the line of a session holds.
@@ -49,25 +49,24 @@ fn serves<R: Threads + Wait + AllocGlobal + Abort + Send + Sync + Copy>(
         outcome,
         transcript,
     } = serve(rt, Probing { probe }, source, sink, None);
-    assert_eq!(rt; (outcome, transcript), (Ok(()), counts));
-    assert_eq!(rt; filesystem.probe.waiting(), waiting);
+    expect_same(rt, &(outcome, transcript), &(Ok(()), counts));
+    expect_same(rt, &filesystem.probe.waiting(), &waiting);
     drop(filesystem);
     sink
 }
 
 #[test]
-fn a_poll_that_is_told_at_once_is_answered_before_its_notice(rt: HostRuntime) -> Result<(), Fail> {
+fn a_poll_that_is_told_at_once_is_answered_before_its_notice(rt: HostRuntime) {
     let polls: [&[u8]; 2] = [&INIT_7_8, &poll(2, [0x21, 0x43], 0)];
     let frames: [&[u8]; 3] = [&ACCEPTED, &ready(2), &news([0x21, 0x43])];
-    let source = source_of(rt.alloc(), &polls)?;
+    let source = source_of(rt.alloc(), &polls).expect(&rt, "there is memory");
     let sink = MemorySink::new(rt.alloc(), Vec::new(rt.alloc()));
     let sink = serves(&rt, source, sink, counts(2, 2), 0);
-    assert_eq!(rt; differ_at(sink.frames(), &frames), None);
-    Ok(())
+    expect_same(&rt, &differ_at(sink.frames(), &frames), &None);
 }
 
 #[test]
-fn a_poll_is_told_once_there_is_news(rt: HostRuntime) -> Result<(), Fail> {
+fn a_poll_is_told_once_there_is_news(rt: HostRuntime) {
     let messages: [&[u8]; 4] = [
         &INIT_7_8,
         &poll(2, [7, 0], 1),
@@ -81,11 +80,10 @@ fn a_poll_is_told_once_there_is_news(rt: HostRuntime) -> Result<(), Fail> {
         &news([7, 0]),
         &error_reply(4, ENOENT),
     ];
-    let source = source_of(rt.alloc(), &messages)?;
+    let source = source_of(rt.alloc(), &messages).expect(&rt, "there is memory");
     let sink = MemorySink::new(rt.alloc(), Vec::new(rt.alloc()));
     let sink = serves(&rt, source, sink, counts(4, 4), 0);
-    assert_eq!(rt; differ_at(sink.frames(), &frames), None);
-    Ok(())
+    expect_same(&rt, &differ_at(sink.frames(), &frames), &None);
 }
 
 /// A sink that does not take its third, fifth and sixth frame.
@@ -98,7 +96,7 @@ fn refusing(alloc: Global) -> Result<MemorySink, AllocError> {
 }
 
 #[test]
-fn a_notice_that_is_not_taken_is_counted_nowhere(rt: HostRuntime) -> Result<(), Fail> {
+fn a_notice_that_is_not_taken_is_counted_nowhere(rt: HostRuntime) {
     let messages: [&[u8]; 4] = [
         &INIT_7_8,
         &poll(2, [7, 0], 0),
@@ -107,13 +105,12 @@ fn a_notice_that_is_not_taken_is_counted_nowhere(rt: HostRuntime) -> Result<(), 
     ];
     // The sends are the reply to INIT, and then a reply and its notice for each poll.
     let frames: [&[u8]; 4] = [&ACCEPTED, &ready(2), &ready(3), &news([9, 0])];
-    let source = source_of(rt.alloc(), &messages)?;
-    let sink = refusing(rt.alloc())?;
+    let source = source_of(rt.alloc(), &messages).expect(&rt, "there is memory");
+    let sink = refusing(rt.alloc()).expect(&rt, "there is memory");
     let mut expected = counts(4, 3);
     expected.lost = 1;
     let sink = serves(&rt, source, sink, expected, 0);
-    assert_eq!(rt; differ_at(sink.frames(), &frames), None);
-    Ok(())
+    expect_same(&rt, &differ_at(sink.frames(), &frames), &None);
 }
 
 /// A source of one poll more than there are places, and of two GETATTRs.
@@ -153,12 +150,11 @@ fn many_frames(alloc: Global) -> Result<Vec<Items<u8>>, AllocError> {
 }
 
 #[test]
-fn a_notice_for_which_there_is_no_place_waits(rt: HostRuntime) -> Result<(), Fail> {
+fn a_notice_for_which_there_is_no_place_waits(rt: HostRuntime) {
     let messages = PLACES as u64 + 4;
-    let frames = many_frames(rt.alloc())?;
-    let source = many_polls(rt.alloc())?;
+    let frames = many_frames(rt.alloc()).expect(&rt, "there is memory");
+    let source = many_polls(rt.alloc()).expect(&rt, "there is memory");
     let sink = MemorySink::new(rt.alloc(), Vec::new(rt.alloc()));
     let sink = serves(&rt, source, sink, counts(messages, messages), 0);
-    assert_eq!(rt; sink.frames(), frames.as_slice());
-    Ok(())
+    expect_same(&rt, &sink.frames(), &frames.as_slice());
 }

@@ -1,6 +1,7 @@
 // Sessions on several threads.
 ghost use Rattle.std.specs.Prelude.{false};
 
+use crate::asserts::{expect, expect_same};
 use crate::serving::{are_replies, serve};
 use fuse_probing::test_messages::{ENOENT, INIT_7_8, error_reply, lookup_of, source_of};
 use fuse_probing::{Argument, Probe, Probing};
@@ -8,7 +9,6 @@ use fuse_reply::{Replied, ReplyEntry};
 use fuse_request::Request;
 use fuse_wire::{Errno, INodeNo, MemorySink};
 use std::sync::atomic::{AtomicBool, Ordering};
-use std::test::Fail;
 use std::thread;
 
 /// How often an answer is held at most.
@@ -79,18 +79,25 @@ impl Probe for Holding {
 }
 
 #[test]
-fn two_calls_run_at_once(rt: HostRuntime) -> Result<(), Fail> {
+fn two_calls_run_at_once(rt: HostRuntime) {
     let alloc = rt.alloc();
     let messages: [&[u8]; 3] = [&INIT_7_8, &lookup_of(2, b'a'), &lookup_of(3, b'b')];
-    let source = source_of(alloc, &messages)?;
+    let source = source_of(alloc, &messages).expect(&rt, "there is memory");
     let sink = MemorySink::new(alloc, Vec::new(alloc));
     let probe = Holding {
         is_b_called: AtomicBool::new(false),
     };
     let rest = serve(&rt, Probing { probe }, source, sink, Some(2));
-    assert_eq!(rt; rest.outcome, Ok(()));
-    assert_eq!(rt; (rest.transcript.received, rest.transcript.frames), (3, 3));
+    expect_same(&rt, &rest.outcome, &Ok(()));
+    expect_same(
+        &rt,
+        &(rest.transcript.received, rest.transcript.frames),
+        &(3, 3),
+    );
     let replies = [error_reply(2, ENOENT), error_reply(3, ENOENT)];
-    assert!(rt; are_replies(rest.sink.frames(), &replies));
-    Ok(())
+    expect(
+        &rt,
+        "the frames are the replies",
+        are_replies(rest.sink.frames(), &replies),
+    );
 }

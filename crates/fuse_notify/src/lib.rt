@@ -9,8 +9,6 @@ mod notice;
 mod notifier;
 mod payloads;
 mod poll_notifier;
-#[cfg(test)]
-mod tests;
 
 pub use delivery::{Undelivered, deliver};
 pub use notice::{Notice, NoticeError};

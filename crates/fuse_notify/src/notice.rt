@@ -150,25 +150,3 @@ impl Notice {
         self.frame
     }
 }
-
-#[cfg(test)]
-mod tests {
-    use super::*;
-
-    #[test]
-    fn a_frame_of_the_longest_length_fits_and_no_longer_one(rt: HostRuntime) {
-        let longest = u32::MAX as usize - 16;
-        for (front, back) in [(16, 1), (24, 0), (24, 1)] {
-            let room = longest - front - back;
-            assert_eq!(rt;
-                (
-                    fits(front, 0, back),
-                    fits(front, room, back),
-                    fits(front, room + 1, back)
-                ),
-                (true, true, false)
-            );
-            assert_eq!(rt; fits(front, u32::MAX as usize + 1, back), false);
-        }
-    }
-}

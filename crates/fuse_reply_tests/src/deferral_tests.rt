@@ -1,9 +1,10 @@
 // Replies that come later than their methods.
-ghost use Rattle.std.specs.Prelude.{◌≡◌, ◌<◌, IfOk, IfSome};
+ghost use Rattle.std.specs.Prelude.{◌≡◌, ◌<◌, IfSome};
 ghost use Rattle.std.specs.Arc.{arc_value};
 ghost use Rattle.fuse_line.specs.declared.hand.Kind.TheVariants.{First};
 ghost use Rattle.fuse_reply.specs.Late.{IsFrameFor};
 
+use crate::asserts::expect_same;
 use crate::retire_each;
 use crate::tests::ID;
 use fuse_line::{Class, Line, Pass};
@@ -11,8 +12,9 @@ use fuse_reply::{
     Door, EndMark, EndNote, LateRefusal, Later, NoDoor, Out, Parcel, Replied, ReplyDirectory,
     ReplyEmpty, Seal,
 };
-use fuse_wire::{Errno, FileType, INodeNo, NoMemory};
+use fuse_wire::{Errno, FileType, INodeNo, RequestId};
 use std::alloc::Global;
+use std::process::Abort;
 use std::sync::{Arc, Wait};
 
 /// The number of the message that is answered.
@@ -29,26 +31,28 @@ struct Desk {
 }
 
 /// One whose line has so many places.
-fn desk_of(alloc: Global, places: usize) -> Result<Desk, NoMemory>
+fn desk_of<A: Abort>(rt: &A, alloc: Global, places: usize) -> Desk
     requires { 0 < places }
-    ensures line { IfOk result (λ desk. desk.first.line ≡ arc_value desk.line) }
-    ensures first { IfOk result (λ desk. desk.first.hand.kind ≡ First) }
-    ensures mark { IfOk result (λ desk. (desk.seal ≡ desk.mark.name) × (desk.door.mark.name ≡ desk.mark.name)) }
+    ensures line { result.first.line ≡ arc_value result.line }
+    ensures first { result.first.hand.kind ≡ First }
+    ensures mark { (result.seal ≡ result.mark.name) × (result.door.mark.name ≡ result.mark.name) }
 {
-    let (line, mut first) = Line::new(alloc, places)?;
+    let (line, mut first) = Line::new(alloc, places).expect(rt, "there is memory");
     let pass = line.split(&mut first, true);
     let Ok(line) = Arc::new(alloc, line) else {
-        return Err(NoMemory);
+        panic!(rt; "there is memory")
     };
-    let (mut mark, seal) = EndMark::new(alloc)?;
-    let door = Door::new(SEQ, Arc::try_clone(&line)?, pass, mark.share()?);
-    Ok(Desk {
+    let (mut mark, seal) = EndMark::new(alloc).expect(rt, "there is memory");
+    let shared = Arc::try_clone(&line).expect(rt, "there is memory");
+    let share = mark.share().expect(rt, "there is memory");
+    let door = Door::new(SEQ, shared, pass, share);
+    Desk {
         line,
         first,
         mark,
         seal,
         door,
-    })
+    }
 }
 
 /// What goes out at once of a reply, or why it can't be put off. Where it can, its frame is sent.
@@ -60,7 +64,7 @@ fn put_off<R: Wait>(rt: &R, reply: ReplyEmpty) -> Result<Out, NoDoor> {
             Ok(replied.into_out())
         }
         Err((reply, none)) => {
-            let _out = reply.ok().into_out();
+            drop(reply.ok().into_out());
             Err(none)
         }
     }
@@ -79,7 +83,7 @@ fn refuse<R: Wait>(
 {
     match reply.defer() {
         Ok((replied, later)) => {
-            let _out = replied.into_out();
+            drop(replied.into_out());
             let (reply, token) = later.reply();
             match token.send(rt, reply.ok()) {
                 Ok(()) => Some((false, None)),
@@ -95,7 +99,7 @@ fn refuse<R: Wait>(
             }
         }
         Err((reply, _)) => {
-            let _out = reply.ok().into_out();
+            drop(reply.ok().into_out());
             None
         }
     }
@@ -113,16 +117,18 @@ fn refused_at_the_end<R: Wait>(
     ensures ended { IfSome result (λ back. back.2.name ≡ back.0.door.mark.name) }
 {
     let Desk {
-        line: _,
-        first: _,
+        line,
+        first,
         mut mark,
         seal,
         door,
     } = desk;
+    drop((line, first));
     mark.set(seal, taken);
+    drop(mark);
     match ReplyEmpty::new(alloc, ID).with_door(Ok(door)).defer() {
         Ok((replied, later)) => {
-            let _out = replied.into_out();
+            drop(replied.into_out());
             let (reply, token) = later.reply();
             match token.send(rt, reply.ok()) {
                 Ok(()) => None,
@@ -134,10 +140,15 @@ fn refused_at_the_end<R: Wait>(
             }
         }
         Err((reply, _)) => {
-            let _out = reply.ok().into_out();
+            drop(reply.ok().into_out());
             None
         }
     }
+}
+
+/// Why a reply could not be put off.
+fn why_not(put_off: &Result<Out, NoDoor>) -> Option<&NoDoor> {
+    put_off.as_ref().err()
 }
 
 #[test]
@@ -148,7 +159,35 @@ fn a_reply_without_a_door_comes_back(rt: HostRuntime) {
         &rt,
         ReplyEmpty::new(alloc, ID).with_door(Err(NoDoor::Starved)),
     );
-    assert!(rt; matches!(&shut, Err(NoDoor::Shut)) && matches!(&starved, Err(NoDoor::Starved)));
+    expect_same(
+        &rt,
+        &(why_not(&shut), why_not(&starved)),
+        &(Some(&NoDoor::Shut), Some(&NoDoor::Starved)),
+    );
+    drop(shut);
+    drop(starved);
+}
+
+/// The number and id of the mark that stands for a reply.
+fn mark_of(put_off: &Result<Out, NoDoor>) -> Option<(u64, RequestId)> {
+    match put_off {
+        Ok(Out::Deferred(seq, id)) => Some((*seq, *id)),
+        _ => None,
+    }
+}
+
+/// The number and id of the late frame that waits, and whether it counts as an inner item.
+fn late_in(waits: &Option<Parcel>) -> Option<(u64, RequestId, bool)> {
+    match waits {
+        Some(parcel) => match parcel {
+            Parcel::Late(frame) => {
+                frame.is_reply();
+                Some((frame.seq(), frame.id(), parcel.inner()))
+            }
+            _ => None,
+        },
+        None => None,
+    }
 }
 
 #[test]
@@ -157,24 +196,21 @@ fn a_late_frame_is_queued_under_its_number(rt: HostRuntime) {
     let Desk {
         line,
         mut first,
-        mark: _,
-        seal: _,
+        mark,
+        seal,
         door,
-    } = desk_of(alloc, 2).expect(&rt, "there is memory");
+    } = desk_of(&rt, alloc, 2);
     let out = put_off(&rt, ReplyEmpty::new(alloc, ID).with_door(Ok(door)));
-    let told = match out {
-        Ok(Out::Deferred(seq, id)) => Some((seq, id)),
-        _ => None,
-    };
-    assert_eq!(rt; told, Some((SEQ, ID)));
-    let Some(Parcel::Late(frame)) = line.pop(&rt, &mut first) else {
-        panic!(rt; "a late frame waits")
-    };
-    frame.is_reply();
-    assert_eq!(rt;
-        (frame.seq(), frame.id(), Parcel::Late(frame).inner()),
-        (SEQ, ID, false)
+    let waits = line.pop(&rt, &mut first);
+    expect_same(
+        &rt,
+        &(mark_of(&out), late_in(&waits)),
+        &(Some((SEQ, ID)), Some((SEQ, ID, false))),
     );
+    drop(out);
+    drop(waits);
+    drop((line, first));
+    drop((mark, seal));
 }
 
 #[test]
@@ -186,12 +222,34 @@ fn a_full_line_and_the_end_of_a_run_refuse_it(rt: HostRuntime) {
         mut mark,
         seal,
         door,
-    } = desk_of(alloc, 1).expect(&rt, "there is memory");
-    let news = Out::note(ID, 0);
-    assert!(rt; line.push(&rt, &mut first, Parcel::Prompt(0, news)).is_ok());
+    } = desk_of(&rt, alloc, 1);
+    let pushed = line.push(&rt, &mut first, Parcel::Prompt(0, Out::note(ID, 0)));
+    let is_full = pushed.is_ok();
     let reply = ReplyEmpty::new(alloc, ID).with_door(Ok(door));
     let refused = refuse(&rt, &mut mark, seal, u64::MAX, reply);
-    assert_eq!(rt; refused, Some((true, Some(u64::MAX - 1))));
+    expect_same(
+        &rt,
+        &(is_full, refused),
+        &(true, Some((true, Some(u64::MAX - 1)))),
+    );
+    drop((line, first));
+    drop(mark);
+}
+
+/// Puts a listing off, and fails it later. This is whether it could be put off.
+fn fail_later<R: Wait>(rt: &R, reply: ReplyDirectory) -> bool {
+    match reply.defer() {
+        Ok((replied, later)) => {
+            drop(replied.into_out());
+            let (reply, token) = later.reply();
+            token.send_or_retire(rt, reply.error(Errno::EINTR));
+            true
+        }
+        Err((reply, _)) => {
+            drop(reply.ok().into_out());
+            false
+        }
+    }
 }
 
 #[test]
@@ -200,32 +258,29 @@ fn a_listing_is_put_off_with_its_entries(rt: HostRuntime) {
     let Desk {
         line,
         mut first,
-        mark: _,
-        seal: _,
+        mark,
+        seal,
         door,
-    } = desk_of(alloc, 2).expect(&rt, "there is memory");
+    } = desk_of(&rt, alloc, 2);
     let mut reply = ReplyDirectory::new(alloc, ID, 100).with_door(Ok(door));
     let added = reply.add(INodeNo(5), 1, FileType::RegularFile, b"a");
-    match reply.defer() {
-        Ok((replied, later)) => {
-            let _out = replied.into_out();
-            let (reply, token) = later.reply();
-            token.send_or_retire(&rt, reply.error(Errno::EINTR));
-        }
-        Err((reply, _)) => {
-            let _out = reply.ok().into_out();
-        }
-    }
-    assert!(rt; matches!(&added, Ok(false)));
+    let is_late = fail_later(&rt, reply);
     let waits = line.pop(&rt, &mut first);
-    assert!(rt; matches!(&waits, Some(Parcel::Late(_))));
+    expect_same(
+        &rt,
+        &(added, is_late, late_in(&waits)),
+        &(Ok(false), true, Some((SEQ, ID, false))),
+    );
+    drop(waits);
+    drop((line, first));
+    drop((mark, seal));
 }
 
 #[test]
 fn replies_to_two_runs_are_let_go_by_their_own_notes(rt: HostRuntime) {
     let alloc = rt.alloc();
-    let first = desk_of(alloc, 1).expect(&rt, "there is memory");
-    let second = desk_of(alloc, 1).expect(&rt, "there is memory");
+    let first = desk_of(&rt, alloc, 1);
+    let second = desk_of(&rt, alloc, 1);
     let one = refused_at_the_end(&rt, alloc, first, 3);
     let other = refused_at_the_end(&rt, alloc, second, 5);
     let told = match (one, other) {
@@ -246,5 +301,5 @@ fn replies_to_two_runs_are_let_go_by_their_own_notes(rt: HostRuntime) {
         }
         (None, None) => None,
     };
-    assert_eq!(rt; told, Some((3, 5)));
+    expect_same(&rt, &told, &Some((3, 5)));
 }

@@ -1,9 +1,11 @@
 // What directory replies carry, as bytes.
-use crate::tests::{ATTRIBUTES, ID, attributes, carries, sends_frame, sent};
+use crate::asserts::expect_same;
+use crate::tests::{ATTRIBUTES, ID, attributes, carries, sends_frame, sent, told};
 use fuse_reply::laws::{listings_give_their_entries_back, plus_listings_split_in_one_way};
 use fuse_reply::{OutEnd, ReplyDirectory, ReplyDirectoryPlus};
 use fuse_wire::{Duration, Errno, FileType, Generation, INodeNo, NoMemory};
 use std::alloc::Global;
+use std::process::Abort;
 
 #[test]
 fn lists_entries_of_a_directory(rt: HostRuntime) {
@@ -13,7 +15,7 @@ fn lists_entries_of_a_directory(rt: HostRuntime) {
         reply.add(INodeNo(0xaabb), 1, FileType::Directory, b"hello"),
         reply.add(INodeNo(0xccdd), 2, FileType::RegularFile, b"world.rs"),
     );
-    assert_eq!(rt; taken, (Ok(false), Ok(false)));
+    expect_same(&rt, &taken, &(Ok(false), Ok(false)));
     let payload = [
         0xbb, 0xaa, 0, 0, 0, 0, 0, 0, 1, 0, 0, 0, 0, 0, 0, 0, 5, 0, 0, 0, 4, 0, 0, 0, 0x68, 0x65,
         0x6c, 0x6c, 0x6f, 0, 0, 0, 0xdd, 0xcc, 0, 0, 0, 0, 0, 0, 2, 0, 0, 0, 0, 0, 0, 0, 8, 0, 0,
@@ -33,11 +35,12 @@ fn a_shorter_entry_may_fit_where_another_did_not(rt: HostRuntime) {
         reply.add(INodeNo(0x11), 4, FileType::Symlink, b""),
         reply.add(INodeNo(0xaabb), 5, FileType::Directory, b"hello"),
     );
-    assert_eq!(rt;
-        became,
-        (Ok(false), Ok(true), Ok(false), Ok(true), Ok(true))
+    expect_same(
+        &rt,
+        &became,
+        &(Ok(false), Ok(true), Ok(false), Ok(true), Ok(true)),
     );
-    assert_eq!(rt; reply.size(), 56);
+    expect_same(&rt, &reply.size(), &56);
     let payload = [
         0xbb, 0xaa, 0, 0, 0, 0, 0, 0, 1, 0, 0, 0, 0, 0, 0, 0, 5, 0, 0, 0, 4, 0, 0, 0, 0x68, 0x65,
         0x6c, 0x6c, 0x6f, 0, 0, 0, 0x11, 0, 0, 0, 0, 0, 0, 0, 3, 0, 0, 0, 0, 0, 0, 0, 0, 0, 0, 0,
@@ -53,7 +56,7 @@ fn a_directory_without_entries_is_a_status(rt: HostRuntime) {
     let alloc = rt.alloc();
     let mut reply = ReplyDirectory::new(alloc, ID, 0);
     let full = reply.add(INodeNo(1), 1, FileType::Directory, b"");
-    assert_eq!(rt; full, Ok(true));
+    expect_same(&rt, &full, &Ok(true));
     carries(&rt, alloc, reply.ok().into_out(), &[]);
     let failed = [
         16, 0, 0, 0, 0xfe, 0xff, 0xff, 0xff, 0xef, 0xbe, 0xad, 0xde, 0, 0, 0, 0,
@@ -75,7 +78,7 @@ fn pads_each_name_to_a_multiple_of_eight(rt: HostRuntime) {
             FileType::Socket,
             &[7; 255][..count],
         );
-        assert_eq!(rt; taken, Ok(false));
+        expect_same(&rt, &taken, &Ok(false));
         let mut payload = [0; 280];
         payload[..16].copy_from_slice(&[0xff; 16]);
         payload[16] = count as u8;
@@ -89,7 +92,7 @@ fn pads_each_name_to_a_multiple_of_eight(rt: HostRuntime) {
             FileType::Socket,
             &[7; 255][..count],
         );
-        assert_eq!(rt; full, Ok(true));
+        expect_same(&rt, &full, &Ok(true));
         carries(&rt, alloc, short.ok().into_out(), &[]);
     }
 }
@@ -108,7 +111,7 @@ fn tells_what_kind_of_file_each_entry_is(rt: HostRuntime) {
     ] {
         let mut reply = ReplyDirectory::new(alloc, ID, 24);
         let taken = reply.add(INodeNo(0), 0, kind, b"");
-        assert_eq!(rt; taken, Ok(false));
+        expect_same(&rt, &taken, &Ok(false));
         let mut payload = [0; 24];
         payload[20] = typ;
         carries(&rt, alloc, reply.ok().into_out(), &payload);
@@ -150,35 +153,51 @@ fn list_thousand(reply: &mut ReplyDirectory) -> Result<usize, NoMemory> {
     Ok(1000)
 }
 
+/// The first entry of 32 bytes that is not the one of its place, and its place.
+fn first_other(listing: &[u8]) -> Option<(u16, &[u8])> {
+    for (i, entry) in (0..1000).zip(listing.chunks_exact(32)) {
+        if entry != numbered(i).as_slice() {
+            return Some((i, entry));
+        }
+    }
+    None
+}
+
+/// Lists a thousand entries in so many bytes. So many are taken, they take so many bytes, and each is in its place.
+fn expect_cut<A: Abort>(rt: &A, alloc: Global, size: usize, entries: usize, length: usize) {
+    let mut reply = ReplyDirectory::new(alloc, ID, size);
+    let taken = list_thousand(&mut reply);
+    let (sink, end) = sent(alloc, reply.ok().into_out());
+    let (end, frame, _) = told(&sink, end);
+    let listing = frame.unwrap_or(&[]).get(16..).unwrap_or(&[]);
+    expect_same(
+        rt,
+        &(taken, end, listing.len(), first_other(listing)),
+        &(Ok(entries), OutEnd::Written, length, None),
+    );
+}
+
+/// So many bytes for entries, how many entries are taken, and how many bytes these take.
+const CUTS: &[(usize, usize, usize)] = &[
+    (31, 0, 0),
+    (32, 1, 32),
+    (63, 1, 32),
+    (143, 4, 128),
+    (144, 4, 128),
+    (145, 4, 128),
+    (160, 5, 160),
+    (4095, 127, 4064),
+    (4096, 128, 4096),
+    (31_999, 999, 31_968),
+    (32_000, 1000, 32_000),
+    (4_294_967_295, 1000, 32_000),
+    (usize::MAX, 1000, 32_000),
+];
+
 #[test]
 fn a_long_directory_is_cut_at_its_size(rt: HostRuntime) {
-    let alloc = rt.alloc();
-    for (size, entries, length) in [
-        (31, 0, 0),
-        (32, 1, 32),
-        (63, 1, 32),
-        (143, 4, 128),
-        (144, 4, 128),
-        (145, 4, 128),
-        (160, 5, 160),
-        (4095, 127, 4064),
-        (4096, 128, 4096),
-        (31_999, 999, 31_968),
-        (32_000, 1000, 32_000),
-        (4_294_967_295, 1000, 32_000),
-        (usize::MAX, 1000, 32_000),
-    ] {
-        let mut reply = ReplyDirectory::new(alloc, ID, size);
-        assert_eq!(rt; list_thousand(&mut reply), Ok(entries));
-        let (sink, end) = sent(alloc, reply.ok().into_out());
-        assert_eq!(rt; (end, sink.frames().len()), (OutEnd::Written, 1));
-        for frame in sink.frames() {
-            let payload = frame.as_slice().get(16..).unwrap_or(&[]);
-            assert_eq!(rt; payload.len(), length);
-            for (i, entry) in (0..1000).zip(payload.chunks_exact(32)) {
-                assert_eq!(rt; entry, numbered(i).as_slice());
-            }
-        }
+    for (size, entries, length) in CUTS {
+        expect_cut(&rt, rt.alloc(), *size, *entries, *length);
     }
 }
 
@@ -197,15 +216,23 @@ fn list_five(alloc: Global) -> (ReplyDirectory, Result<bool, NoMemory>) {
     (reply, fifth)
 }
 
+/// How long the frame of a listing is, and the first entry that is not the one of its place.
+fn listed(alloc: Global, reply: ReplyDirectory) -> (usize, Option<u16>) {
+    let (sink, end) = sent(alloc, reply.ok().into_out());
+    let (_, frame, _) = told(&sink, end);
+    let frame = frame.unwrap_or(&[]);
+    let other = first_other(frame.get(16..).unwrap_or(&[]));
+    (frame.len(), other.map(|(place, _)| place))
+}
+
 #[test]
 fn lists_more_than_is_held_inline(rt: HostRuntime) {
     let (reply, fifth) = list_five(rt.alloc());
-    assert_eq!(rt; fifth, Ok(false));
-    let (sink, end) = sent(rt.alloc(), reply.ok().into_out());
-    assert_eq!(rt; (end, sink.frames().len()), (OutEnd::Written, 1));
-    for frame in sink.frames() {
-        assert_eq!(rt; frame.as_slice().len(), 176);
-    }
+    expect_same(
+        &rt,
+        &(fifth, listed(rt.alloc(), reply)),
+        &(Ok(false), (176, None)),
+    );
 }
 
 /// Takes the fifth entry, and that it is left out. Where the script `checks/refused-memory` refuses the memory, it is
@@ -213,15 +240,8 @@ fn lists_more_than_is_held_inline(rt: HostRuntime) {
 #[test]
 fn lists_more_than_is_held_inline_or_leaves_it_out(rt: HostRuntime) {
     let (reply, fifth) = list_five(rt.alloc());
-    let (sink, _) = sent(rt.alloc(), reply.ok().into_out());
     let length = if fifth == Ok(false) { 176 } else { 144 };
-    for frame in sink.frames() {
-        assert_eq!(rt; frame.as_slice().len(), length);
-        let payload = frame.as_slice().get(16..).unwrap_or(&[]);
-        for (i, entry) in (0..1000).zip(payload.chunks_exact(32)) {
-            assert_eq!(rt; entry, numbered(i).as_slice());
-        }
-    }
+    expect_same(&rt, &listed(rt.alloc(), reply), &(length, None));
 }
 
 #[test]
@@ -236,7 +256,7 @@ fn lists_entries_with_what_a_lookup_answers(rt: HostRuntime) {
         reply.add(INodeNo(0x99), 2, b"hello", &ttl, &attr, generation),
         reply.add(INodeNo(0x99), 3, b"", &ttl, &attr, generation),
     );
-    assert_eq!(rt; became, (Ok(false), Ok(true), Ok(false)));
+    expect_same(&rt, &became, &(Ok(false), Ok(true), Ok(false)));
     let front = [
         0x11, 0, 0, 0, 0, 0, 0, 0, 0xaa, 0, 0, 0, 0, 0, 0, 0, 0x65, 0x87, 0, 0, 0, 0, 0, 0, 0x65,
         0x87, 0, 0, 0, 0, 0, 0, 0x21, 0x43, 0, 0, 0x21, 0x43, 0, 0,

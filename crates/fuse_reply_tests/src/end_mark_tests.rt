@@ -1,4 +1,5 @@
 // The mark of a run's end.
+use crate::asserts::expect;
 use fuse_reply::EndMark;
 use fuse_reply::laws::{
     a_mark_is_set_or_not, notes_know_what_the_seal_set, notes_of_a_mark_know_one_number,
@@ -12,5 +13,9 @@ fn a_mark_is_shared_before_and_after_it_is_set(rt: HostRuntime) {
     let (mut mark, seal) = EndMark::new(rt.alloc()).expect(&rt, "there is memory");
     let mut share = mark.share().expect(&rt, "there is memory");
     mark.set(seal, u64::MAX);
-    assert!(rt; mark.share().is_ok() && share.share().is_ok());
+    expect(
+        &rt,
+        "both are shared",
+        mark.share().is_ok() && share.share().is_ok(),
+    );
 }

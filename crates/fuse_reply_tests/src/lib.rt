@@ -3,6 +3,8 @@
 #![tactic(auto)]
 
 #[cfg(test)]
+mod asserts;
+#[cfg(test)]
 mod deferral_tests;
 #[cfg(test)]
 mod directory_tests;

@@ -1,4 +1,5 @@
 // Frames on a stream of bytes.
+use crate::asserts::expect_same;
 use fuse_reply::laws::{
     an_error_is_sent_below_zero, frames_count_themselves, frames_that_go_out_are_replies,
     notices_are_set_aside, replies_are_not_set_aside,
@@ -40,13 +41,13 @@ fn frames_on_a_stream_split_at_their_lengths(rt: HostRuntime) {
         read.into_out().send(&mut sink),
         lowest.into_out().send(&mut sink),
     ];
-    assert_eq!(rt; ends, [OutEnd::Written; 4]);
+    expect_same(&rt, &ends, &[OutEnd::Written; 4]);
     let stream = sink.into_inner();
     let mut left = stream.bytes();
     for frame in frames {
         let (first, after) = split_frame(left).unwrap_or((&[], &[]));
-        assert_eq!(rt; first, frame);
+        expect_same(&rt, &first, &frame);
         left = after;
     }
-    assert_eq!(rt; left.len(), 0);
+    expect_same(&rt, &left.len(), &0);
 }

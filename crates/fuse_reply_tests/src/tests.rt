@@ -1,6 +1,7 @@
 // What goes out, as bytes.
 ghost use Rattle.std.specs.Prelude.{◌<◌, ◌^◌, length};
 
+use crate::asserts::expect_same;
 use fuse_reply::{
     Out, OutEnd, Packed, Reply, ReplyAttr, ReplyData, ReplyEmpty, ReplyEntry, ReplyOpen, ReplyXattr,
 };
@@ -10,7 +11,6 @@ use fuse_wire::{
 };
 use std::alloc::Global;
 use std::process::Abort;
-use std::test::Fail;
 
 /// The request that is answered.
 pub const ID: RequestId = RequestId(0xdead_beef);
@@ -22,44 +22,58 @@ pub fn sent(alloc: Global, out: Out) -> (MemorySink, OutEnd) {
     (sink, end)
 }
 
+/// How an out ended, the one frame that the sink has of it, and how many notes.
+pub fn told(sink: &MemorySink, end: OutEnd) -> (OutEnd, Option<&[u8]>, usize) {
+    let frame = match sink.frames() {
+        [frame] => Some(frame.as_slice()),
+        _ => None,
+    };
+    (end, frame, sink.notes().len())
+}
+
 /// One frame of these bytes goes out, and no note.
 pub fn sends_frame<A: Abort>(rt: &A, alloc: Global, out: Out, expected: &[u8]) {
     let (sink, end) = sent(alloc, out);
-    assert_eq!(rt; end, OutEnd::Written);
-    assert_eq!(rt; sink.frames().len(), 1);
-    for frame in sink.frames() {
-        assert_eq!(rt; frame.as_slice(), expected);
-    }
-    assert_eq!(rt; sink.notes().len(), 0);
+    expect_same(rt, &told(&sink, end), &(OutEnd::Written, Some(expected), 0));
+}
+
+/// The header of a frame of status 0 with so many bytes after it.
+fn done_header(count: usize) -> [u8; 16]
+    requires { count < 2 ^ 31 }
+{
+    let [l0, l1, l2, l3] = (16 + count as u32).to_le_bytes();
+    [
+        l0, l1, l2, l3, 0, 0, 0, 0, 0xef, 0xbe, 0xad, 0xde, 0, 0, 0, 0,
+    ]
 }
 
 /// One frame goes out, of status 0 and this payload, and no note.
 pub fn carries<A: Abort>(rt: &A, alloc: Global, out: Out, payload: &[u8])
     requires { length payload.now < 2 ^ 31 }
 {
+    let header = done_header(payload.len());
     let (sink, end) = sent(alloc, out);
-    assert_eq!(rt;
-        (end, sink.frames().len(), sink.notes().len()),
-        (OutEnd::Written, 1, 0)
+    let (end, frame, notes) = told(&sink, end);
+    let (front, rest) = frame
+        .unwrap_or(&[])
+        .split_at_checked(16)
+        .unwrap_or((&[], &[]));
+    expect_same(
+        rt,
+        &(end, front, rest, notes),
+        &(OutEnd::Written, header.as_slice(), payload, 0),
     );
-    let [l0, l1, l2, l3] = (16 + payload.len() as u32).to_le_bytes();
-    let header = [
-        l0, l1, l2, l3, 0, 0, 0, 0, 0xef, 0xbe, 0xad, 0xde, 0, 0, 0, 0,
-    ];
-    for frame in sink.frames() {
-        assert_eq!(rt; frame.as_slice().get(..16), Some(header.as_slice()));
-        assert_eq!(rt; frame.as_slice().get(16..), Some(payload));
-    }
 }
 
 /// One frame goes out, which has these bytes from `at` to `end`.
 fn sends_part<A: Abort>(rt: &A, alloc: Global, out: Out, at: usize, end: usize, expected: &[u8]) {
     let (sink, became) = sent(alloc, out);
-    assert_eq!(rt; became, OutEnd::Written);
-    assert_eq!(rt; sink.frames().len(), 1);
-    for frame in sink.frames() {
-        assert_eq!(rt; frame.as_slice().get(at..end), Some(expected));
-    }
+    let (became, frame, _) = told(&sink, became);
+    expect_same(
+        rt,
+        &(became, frame.unwrap_or(&[]).get(at..end)),
+        &(OutEnd::Written, Some(expected)),
+    );
 }
 
 /// The attributes that are sent.
@@ -300,14 +314,19 @@ fn long_frame() -> [u8; 161] {
 }
 
 #[test]
-fn packs_more_than_is_held_inline(rt: HostRuntime) -> Result<(), Fail> {
+fn packs_more_than_is_held_inline(rt: HostRuntime) {
     let alloc = rt.alloc();
-    let packed = Packed::new(alloc, ID, 0, &[7; 145])?;
+    let packed = Packed::new(alloc, ID, 0, &[7; 145]).expect(&rt, "there is memory");
     let frame = long_frame();
     let (header, payload) = frame.split_at(16);
-    let expected = format!(in alloc; "Packed {{ header: {header:?}, payload: {payload:?} }}")?;
-    assert_eq!(rt; format!(in alloc; "{packed:?}")?, expected);
-    Ok(())
+    let expected = format!(in alloc;
+        "Packed {{ header: {header:?}, payload: {payload:?} }}"
+    ).expect(&rt, "there is memory");
+    expect_same(
+        &rt,
+        &format!(in alloc; "{packed:?}").expect(&rt, "there is memory"),
+        &expected,
+    );
 }
 
 #[test]
@@ -324,39 +343,45 @@ fn answers_by_many_bytes_whole_or_by_the_want_of_memory(rt: HostRuntime) {
         16, 0, 0, 0, 0xf4, 0xff, 0xff, 0xff, 0xef, 0xbe, 0xad, 0xde, 0, 0, 0, 0,
     ];
     let (sink, end) = sent(alloc, long_reply(alloc));
-    assert_eq!(rt; end, OutEnd::Written);
-    assert_eq!(rt; sink.frames().len(), 1);
-    for frame in sink.frames() {
-        if frame.as_slice().len() == 16 {
-            assert_eq!(rt; frame.as_slice(), refused.as_slice());
-        } else {
-            assert_eq!(rt; frame.as_slice(), long_frame().as_slice());
-        }
-    }
+    let (end, frame, notes) = told(&sink, end);
+    let whole = long_frame();
+    let expected = if frame == Some(refused.as_slice()) {
+        refused.as_slice()
+    } else {
+        whole.as_slice()
+    };
+    expect_same(
+        &rt,
+        &(end, frame, notes),
+        &(OutEnd::Written, Some(expected), 0),
+    );
 }
 
 #[test]
 fn sends_a_note_and_nothing_for_what_is_deferred(rt: HostRuntime) {
-    let (sink, end) = sent(rt.alloc(), Out::note(ID, 4));
-    assert_eq!(rt; end, OutEnd::Noted);
-    assert_eq!(rt; sink.frames().len(), 0);
-    assert_eq!(rt; sink.notes(), [(ID, 4)].as_slice());
-    let (sink, end) = sent(rt.alloc(), Out::Deferred(1, ID));
-    assert_eq!(rt; end, OutEnd::Marked);
-    assert_eq!(rt; sink.frames().len(), 0);
-    assert_eq!(rt; sink.notes().len(), 0);
+    let (noted, note) = sent(rt.alloc(), Out::note(ID, 4));
+    let (deferred, mark) = sent(rt.alloc(), Out::Deferred(1, ID));
+    expect_same(
+        &rt,
+        &[
+            (note, noted.frames().len(), noted.notes()),
+            (mark, deferred.frames().len(), deferred.notes()),
+        ],
+        &[
+            (OutEnd::Noted, 0, [(ID, 4)].as_slice()),
+            (OutEnd::Marked, 0, &[]),
+        ],
+    );
 }
 
 #[test]
-fn a_frame_that_is_refused_is_lost_and_not_sent_again(rt: HostRuntime) -> Result<(), Fail> {
+fn a_frame_that_is_refused_is_lost_and_not_sent_again(rt: HostRuntime) {
     let alloc = rt.alloc();
     for fault in [Sending::Failed, Sending::Absent] {
         let mut faults = Vec::new(alloc);
-        faults.push((1, fault))?;
+        faults.push((1, fault)).expect(&rt, "there is memory");
         let mut sink = MemorySink::new(alloc, faults);
         let end = ReplyEmpty::new(alloc, ID).ok().into_out().send(&mut sink);
-        assert_eq!(rt; end, OutEnd::Lost);
-        assert_eq!(rt; sink.frames().len(), 0);
+        expect_same(&rt, &(end, sink.frames().len()), &(OutEnd::Lost, 0));
     }
-    Ok(())
 }

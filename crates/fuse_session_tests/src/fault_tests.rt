@@ -1,6 +1,7 @@
 // Sessions over sources and sinks that fail.
 ghost use Rattle.std.specs.Prelude.{None};
 
+use crate::asserts::{expect, expect_same};
 use crate::counting::{Course, run};
 use crate::tests::{Counts, serves_source};
 use fuse_config::Config;
@@ -13,7 +14,6 @@ use fuse_wire::{
 };
 use std::process::Abort;
 use std::sync::Wait;
-use std::test::Fail;
 use std::thread::Threads;
 
 /// Serves these turns, in a session with this outcome, which takes so many messages, of which all but INIT call the
@@ -26,15 +26,15 @@ fn serves<R: Threads + Wait + AllocGlobal + Abort + Sync>(
     frames: &[&[u8]],
     lost: u64,
     outcome: Result<(), SessionError>,
-) -> Result<MemorySource, Fail> {
-    let source = turns_of(rt.alloc(), turns)?;
+) -> MemorySource {
+    let source = turns_of(rt.alloc(), turns).expect(rt, "there is memory");
     let counts = Counts {
         received,
         lost,
         calls: received.saturating_sub(1),
         notes: &[],
     };
-    Ok(serves_source(
+    serves_source(
         rt,
         &Config::new(rt.alloc()),
         source,
@@ -42,47 +42,46 @@ fn serves<R: Threads + Wait + AllocGlobal + Abort + Sync>(
         frames,
         outcome,
         counts,
-    ))
+    )
 }
 
 /// The source still holds this message, and no other.
-fn still_holds<R: AllocGlobal + Abort>(
-    rt: &R,
-    mut source: MemorySource,
-    message: &[u8],
-) -> Result<(), Fail> {
-    let mut buffer = receive_buffer(rt.alloc())?;
+fn still_holds<R: AllocGlobal + Abort>(rt: &R, mut source: MemorySource, message: &[u8]) {
+    let mut buffer = receive_buffer(rt.alloc()).expect(rt, "there is memory");
     let received = source.receive(&mut buffer);
-    assert_eq!(rt; received, Received::Message(message.len()));
-    assert!(rt; buffer.as_slice().starts_with(message));
-    assert_eq!(rt; source.receive(&mut buffer), Received::Gone);
-    Ok(())
+    expect_same(rt, &received, &Received::Message(message.len()));
+    expect(
+        rt,
+        "the message stands in the buffer",
+        buffer.as_slice().starts_with(message),
+    );
+    expect_same(rt, &source.receive(&mut buffer), &Received::Gone);
 }
 
 #[test]
-fn a_source_may_fail(rt: HostRuntime) -> Result<(), Fail> {
+fn a_source_may_fail(rt: HostRuntime) {
     use Next::{Bytes, Fault, Nothing};
     let alloc = rt.alloc();
     let failed = Err(SessionError::Receive);
     let message = lookup(2, 0);
     let turns = [Bytes(&INIT_7_8), Nothing, Fault, Bytes(&message)];
     let sink = MemorySink::new(alloc, Vec::new(alloc));
-    let source = serves(&rt, &turns, sink, 1, &[&ACCEPTED], 0, failed)?;
+    let source = serves(&rt, &turns, sink, 1, &[&ACCEPTED], 0, failed);
     still_holds(&rt, source, &message)
 }
 
 #[test]
-fn a_source_may_fail_at_once(rt: HostRuntime) -> Result<(), Fail> {
+fn a_source_may_fail_at_once(rt: HostRuntime) {
     let alloc = rt.alloc();
     let failed = Err(SessionError::Receive);
     let turns = [Next::Fault, Next::Bytes(&INIT_7_8)];
     let sink = MemorySink::new(alloc, Vec::new(alloc));
-    let source = serves(&rt, &turns, sink, 0, &[], 0, failed)?;
+    let source = serves(&rt, &turns, sink, 0, &[], 0, failed);
     still_holds(&rt, source, &INIT_7_8)
 }
 
 #[test]
-fn a_source_may_give_nothing(rt: HostRuntime) -> Result<(), Fail> {
+fn a_source_may_give_nothing(rt: HostRuntime) {
     use Next::{Bytes, Nothing};
     let alloc = rt.alloc();
     let message = lookup(2, 0);
@@ -96,12 +95,11 @@ fn a_source_may_give_nothing(rt: HostRuntime) -> Result<(), Fail> {
     ];
     let answer = error_reply(2, ENOENT);
     let sink = MemorySink::new(alloc, Vec::new(alloc));
-    let _source = serves(&rt, &turns, sink, 2, &[&ACCEPTED, &answer], 0, Ok(()))?;
-    Ok(())
+    let _source = serves(&rt, &turns, sink, 2, &[&ACCEPTED, &answer], 0, Ok(()));
 }
 
 #[test]
-fn a_sink_may_refuse(rt: HostRuntime) -> Result<(), Fail> {
+fn a_sink_may_refuse(rt: HostRuntime) {
     let alloc = rt.alloc();
     let first = lookup(2, 0);
     let second = lookup(3, 0);
@@ -113,11 +111,10 @@ fn a_sink_may_refuse(rt: HostRuntime) -> Result<(), Fail> {
     let answer = error_reply(3, ENOENT);
     for fault in [Sending::Failed, Sending::Absent] {
         let mut faults = Vec::new(alloc);
-        faults.push((2, fault))?;
+        faults.push((2, fault)).expect(&rt, "there is memory");
         let sink = MemorySink::new(alloc, faults);
-        let _source = serves(&rt, &turns, sink, 3, &[&ACCEPTED, &answer], 1, Ok(()))?;
+        let _source = serves(&rt, &turns, sink, 3, &[&ACCEPTED, &answer], 1, Ok(()));
     }
-    Ok(())
 }
 
 /// A sink that refuses its first note, and tells nothing.
@@ -158,9 +155,12 @@ impl Sink for RefusingOnce {
 }
 
 #[test]
-fn a_note_that_is_refused_is_lost(rt: HostRuntime) -> Result<(), Fail> {
+fn a_note_that_is_refused_is_lost(rt: HostRuntime) {
     let alloc = rt.alloc();
-    let source = source_of(alloc, &[&INIT_7_8, &forget(2, 0), &forget(3, 0)])?;
+    let source = source_of(alloc, &[&INIT_7_8, &forget(2, 0), &forget(3, 0)]).expect(
+        &rt,
+        "there is memory",
+    );
     let sink = RefusingOnce {
         inner: MemorySink::new(alloc, Vec::new(alloc)),
         faults: 0,
@@ -178,9 +178,8 @@ fn a_note_that_is_refused_is_lost(rt: HostRuntime) -> Result<(), Fail> {
         calls: 2,
         destroyed: 1,
     };
-    assert_eq!(rt; course, expected);
-    assert_eq!(rt; sink.inner.notes(), [(RequestId(3), 3)].as_slice());
-    Ok(())
+    expect_same(&rt, &course, &expected);
+    expect_same(&rt, &sink.inner.notes(), &[(RequestId(3), 3)].as_slice());
 }
 
 /// A session without a message: its outcome, and how often its filesystem was destroyed.
@@ -196,7 +195,11 @@ fn serves_nothing<R: Threads + Wait + AllocGlobal + Sync>(
 
 #[test]
 fn without_a_message_is_not_connected(rt: HostRuntime) {
-    assert_eq!(rt; serves_nothing(&rt), (Err(SessionError::NotConnected), 1));
+    expect_same(
+        &rt,
+        &serves_nothing(&rt),
+        &(Err(SessionError::NotConnected), 1),
+    );
 }
 
 #[test]
@@ -206,5 +209,5 @@ fn without_a_message_is_not_connected_or_wants_memory(rt: HostRuntime) {
         0 => Err(SessionError::Memory),
         _ => Err(SessionError::NotConnected),
     };
-    assert_eq!(rt; outcome, expected);
+    expect_same(&rt, &outcome, &expected);
 }

@@ -1,4 +1,5 @@
 // Options that are refused before anything is taken, and options that are not.
+use crate::asserts::expect_same;
 use crate::counting::{Course, run};
 use crate::session_tests::config_of;
 use fuse_config::{Config, SessionACL};
@@ -70,7 +71,7 @@ fn ends<R: Threads + Wait + AllocGlobal + Abort + Sync>(
         taken,
         1u64.saturating_sub(taken),
     );
-    assert_eq!(rt; served?, expected);
+    expect_same(rt, &served?, &expected);
     Ok(())
 }
 

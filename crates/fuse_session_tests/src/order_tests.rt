@@ -1,6 +1,7 @@
 // When a message is answered.
 ghost use Rattle.std.specs.Prelude.{None};
 
+use crate::asserts::expect_same;
 use crate::counting::{Course, run};
 use fuse_config::Config;
 use fuse_probing::test_messages::{INIT_7_8, NO_OPCODE, forget, lookup, message, source_of};
@@ -9,7 +10,6 @@ use fuse_wire::{MemorySource, Noting, Received, RequestId, Sending, Sink, Source
 use std::alloc::AllocError;
 use std::sync::Wait;
 use std::sync::atomic::{AtomicU64, Ordering};
-use std::test::Fail;
 use std::thread::Threads;
 
 /// A source that fails where a message before was not answered, and tells nothing.
@@ -89,7 +89,7 @@ fn serve<R: Threads + Wait + AllocGlobal + Sync>(
 }
 
 #[test]
-fn each_message_is_answered_before_the_next_is_taken(rt: HostRuntime) -> Result<(), Fail> {
+fn each_message_is_answered_before_the_next_is_taken(rt: HostRuntime) {
     let mut later = INIT_7_8;
     later[40] = 8;
     let messages: [&[u8]; 7] = [
@@ -101,8 +101,7 @@ fn each_message_is_answered_before_the_next_is_taken(rt: HostRuntime) -> Result<
         &message(FUSE_STATFS, 5, 1, 0),
         &message(FUSE_DESTROY, 6, 1, 0),
     ];
-    let (course, faults, answered) = serve(&rt, &messages)?;
-    assert_eq!(rt; (course.outcome, faults), (Ok(()), 0));
-    assert_eq!(rt; (course.transcript.received, answered), (7, 7));
-    Ok(())
+    let (course, faults, answered) = serve(&rt, &messages).expect(&rt, "there is memory");
+    expect_same(&rt, &(course.outcome, faults), &(Ok(()), 0));
+    expect_same(&rt, &(course.transcript.received, answered), &(7, 7));
 }

@@ -1,4 +1,5 @@
 // What a session itself refuses, where it never asks the filesystem.
+use crate::asserts::expect_same;
 use crate::counting::{Course, run};
 use fuse_config::{Config, SessionACL};
 use fuse_probing::test_messages::{
@@ -13,7 +14,6 @@ use fuse_wire::{Items, MemorySink, MemorySource, Turn};
 use std::alloc::{AllocError, Global};
 use std::process::Abort;
 use std::sync::Wait;
-use std::test::Fail;
 use std::thread::Threads;
 
 /// A message, by its opcode, its id, and a byte at a place of it, and the error that it gets.
@@ -37,9 +37,9 @@ fn reply_to(row: &Refusal) -> [u8; 16] {
 
 /// After its first frame the sink took one for each of these, and no other: its error.
 fn took_errors<R: Abort>(rt: &R, sink: &MemorySink, rows: &[Refusal]) {
-    assert_eq!(rt; sink.frames().len(), rows.len().saturating_add(1));
+    expect_same(rt, &sink.frames().len(), &rows.len().saturating_add(1));
     for (sent, row) in sink.frames().iter().skip(1).zip(rows) {
-        assert_eq!(rt; sent.as_slice(), reply_to(row).as_slice());
+        expect_same(rt, &sent.as_slice(), &reply_to(row).as_slice());
     }
 }
 
@@ -49,11 +49,11 @@ fn serves<R: Threads + Wait + AllocGlobal + Abort + Sync>(
     acl: SessionACL,
     rows: &[Refusal],
     calls: u64,
-) -> Result<(), Fail> {
+) {
     let alloc = rt.alloc();
     let mut config = Config::new(rt.alloc());
     config.acl = acl;
-    let source = after_init(alloc, rows)?;
+    let source = after_init(alloc, rows).expect(rt, "there is memory");
     let sink = MemorySink::new(alloc, Vec::new(alloc));
     let (course, _, sink) = run(rt, source, sink, &config);
     let messages = rows.len().saturating_add(1) as u64;
@@ -69,13 +69,12 @@ fn serves<R: Threads + Wait + AllocGlobal + Abort + Sync>(
         calls,
         destroyed: 1,
     };
-    assert_eq!(rt; course, expected);
+    expect_same(rt, &course, &expected);
     took_errors(rt, &sink, rows);
-    Ok(())
 }
 
 #[test]
-fn refuses_by_what_is_asked(rt: HostRuntime) -> Result<(), Fail> {
+fn refuses_by_what_is_asked(rt: HostRuntime) {
     let rows = [
         // READ, WRITE, FALLOCATE and COPY_FILE_RANGE with an offset or a length in no file
         (FUSE_READ, 2, 55, 0x80, EINVAL),
@@ -95,7 +94,7 @@ fn refuses_by_what_is_asked(rt: HostRuntime) -> Result<(), Fail> {
 }
 
 #[test]
-fn asks_what_is_in_a_file_or_not_looked_at(rt: HostRuntime) -> Result<(), Fail> {
+fn asks_what_is_in_a_file_or_not_looked_at(rt: HostRuntime) {
     let rows = [
         (FUSE_WRITE, 2, 55, 0x7f, ENOSYS),
         (FUSE_FALLOCATE, 3, 55, 0x7f, ENOSYS),
@@ -112,7 +111,7 @@ fn asks_what_is_in_a_file_or_not_looked_at(rt: HostRuntime) -> Result<(), Fail> 
 }
 
 #[test]
-fn refuses_whom_it_does_not_serve(rt: HostRuntime) -> Result<(), Fail> {
+fn refuses_whom_it_does_not_serve(rt: HostRuntime) {
     let rows = [
         // READ, WRITE and INIT pass
         (FUSE_READ, 2, 55, 0x80, EINVAL),

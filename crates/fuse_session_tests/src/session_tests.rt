@@ -1,4 +1,5 @@
 // Sessions that are opened first, and run then.
+use crate::asserts::{expect, expect_same};
 use crate::counting::Counting;
 use fuse_config::{Config, MountOption, SessionACL};
 use fuse_probing::Probing;
@@ -88,8 +89,8 @@ fn shows<A: Abort>(
         over.filesystem.probe.destroyed(),
         differ_at(over.sink.frames(), frames),
     );
-    assert_eq!(rt; (over.outcome, over.transcript), (outcome, counts));
-    assert_eq!(rt; found, (destroyed, None));
+    expect_same(rt, &(over.outcome, over.transcript), &(outcome, counts));
+    expect_same(rt, &found, &(destroyed, None));
 }
 
 /// The same, of a session that is let go.
@@ -127,7 +128,7 @@ fn opens_none<R: Threads + Wait + AllocGlobal + Abort + Sync>(
     for device in [None, Some(SessionACL::All)] {
         let config = config_of(rt.alloc(), &[], SessionACL::All, Some(0), true)?;
         let opening = open(rt, messages, config, device)?;
-        assert!(rt; opening.is_err());
+        expect(rt, "the session is not opened", opening.is_err());
         let over = end_of(rt, opening);
         is_left(rt, over, *outcome, messages.len() as u64, frames, 1);
     }
@@ -153,7 +154,7 @@ fn no_thread_is_to_serve_a_session_that_is_opened(rt: HostRuntime) -> Result<(),
     for device in [None, Some(SessionACL::All)] {
         let config = config_of(rt.alloc(), &[], SessionACL::All, Some(0), true)?;
         let opening = open(&rt, &[&INIT_7_8, &lookup(2, 5)], config, device)?;
-        assert!(rt; opening.is_ok());
+        expect(&rt, "the session is opened", opening.is_ok());
         let over = end_of(&rt, opening);
         is_left(&rt, over, Err(SessionError::Threads), 1, &[&ACCEPTED], 1);
     }

@@ -1,6 +1,7 @@
 // Sessions in the background.
 ghost use Rattle.std.specs.Prelude.{false};
 
+use crate::asserts::{expect, expect_same};
 use crate::counting::Counting;
 use crate::session_tests::{Over, is_left};
 use fuse_config::{Config, SessionACL};
@@ -76,7 +77,7 @@ fn a_session_runs_in_the_background(rt: HostRuntime) -> Result<(), Fail> {
         for spawner in &mut spawners {
             let spawned = spawn(&rt, spawner, n_threads, &[&INIT_7_8, &lookup(2, 0)])?;
             let (over, started) = over(&rt, spawned);
-            assert!(rt; started);
+            expect(&rt, "the session is started", started);
             has_answered_a_lookup(&rt, over);
         }
     }
@@ -90,7 +91,7 @@ fn a_session_that_is_not_started_can_still_be_run(rt: HostRuntime) -> Result<(),
     for expected in [false, true, false, true] {
         let spawned = spawn(&rt, &mut spawner, None, &[&INIT_7_8, &lookup(2, 0)])?;
         let (over, started) = over(&rt, spawned);
-        assert_eq!(rt; started, expected);
+        expect_same(&rt, &started, &expected);
         has_answered_a_lookup(&rt, over);
     }
     Ok(())
@@ -101,7 +102,7 @@ fn a_session_that_is_not_opened_is_not_started(rt: HostRuntime) -> Result<(), Fa
     let mut spawner = Spawner::Thread(ThreadSpawner::new());
     let spawned = spawn(&rt, &mut spawner, None, &[])?;
     let (over, started) = over(&rt, spawned);
-    assert!(rt; !started);
+    expect(&rt, "the session is not started", !started);
     is_left(&rt, over, Err(SessionError::NotConnected), 0, &[], 1);
     Ok(())
 }
@@ -170,18 +171,17 @@ fn outcome_of<FS: Drop>(over: Ended<FS, MemorySource, MemorySink>) -> Result<(),
 }
 
 #[test]
-fn a_session_runs_before_it_is_joined(rt: HostRuntime) -> Result<(), Fail> {
+fn a_session_runs_before_it_is_joined(rt: HostRuntime) {
     let alloc = rt.alloc();
-    let calls = Arc::new(alloc, AtomicU64::new(0))?;
-    let source = source_of(alloc, &[&INIT_7_8, &lookup(2, 0)])?;
+    let calls = Arc::new(alloc, AtomicU64::new(0)).expect(&rt, "there is memory");
+    let source = source_of(alloc, &[&INIT_7_8, &lookup(2, 0)]).expect(&rt, "there is memory");
     let probe = Telling {
-        calls: Arc::try_clone(&calls)?,
+        calls: Arc::try_clone(&calls).expect(&rt, "there is memory"),
     };
     let sink = MemorySink::new(alloc, Vec::new(alloc));
     let background = spawn_telling(&rt, probe, source, sink);
-    assert!(rt; is_called(&calls));
-    assert_eq!(rt; outcome_of(background.join(&rt)), Ok(()));
-    Ok(())
+    expect(&rt, "the filesystem is called", is_called(&calls));
+    expect_same(&rt, &outcome_of(background.join(&rt)), &Ok(()));
 }
 
 /// Whether a session in the background, which is then joined, made a notifier.
@@ -229,9 +229,9 @@ fn a_session_in_the_background_has_notifiers(rt: HostRuntime) -> Result<(), Fail
     let mut refusing = Spawner::Inline(InlineSpawner::new(refusals));
     let session = refused(&rt, spawn(&rt, &mut refusing, None, &messages)?);
     let background = start(&rt, &mut refusing, session);
-    assert!(rt; makes_notifiers(&rt, background));
+    expect(&rt, "notifiers are made", makes_notifiers(&rt, background));
     let mut threads = Spawner::Thread(ThreadSpawner::new());
     let background = started(&rt, spawn(&rt, &mut threads, None, &messages)?);
-    assert!(rt; makes_notifiers(&rt, background));
+    expect(&rt, "notifiers are made", makes_notifiers(&rt, background));
     Ok(())
 }

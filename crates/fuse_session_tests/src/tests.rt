@@ -1,5 +1,6 @@
 // Whole sessions, from memory to memory.
 
+use crate::asserts::{expect, expect_same};
 use crate::counting::{CONTENTS, Counting, Course, run, run_with};
 use fuse_config::{Config, SessionACL};
 use fuse_probing::test_messages::{
@@ -14,7 +15,6 @@ use fuse_wire::{Items, MemorySink, MemorySource, RequestId, Version};
 use std::alloc::{AllocError, Global};
 use std::process::Abort;
 use std::sync::Wait;
-use std::test::Fail;
 use std::thread::Threads;
 
 /// How many messages a session takes, how many frames and notes it loses, how often it calls its filesystem, and what
@@ -63,13 +63,13 @@ fn times_listed(frames: &[&[u8]], place: usize, frame: &[u8]) -> usize {
 
 /// These frames were sent, and no other: so many of them in this order, and the others in any.
 fn are_sent<R: Abort>(rt: &R, ordered: usize, sent: &[Items<u8>], frames: &[&[u8]]) {
-    assert_eq!(rt; sent.len(), frames.len());
+    expect_same(rt, &sent.len(), &frames.len());
     for (one, frame) in sent.iter().zip(frames).take(ordered) {
-        assert_eq!(rt; one.as_slice(), *frame);
+        expect_same(rt, &one.as_slice(), frame);
     }
     for frame in frames.iter().skip(ordered) {
         let times = times_sent(sent, ordered, frame);
-        assert_eq!(rt; times, times_listed(frames, ordered, frame));
+        expect_same(rt, &times, &times_listed(frames, ordered, frame));
     }
 }
 
@@ -81,12 +81,12 @@ fn are_noted<R: Abort>(
     notes: &[(RequestId, u64)],
 ) {
     if is_ordered {
-        assert_eq!(rt; sent, notes);
+        expect_same(rt, &sent, &notes);
         return;
     }
-    assert_eq!(rt; sent.len(), notes.len());
+    expect_same(rt, &sent.len(), &notes.len());
     for note in notes {
-        assert!(rt; sent.contains(note));
+        expect(rt, "the note was sent", sent.contains(note));
     }
 }
 
@@ -113,7 +113,7 @@ fn went_so<R: Abort>(
         calls: counts.calls,
         destroyed: 1,
     };
-    assert_eq!(rt; course, expected);
+    expect_same(rt, &course, &expected);
     are_sent(rt, ordered(config, frames), sink.frames(), frames);
     are_noted(rt, is_ordered(config), sink.notes(), counts.notes);
 }
@@ -144,14 +144,13 @@ fn serves_on<R: Threads + Wait + AllocGlobal + Abort + Sync>(
     frames: &[&[u8]],
     outcome: &Result<(), SessionError>,
     counts: Counts<'_>,
-) -> Result<(), Fail> {
+) {
     let alloc = rt.alloc();
     let mut config = Config::new(alloc);
     config.n_threads = n_threads;
-    let source = source_of(alloc, messages)?;
+    let source = source_of(alloc, messages).expect(rt, "there is memory");
     let sink = MemorySink::new(alloc, Vec::new(alloc));
     let _source = serves_source(rt, &config, source, sink, frames, *outcome, counts);
-    Ok(())
 }
 
 /// The same on as many threads as are configured; and where any are, once more on two.
@@ -162,10 +161,10 @@ fn serves_calls<R: Threads + Wait + AllocGlobal + Abort + Sync>(
     frames: &[&[u8]],
     outcome: Result<(), SessionError>,
     counts: Counts<'_>,
-) -> Result<(), Fail> {
-    serves_on(rt, config.n_threads, messages, frames, &outcome, counts)?;
+) {
+    serves_on(rt, config.n_threads, messages, frames, &outcome, counts);
     if config.n_threads == Some(0) {
-        return Ok(());
+        return;
     }
     serves_on(rt, Some(2), messages, frames, &outcome, counts)
 }
@@ -179,7 +178,7 @@ fn serves<R: Threads + Wait + AllocGlobal + Abort + Sync>(
     received: u64,
     frames: &[&[u8]],
     outcome: Result<(), SessionError>,
-) -> Result<(), Fail> {
+) {
     let counts = Counts {
         received,
         lost: 0,
@@ -195,7 +194,7 @@ fn header_error(error: RequestError) -> Result<(), SessionError> {
 }
 
 #[test]
-fn ends_at_a_faulty_header(rt: HostRuntime) -> Result<(), Fail> {
+fn ends_at_a_faulty_header(rt: HostRuntime) {
     let config = Config::new(rt.alloc());
     let mut wrong = INIT_7_8;
     wrong[0] = 0x27;
@@ -205,14 +204,14 @@ fn ends_at_a_faulty_header(rt: HostRuntime) -> Result<(), Fail> {
     let late = header_error(RequestError::ShortReadHeader(20));
     let cut = header_error(RequestError::ShortRead(48, 104));
     let contradictory = header_error(RequestError::InsufficientData);
-    serves(&rt, &config, &[&short], 1, &[], no_header)?;
-    serves(&rt, &config, &[&INIT_7_8[..48]], 1, &[], cut)?;
-    serves(&rt, &config, &[&wrong], 1, &[], contradictory)?;
+    serves(&rt, &config, &[&short], 1, &[], no_header);
+    serves(&rt, &config, &[&INIT_7_8[..48]], 1, &[], cut);
+    serves(&rt, &config, &[&wrong], 1, &[], contradictory);
     serves(&rt, &config, &[&INIT_7_8, &short], 2, &[&ACCEPTED], late)
 }
 
 #[test]
-fn agrees_on_a_version(rt: HostRuntime) -> Result<(), Fail> {
+fn agrees_on_a_version(rt: HostRuntime) {
     let mut offer = [0; 80];
     offer[..24].copy_from_slice(&[
         0x50, 0, 0, 0, 0, 0, 0, 0, 1, 0, 0, 0, 0, 0, 0, 0, 7, 0, 0, 0, 0x28, 0, 0, 0,
@@ -231,8 +230,8 @@ fn agrees_on_a_version(rt: HostRuntime) -> Result<(), Fail> {
     latest[56] = 0x20;
     let old = Err(SessionError::Unsupported(Version(7, 5)));
     let config = Config::new(rt.alloc());
-    serves(&rt, &config, &[&INIT_7_8], 1, &[&ACCEPTED], Ok(()))?;
-    serves(&rt, &config, &[&latest], 1, &[&full], Ok(()))?;
+    serves(&rt, &config, &[&INIT_7_8], 1, &[&ACCEPTED], Ok(()));
+    serves(&rt, &config, &[&latest], 1, &[&full], Ok(()));
     serves(
         &rt,
         &config,
@@ -240,7 +239,7 @@ fn agrees_on_a_version(rt: HostRuntime) -> Result<(), Fail> {
         2,
         &[&offer, &ACCEPTED],
         Ok(()),
-    )?;
+    );
     serves(
         &rt,
         &config,
@@ -252,14 +251,14 @@ fn agrees_on_a_version(rt: HostRuntime) -> Result<(), Fail> {
 }
 
 #[test]
-fn awaits_init(rt: HostRuntime) -> Result<(), Fail> {
+fn awaits_init(rt: HostRuntime) {
     let config = Config::new(rt.alloc());
     let unknown = InvalidData::Operation(RequestError::UnknownOperation(7));
     let unknown = Err(SessionError::InvalidData(unknown));
     let destroy = Err(SessionError::InvalidData(InvalidData::NotInit(FUSE_DESTROY)));
     let early = Err(SessionError::InvalidData(InvalidData::NotInit(FUSE_LOOKUP)));
     let refused = error_reply(2, EIO);
-    serves(&rt, &config, &[], 0, &[], Err(SessionError::NotConnected))?;
+    serves(&rt, &config, &[], 0, &[], Err(SessionError::NotConnected));
     serves(
         &rt,
         &config,
@@ -267,7 +266,7 @@ fn awaits_init(rt: HostRuntime) -> Result<(), Fail> {
         1,
         &[],
         unknown,
-    )?;
+    );
     serves(
         &rt,
         &config,
@@ -275,12 +274,12 @@ fn awaits_init(rt: HostRuntime) -> Result<(), Fail> {
         1,
         &[&refused],
         destroy,
-    )?;
+    );
     serves(&rt, &config, &[&lookup(2, 5)], 1, &[&refused], early)
 }
 
 #[test]
-fn serves_after_init(rt: HostRuntime) -> Result<(), Fail> {
+fn serves_after_init(rt: HostRuntime) {
     let config = Config::new(rt.alloc());
     let unknown = message(NO_OPCODE, 2, 1, 5);
     let destroy = message(FUSE_DESTROY, 2, 0, 0);
@@ -295,7 +294,7 @@ fn serves_after_init(rt: HostRuntime) -> Result<(), Fail> {
         2,
         &[&ACCEPTED, &error_reply(2, ENOSYS)],
         Ok(()),
-    )?;
+    );
     serves(
         &rt,
         &config,
@@ -303,7 +302,7 @@ fn serves_after_init(rt: HostRuntime) -> Result<(), Fail> {
         2,
         &[&ACCEPTED, &done],
         Ok(()),
-    )?;
+    );
     serves(&rt, &idle, &[&INIT_7_8], 1, &[&ACCEPTED], no_threads)
 }
 
@@ -316,7 +315,7 @@ fn contents_for(id: u8) -> [u8; 216] {
 }
 
 #[test]
-fn calls_the_filesystem_once_for_each_message(rt: HostRuntime) -> Result<(), Fail> {
+fn calls_the_filesystem_once_for_each_message(rt: HostRuntime) {
     serves_calls(
         &rt,
         &Config::new(rt.alloc()),
@@ -348,7 +347,7 @@ fn calls_the_filesystem_once_for_each_message(rt: HostRuntime) -> Result<(), Fai
 }
 
 #[test]
-fn a_batch_of_forgets_calls_forget_for_each_row(rt: HostRuntime) -> Result<(), Fail> {
+fn a_batch_of_forgets_calls_forget_for_each_row(rt: HostRuntime) {
     serves_calls(
         &rt,
         &Config::new(rt.alloc()),
@@ -367,7 +366,7 @@ fn a_batch_of_forgets_calls_forget_for_each_row(rt: HostRuntime) -> Result<(), F
 }
 
 #[test]
-fn refuses_before_the_filesystem_is_called(rt: HostRuntime) -> Result<(), Fail> {
+fn refuses_before_the_filesystem_is_called(rt: HostRuntime) {
     let mut owner = Config::new(rt.alloc());
     owner.n_threads = Some(1);
     serves_calls(
@@ -401,7 +400,7 @@ fn refuses_before_the_filesystem_is_called(rt: HostRuntime) -> Result<(), Fail> 
 }
 
 #[test]
-fn serves_any_owner_pages_and_threads(rt: HostRuntime) -> Result<(), Fail> {
+fn serves_any_owner_pages_and_threads(rt: HostRuntime) {
     let alloc = rt.alloc();
     let rows = [
         (0, 1, None),
@@ -413,13 +412,12 @@ fn serves_any_owner_pages_and_threads(rt: HostRuntime) -> Result<(), Fail> {
         let mut config = Config::new(rt.alloc());
         config.acl = SessionACL::RootAndOwner;
         config.n_threads = *n_threads;
-        let source = source_of(alloc, &[&INIT_7_8])?;
+        let source = source_of(alloc, &[&INIT_7_8]).expect(&rt, "there is memory");
         let sink = MemorySink::new(alloc, Vec::new(alloc));
         let fresh = Counting::new(None);
         let (course, _, sink) = run_with(&rt, fresh, source, sink, *owner, *page_size, &config);
-        assert_eq!(rt; (course.outcome, sink.frames().len()), (Ok(()), 1));
+        expect_same(&rt, &(course.outcome, sink.frames().len()), &(Ok(()), 1));
     }
-    Ok(())
 }
 
 /// Reads a file of these contents at once. The outcome, and the sink.
@@ -440,9 +438,17 @@ fn read_at_once<R: Threads + Wait + AllocGlobal + Sync>(
 /// The last of the frames has this header, and then these contents.
 fn ends_with_contents<R: Abort>(rt: &R, frames: &[Items<u8>], header: &[u8; 16], contents: &[u8]) {
     let frame = frames.last().expect(rt, "no frame").as_slice();
-    assert_eq!(rt; frame.len(), contents.len().saturating_add(16));
-    assert!(rt; frame.starts_with(header));
-    assert!(rt; frame.ends_with(contents));
+    expect_same(rt, &frame.len(), &contents.len().saturating_add(16));
+    expect(
+        rt,
+        "the frame starts with the header",
+        frame.starts_with(header),
+    );
+    expect(
+        rt,
+        "the frame ends with the contents",
+        frame.ends_with(contents),
+    );
 }
 
 /// Reads a file of so many bytes at once: the frame has this header and all of them.
@@ -453,14 +459,13 @@ fn reads_whole<R: Threads + Wait + AllocGlobal + Abort + Sync>(
 ) -> Result<(), AllocError> {
     let contents = vec![in rt.alloc(); 0x2a; size as usize]?;
     let (outcome, sink) = read_at_once(rt, &contents, size)?;
-    assert_eq!(rt; outcome, Ok(()));
+    expect_same(rt, &outcome, &Ok(()));
     ends_with_contents(rt, sink.frames(), header, &contents);
     Ok(())
 }
 
 #[test]
-fn reads_two_mebibytes_whole(rt: HostRuntime) -> Result<(), Fail> {
+fn reads_two_mebibytes_whole(rt: HostRuntime) {
     let header = [16, 0, 0x20, 0, 0, 0, 0, 0, 2, 0, 0, 0, 0, 0, 0, 0];
-    reads_whole(&rt, 0x20_0000, &header)?;
-    Ok(())
+    reads_whole(&rt, 0x20_0000, &header).expect(&rt, "there is memory");
 }

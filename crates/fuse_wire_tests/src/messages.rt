@@ -87,15 +87,14 @@ fn expect_cut(
 }
 
 #[test]
-fn a_stream_is_cut_by_its_length_fields(rt: HostRuntime) -> Result<(), Fail> {
+fn a_stream_is_cut_by_its_length_fields(rt: HostRuntime) {
     let alloc = rt.alloc();
-    let messages = messages(alloc)?;
-    let mut room = receive_buffer(alloc)?;
+    let messages = messages(alloc).expect(&rt, "there is memory");
+    let mut room = receive_buffer(alloc).expect(&rt, "there is memory");
     let buffer = room.as_mut_slice();
     for step in [1, 7, 1000] {
-        expect_cut(&rt, alloc, step, buffer, &messages)?;
+        expect_cut(&rt, alloc, step, buffer, &messages).expect(&rt, "there is memory");
     }
-    Ok(())
 }
 
 /// A source of these messages.
@@ -108,12 +107,11 @@ fn source_of(alloc: Global, messages: &[Vec<u8>]) -> Result<MemorySource, AllocE
 }
 
 #[test]
-fn memory_gives_its_turns(rt: HostRuntime) -> Result<(), Fail> {
-    let messages = messages(rt.alloc())?;
-    let mut source = source_of(rt.alloc(), &messages)?;
-    let mut buffer = receive_buffer(rt.alloc())?;
+fn memory_gives_its_turns(rt: HostRuntime) {
+    let messages = messages(rt.alloc()).expect(&rt, "there is memory");
+    let mut source = source_of(rt.alloc(), &messages).expect(&rt, "there is memory");
+    let mut buffer = receive_buffer(rt.alloc()).expect(&rt, "there is memory");
     expect_messages(&rt, &mut source, &mut buffer, &messages);
-    Ok(())
 }
 
 /// What each turn of a source in memory gives: a Retry before a message changes nothing, and a Fail takes no message.
@@ -177,14 +175,13 @@ fn expect_answers(
 }
 
 #[test]
-fn turns_are_answered_in_order(rt: HostRuntime) -> Result<(), Fail> {
+fn turns_are_answered_in_order(rt: HostRuntime) {
     let alloc = rt.alloc();
-    let mut room = receive_buffer(alloc)?;
+    let mut room = receive_buffer(alloc).expect(&rt, "there is memory");
     let buffer = room.as_mut_slice();
     for answers in ANSWERS {
-        expect_answers(&rt, alloc, buffer, answers)?;
+        expect_answers(&rt, alloc, buffer, answers).expect(&rt, "there is memory");
     }
-    Ok(())
 }
 
 /// What a stream of one message of 48 bytes gives, where it is read in three calls and one of these fails.
@@ -217,13 +214,12 @@ fn three_answers(alloc: Global, call: u64, buffer: &mut [u8]) -> Result<[Receive
 }
 
 #[test]
-fn a_read_that_fails_is_a_fault_of_the_source(rt: HostRuntime) -> Result<(), Fail> {
+fn a_read_that_fails_is_a_fault_of_the_source(rt: HostRuntime) {
     let alloc = rt.alloc();
-    let mut room = receive_buffer(alloc)?;
+    let mut room = receive_buffer(alloc).expect(&rt, "there is memory");
     let buffer = room.as_mut_slice();
     for (call, answers) in FAILING_READS {
-        let found = three_answers(alloc, *call, buffer)?;
+        let found = three_answers(alloc, *call, buffer).expect(&rt, "there is memory");
         expect_same(&rt, &(*call, found.as_slice()), &(*call, *answers));
     }
-    Ok(())
 }

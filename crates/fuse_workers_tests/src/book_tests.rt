@@ -1,8 +1,8 @@
 // Marks and late frames in every order, many at once, and where memory is wanting.
+use crate::asserts::{expect_same, expect_same_in};
 use fuse_wire::RequestId;
 use fuse_workers::Book;
 use std::alloc::Global;
-use std::test::Fail;
 
 /// What comes, and at the same places what goes: a capital letter is a mark, a small one a late frame of the same tag,
 /// which is named by its place when it goes.
@@ -92,27 +92,24 @@ fn many(alloc: Global, count: u64) -> (u64, u64, u64) {
 }
 
 #[test]
-fn each_mark_lets_one_frame_go(rt: HostRuntime) -> Result<(), Fail> {
+fn each_mark_lets_one_frame_go(rt: HostRuntime) {
     for (letters, wanted) in &RUNS {
-        assert_eq!(rt; run(rt.alloc(), letters, wanted), (0, 0), "{letters}");
+        expect_same_in(&rt, &letters, &run(rt.alloc(), letters, wanted), &(0, 0));
     }
-    assert_eq!(rt; many(rt.alloc(), 100), (0, 100, 0));
-    Ok(())
+    expect_same(&rt, &many(rt.alloc(), 100), &(0, 100, 0));
 }
 
 #[test]
-fn each_mark_lets_one_frame_go_or_is_counted(rt: HostRuntime) -> Result<(), Fail> {
+fn each_mark_lets_one_frame_go_or_is_counted(rt: HostRuntime) {
     for (letters, wanted) in &RUNS {
         let (wrong, unrecorded) = run(rt.alloc(), letters, wanted);
-        assert!(rt; wrong == 0 || unrecorded == 1, "{letters}");
+        expect_same_in(&rt, &letters, &(wrong == 0 || unrecorded == 1), &true);
     }
     let (early, right, unrecorded) = many(rt.alloc(), 100);
-    assert_eq!(rt; (early, right.saturating_add(unrecorded)), (0, 100));
-    Ok(())
+    expect_same(&rt, &(early, right.saturating_add(unrecorded)), &(0, 100));
 }
 
 #[test]
-fn many_are_outstanding_at_once(rt: HostRuntime) -> Result<(), Fail> {
-    assert_eq!(rt; many(rt.alloc(), 100_000), (0, 100_000, 0));
-    Ok(())
+fn many_are_outstanding_at_once(rt: HostRuntime) {
+    expect_same(&rt, &many(rt.alloc(), 100_000), &(0, 100_000, 0));
 }

@@ -3,15 +3,16 @@ ghost use Rattle.std.specs.Prelude.{◌≡◌, IfOk};
 ghost use Rattle.std.specs.Arc.{arc_value};
 ghost use Rattle.fuse_line.specs.declared.hand.Kind.TheVariants.{First};
 
+use crate::asserts::{expect_same, expect_same_in};
 use crate::deferring::settle;
 use fuse_line::{Line, Pass};
 use fuse_reply::{Door, EndMark, Out, Parcel, ReplyEmpty};
 use fuse_wire::{Errno, Items, NoMemory, RequestId};
 use fuse_workers::{Event, State, run, step};
 use std::alloc::{AllocGlobal, Global};
+use std::process::Abort;
 use std::sync::atomic::AtomicU64;
 use std::sync::{Arc, Wait};
-use std::test::Fail;
 
 /// A GETATTR under the id 2.
 const MESSAGE: [u8; 40] = [
@@ -39,18 +40,20 @@ struct Way {
     door: Door,
 }
 
-fn way_of(alloc: Global, seq: u64) -> Result<Way, NoMemory>
-    ensures line { IfOk result (λ way. way.first.line ≡ arc_value way.line) }
-    ensures first { IfOk result (λ way. way.first.hand.kind ≡ First) }
+fn way_of<A: Abort>(rt: &A, alloc: Global, seq: u64) -> Way
+    ensures line { result.first.line ≡ arc_value result.line }
+    ensures first { result.first.hand.kind ≡ First }
 {
-    let (line, mut first) = Line::new(alloc, 1)?;
+    let (line, mut first) = Line::new(alloc, 1).expect(rt, "there is memory");
     let pass = line.split(&mut first, true);
     let Ok(line) = Arc::new(alloc, line) else {
-        return Err(NoMemory);
+        panic!(rt; "there is memory")
     };
-    let (mark, _) = EndMark::new(alloc)?;
-    let door = Door::new(seq, Arc::try_clone(&line)?, pass, mark);
-    Ok(Way { line, first, door })
+    let (mark, seal) = EndMark::new(alloc).expect(rt, "there is memory");
+    drop(seal);
+    let shared = Arc::try_clone(&line).expect(rt, "there is memory");
+    let door = Door::new(seq, shared, pass, mark);
+    Way { line, first, door }
 }
 
 /// Puts the reply off, and queues its frame.
@@ -66,16 +69,19 @@ fn queue_late<R: Wait>(rt: &R, reply: ReplyEmpty) {
 }
 
 /// The empty reply to the message of this number under this id, which comes later.
-fn late<R: Wait + AllocGlobal>(rt: &R, seq: u64, id: RequestId) -> Result<Event, NoMemory> {
+fn late<R: Wait + AllocGlobal + Abort>(rt: &R, seq: u64, id: RequestId) -> Event {
     let Way {
         line,
         mut first,
         door,
-    } = way_of(rt.alloc(), seq)?;
+    } = way_of(rt, rt.alloc(), seq);
     queue_late(rt, ReplyEmpty::new(rt.alloc(), id).with_door(Ok(door)));
     match line.pop(rt, &mut first) {
-        Some(Parcel::Late(frame)) => Ok(Event::Late(frame)),
-        _ => Err(NoMemory),
+        Some(Parcel::Late(frame)) => Event::Late(frame),
+        other => {
+            drop(other);
+            panic!(rt; "the frame waits")
+        }
     }
 }
 
@@ -120,17 +126,20 @@ fn step_of(alloc: Global, letter: u8) -> Event {
 }
 
 /// The event that a letter stands for.
-fn event<R: Wait + AllocGlobal>(rt: &R, letter: u8) -> Result<Event, NoMemory> {
+fn event<R: Wait + AllocGlobal + Abort>(rt: &R, letter: u8) -> Event {
     let alloc = rt.alloc();
     match letter {
-        b'r' => Ok(Event::Receive(message(alloc)?)),
-        b'o' | b'm' => Ok(Event::Own(message(alloc)?, out_of(alloc, letter))),
-        b'b' => Ok(Event::Own(Items::from_vec(Vec::new(alloc)), out_of(alloc, letter))),
+        b'r' => Event::Receive(message(alloc).expect(rt, "there is memory")),
+        b'o' | b'm' => Event::Own(
+            message(alloc).expect(rt, "there is memory"),
+            out_of(alloc, letter),
+        ),
+        b'b' => Event::Own(Items::from_vec(Vec::new(alloc)), out_of(alloc, letter)),
         b'l' | b'L' | b'M' => {
             let (seq, id) = tag_of(letter);
             late(rt, seq, id)
         }
-        _ => Ok(step_of(alloc, letter)),
+        _ => step_of(alloc, letter),
     }
 }
 
@@ -204,32 +213,31 @@ fn is_counted(state: &State, digits: &str) -> bool {
         && pairs.all(|(count, digit)| *count as u64 == u64::from(digit.wrapping_sub(b'0')))
 }
 
-fn events_of<R: Wait + AllocGlobal>(rt: &R, letters: &str) -> Result<Vec<Event>, NoMemory> {
+fn events_of<R: Wait + AllocGlobal + Abort>(rt: &R, letters: &str) -> Vec<Event> {
     let mut events = Vec::new(rt.alloc());
     for letter in letters.as_bytes() {
-        if events.push(event(rt, *letter)?).is_err() {
-            return Err(NoMemory);
-        }
+        events
+            .push(event(rt, *letter))
+            .expect(rt, "there is memory");
     }
-    Ok(events)
+    events
 }
 
 /// Whether after these events there is what the text says, or the last of them can't happen where there is no text.
-fn comes_to<R: Wait + AllocGlobal>(rt: &R, letters: &str, wanted: &str) -> Result<bool, NoMemory> {
-    let start = State::new(rt.alloc(), 1)?;
-    let events = events_of(rt, letters)?;
-    Ok(match run(rt.alloc(), &start, &events)? {
+fn comes_to<R: Wait + AllocGlobal + Abort>(rt: &R, letters: &str, wanted: &str) -> bool {
+    let start = State::new(rt.alloc(), 1).expect(rt, "there is memory");
+    let events = events_of(rt, letters);
+    match run(rt.alloc(), &start, &events).expect(rt, "there is memory") {
         Some(state) => is_counted(&state, wanted),
         None => wanted.is_empty(),
-    })
+    }
 }
 
 #[test]
-fn events_happen_where_they_may(rt: HostRuntime) -> Result<(), Fail> {
+fn events_happen_where_they_may(rt: HostRuntime) {
     for (letters, wanted) in &RUNS {
-        assert!(rt; comes_to(&rt, letters, wanted)?, "{letters}");
+        expect_same_in(&rt, &letters, &comes_to(&rt, letters, wanted), &true);
     }
-    Ok(())
 }
 
 /// Lets the event happen to the state, where it can, and says whether it did.
@@ -244,23 +252,22 @@ fn happens(alloc: Global, state: &mut State, event: &Event) -> Result<bool, NoMe
 }
 
 /// How often the event of this letter happens, of 65 times, and the counts after it.
-fn filled<R: Wait + AllocGlobal>(rt: &R, letter: u8) -> Result<(u64, [usize; 7]), NoMemory> {
-    let event = event(rt, letter)?;
-    let mut state = State::new(rt.alloc(), 1)?;
+fn filled<R: Wait + AllocGlobal + Abort>(rt: &R, letter: u8) -> (u64, [usize; 7]) {
+    let event = event(rt, letter);
+    let mut state = State::new(rt.alloc(), 1).expect(rt, "there is memory");
     for times in 0..65 {
-        if !happens(rt.alloc(), &mut state, &event)? {
-            return Ok((times, counts(&state)));
+        if !happens(rt.alloc(), &mut state, &event).expect(rt, "there is memory") {
+            return (times, counts(&state));
         }
     }
-    Ok((65, counts(&state)))
+    (65, counts(&state))
 }
 
 #[test]
-fn a_line_has_64_places(rt: HostRuntime) -> Result<(), Fail> {
-    assert_eq!(rt; filled(&rt, b'r')?, (64, [64, 64, 0, 0, 0, 0, 0]));
-    assert_eq!(rt; filled(&rt, b'o')?, (64, [64, 0, 64, 0, 0, 0, 0]));
-    assert_eq!(rt; filled(&rt, b'l')?, (64, [0, 0, 64, 0, 0, 0, 0]));
-    Ok(())
+fn a_line_has_64_places(rt: HostRuntime) {
+    expect_same(&rt, &filled(&rt, b'r'), &(64, [64, 64, 0, 0, 0, 0, 0]));
+    expect_same(&rt, &filled(&rt, b'o'), &(64, [64, 0, 64, 0, 0, 0, 0]));
+    expect_same(&rt, &filled(&rt, b'l'), &(64, [0, 0, 64, 0, 0, 0, 0]));
 }
 
 /// Whether the message is all that there is, and the one job.
@@ -285,10 +292,17 @@ fn once(alloc: Global, event: Event) -> Result<[Option<bool>; 2], NoMemory> {
 }
 
 #[test]
-fn a_message_received_is_the_one_job(rt: HostRuntime) -> Result<(), Fail> {
+fn a_message_received_is_the_one_job(rt: HostRuntime) {
     let alloc = rt.alloc();
-    let made = once(alloc, Event::Receive(message(alloc)?))?;
-    assert_eq!(rt; made, [Some(true); 2]);
-    assert_eq!(rt; once(alloc, Event::Take(0))?, [None; 2]);
-    Ok(())
+    let made = once(
+        alloc,
+        Event::Receive(message(alloc).expect(&rt, "there is memory")),
+    )
+    .expect(&rt, "there is memory");
+    expect_same(&rt, &made, &[Some(true); 2]);
+    expect_same(
+        &rt,
+        &once(alloc, Event::Take(0)).expect(&rt, "there is memory"),
+        &[None; 2],
+    );
 }

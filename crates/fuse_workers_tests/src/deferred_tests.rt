@@ -2,15 +2,16 @@
 ghost use Rattle.std.specs.Prelude.{None};
 ghost use Rattle.fuse_workers.specs.Lines.{IsUnused};
 
+use crate::asserts::{expect, expect_same, expect_same_in};
 use crate::deferring::{Deferring, Plan, Tally};
 use crate::runs::{Ran, Said, counts, message, read_frames, taking, turns, without_memory};
 use fuse_request::opcode::FUSE_STATFS;
 use fuse_wire::{MemorySink, MemorySource, NoMemory, Noting, RequestId, Sending, Sink, Turn};
 use fuse_workers::{Buffers, Transcript, run_workers};
 use std::alloc::{AllocGlobal, Global};
+use std::process::Abort;
 use std::sync::atomic::{AtomicU64, Ordering};
 use std::sync::{Arc, Wait};
-use std::test::Fail;
 use std::thread;
 use std::thread::Threads;
 
@@ -73,27 +74,27 @@ struct CameLater {
 
 /// What becomes of these turns, where replies are put off by a plan and so many threads answer them. The frames are read
 /// for so many ids.
-fn run_later<R: Threads + Wait + AllocGlobal + Sync>(
+fn run_later<R: Threads + Wait + AllocGlobal + Abort + Sync>(
     rt: &R,
     plan: Plan,
     workers: usize,
     threads: u64,
     turns: Vec<Turn>,
     ids: u64,
-) -> Result<CameLater, NoMemory> {
+) -> CameLater {
     let alloc = rt.alloc();
     let source = MemorySource::new(turns);
-    let full = counter(alloc)?;
-    let buffers = Buffers::new(alloc)?;
+    let full = counter(alloc).expect(rt, "there is memory");
+    let buffers = Buffers::new(alloc).expect(rt, "there is memory");
     let work = Deferring::new(alloc, plan, full);
     let ran = run_beside(rt, &work, workers, threads, source, taking(alloc), buffers);
     let tally = work.finish(rt, ran.transcript.received);
-    Ok(CameLater {
+    CameLater {
         end: ran.end,
         transcript: ran.transcript,
-        said: read_frames(alloc, ran.sink.frames(), ids)?,
+        said: read_frames(alloc, ran.sink.frames(), ids).expect(rt, "there is memory"),
         tally,
-    })
+    }
 }
 
 /// Messages of these ids.
@@ -129,42 +130,44 @@ fn all_queued(sent: u64) -> Tally {
 }
 
 #[test]
-fn a_reply_comes_later_by_another_thread(rt: HostRuntime) -> Result<(), Fail> {
+fn a_reply_comes_later_by_another_thread(rt: HostRuntime) {
     let alloc = rt.alloc();
-    let turns = messages(alloc, &[2, 3])?;
-    let became = run_later(&rt, until_queued(1), 2, 1, turns, 4)?;
+    let turns = messages(alloc, &[2, 3]).expect(&rt, "there is memory");
+    let became = run_later(&rt, until_queued(1), 2, 1, turns, 4);
     let expected = CameLater {
         end: b'g',
         transcript: counts(2, 2, 0),
         said: Said {
-            replied: [false, false, true, true].to_vec(alloc)?,
+            replied: [false, false, true, true]
+                .to_vec(alloc)
+                .expect(&rt, "there is memory"),
             told: Vec::new(alloc),
             other: 0,
         },
         tally: all_queued(1),
     };
-    assert_eq!(rt; became, expected);
-    Ok(())
+    expect_same(&rt, &became, &expected);
 }
 
 #[test]
-fn two_replies_under_one_id_come_later(rt: HostRuntime) -> Result<(), Fail> {
+fn two_replies_under_one_id_come_later(rt: HostRuntime) {
     let alloc = rt.alloc();
-    let turns = messages(alloc, &[2, 2, 3])?;
-    let became = run_later(&rt, until_queued(2), 2, 1, turns, 4)?;
+    let turns = messages(alloc, &[2, 2, 3]).expect(&rt, "there is memory");
+    let became = run_later(&rt, until_queued(2), 2, 1, turns, 4);
     // The second frame under the id 2 is counted among the others.
     let expected = CameLater {
         end: b'g',
         transcript: counts(3, 3, 0),
         said: Said {
-            replied: [false, false, true, true].to_vec(alloc)?,
+            replied: [false, false, true, true]
+                .to_vec(alloc)
+                .expect(&rt, "there is memory"),
             told: Vec::new(alloc),
             other: 1,
         },
         tally: all_queued(2),
     };
-    assert_eq!(rt; became, expected);
-    Ok(())
+    expect_same(&rt, &became, &expected);
 }
 
 /// How many ids have their reply.
@@ -176,7 +179,7 @@ fn replied(said: &Said) -> usize {
 }
 
 #[test]
-fn many_come_later_from_four_threads(rt: HostRuntime) -> Result<(), Fail> {
+fn many_come_later_from_four_threads(rt: HostRuntime) {
     let half = MANY / 2;
     // The last message is answered once half of the others were, and only then the run ends.
     let plan = Plan {
@@ -187,24 +190,24 @@ fn many_come_later_from_four_threads(rt: HostRuntime) -> Result<(), Fail> {
         least: 0,
         quota: half,
     };
-    let turns = turns(rt.alloc(), MANY + 1, None)?;
-    let became = run_later(&rt, plan, 2, 4, turns, MANY + 1)?;
+    let turns = turns(rt.alloc(), MANY + 1, None).expect(&rt, "there is memory");
+    let became = run_later(&rt, plan, 2, 4, turns, MANY + 1);
     let tally = Tally {
         sent: half,
         closed: (MANY - half) as usize,
         is_told: true,
     };
-    assert_eq!(rt; became.tally, tally);
-    assert_eq!(rt; became.transcript, counts(MANY + 1, half + 1, 0));
-    assert_eq!(rt;
-        (replied(&became.said), became.said.other),
-        ((half + 1) as usize, 0)
+    expect_same(&rt, &became.tally, &tally);
+    expect_same(&rt, &became.transcript, &counts(MANY + 1, half + 1, 0));
+    expect_same(
+        &rt,
+        &(replied(&became.said), became.said.other),
+        &((half + 1) as usize, 0),
     );
-    Ok(())
 }
 
 #[test]
-fn replies_come_while_the_run_ends(rt: HostRuntime) -> Result<(), Fail> {
+fn replies_come_while_the_run_ends(rt: HostRuntime) {
     let plan = Plan {
         prompt: NO_ID,
         held: NO_ID,
@@ -213,21 +216,25 @@ fn replies_come_while_the_run_ends(rt: HostRuntime) -> Result<(), Fail> {
         least: 0,
         quota: u64::MAX,
     };
-    let turns = turns(rt.alloc(), SOME, None)?;
-    let became = run_later(&rt, plan, 2, 4, turns, SOME)?;
+    let turns = turns(rt.alloc(), SOME, None).expect(&rt, "there is memory");
+    let became = run_later(&rt, plan, 2, 4, turns, SOME);
     let replied = replied(&became.said) as u64;
     let closed = became.tally.closed as u64;
-    assert_eq!(rt; became.transcript, counts(SOME, replied, 0));
-    assert_eq!(rt; (became.said.other, became.tally.is_told), (0, true));
-    assert_eq!(rt; became.tally.sent.saturating_add(closed), SOME);
+    expect_same(&rt, &became.transcript, &counts(SOME, replied, 0));
+    expect_same(&rt, &(became.said.other, became.tally.is_told), &(0, true));
+    expect_same(&rt, &became.tally.sent.saturating_add(closed), &SOME);
     // Each of the four threads may have looked for the end before it came, and pushed when none took any more.
     let unsent = became.tally.sent.saturating_sub(replied);
-    assert!(rt; replied <= became.tally.sent && unsent <= 4, "{unsent}");
-    Ok(())
+    expect_same_in(
+        &rt,
+        &unsent,
+        &(replied <= became.tally.sent && unsent <= 4),
+        &true,
+    );
 }
 
 #[test]
-fn a_reply_after_the_end_is_told_how_many_were_taken(rt: HostRuntime) -> Result<(), Fail> {
+fn a_reply_after_the_end_is_told_how_many_were_taken(rt: HostRuntime) {
     let alloc = rt.alloc();
     let plan = Plan {
         prompt: 7,
@@ -237,8 +244,15 @@ fn a_reply_after_the_end_is_told_how_many_were_taken(rt: HostRuntime) -> Result<
         least: 0,
         quota: 0,
     };
-    let became = run_later(&rt, plan, 2, 1, turns(alloc, 10, None)?, 10)?;
-    let mut replied = vec![in alloc; false; 10]?;
+    let became = run_later(
+        &rt,
+        plan,
+        2,
+        1,
+        turns(alloc, 10, None).expect(&rt, "there is memory"),
+        10,
+    );
+    let mut replied = vec![in alloc; false; 10].expect(&rt, "there is memory");
     replied[7] = true;
     let expected = CameLater {
         end: b'g',
@@ -254,8 +268,7 @@ fn a_reply_after_the_end_is_told_how_many_were_taken(rt: HostRuntime) -> Result<
             is_told: true,
         },
     };
-    assert_eq!(rt; became, expected);
-    Ok(())
+    expect_same(&rt, &became, &expected);
 }
 
 /// A sink that holds each frame back until a push was refused.
@@ -319,19 +332,19 @@ fn held_back(
 
 /// What becomes of 67 messages, the first of whose frames is held in the sink until a late frame found the line full.
 /// How often one did is counted.
-fn run_full<R: Threads + Wait + AllocGlobal + Sync>(
+fn run_full<R: Threads + Wait + AllocGlobal + Abort + Sync>(
     rt: &R,
     full: &Arc<AtomicU64, Global>,
-) -> Result<CameLater, NoMemory> {
+) -> CameLater {
     let alloc = rt.alloc();
-    let source = MemorySource::new(turns(alloc, 67, None)?);
+    let source = MemorySource::new(turns(alloc, 67, None).expect(rt, "there is memory"));
     let sink = HeldSink {
         inner: taking(alloc),
         faults: 0,
-        full: Arc::try_clone(full)?,
+        full: Arc::try_clone(full).expect(rt, "there is memory"),
     };
-    let theirs = Arc::try_clone(full)?;
-    let buffers = Buffers::new(alloc)?;
+    let theirs = Arc::try_clone(full).expect(rt, "there is memory");
+    let buffers = Buffers::new(alloc).expect(rt, "there is memory");
     // With no worker the parcels come in order: the first frame, and then 65 marks. Where 65 tokens lie on the shelf, 64
     // of the marks were pushed behind that frame, which the sender has taken.
     let plan = Plan {
@@ -345,21 +358,20 @@ fn run_full<R: Threads + Wait + AllocGlobal + Sync>(
     let work = Deferring::new(alloc, plan, theirs);
     let ran = run_beside(rt, &work, 0, 1, source, sink, buffers);
     let tally = work.finish(rt, ran.transcript.received);
-    held_back(alloc, ran, tally)
+    held_back(alloc, ran, tally).expect(rt, "there is memory")
 }
 
 #[test]
-fn a_reply_that_finds_the_line_full_is_sent_again(rt: HostRuntime) -> Result<(), Fail> {
-    let full = counter(rt.alloc())?;
-    let became = run_full(&rt, &full)?;
+fn a_reply_that_finds_the_line_full_is_sent_again(rt: HostRuntime) {
+    let full = counter(rt.alloc()).expect(&rt, "there is memory");
+    let became = run_full(&rt, &full);
     let tally = Tally {
         sent: 1,
         closed: 64,
         is_told: true,
     };
-    assert_eq!(rt; became.tally, tally);
-    assert_eq!(rt; became.transcript, counts(67, 3, 0));
-    assert_eq!(rt; (replied(&became.said), became.said.other), (3, 0));
-    assert!(rt; full.load(Ordering::SeqCst) > 0);
-    Ok(())
+    expect_same(&rt, &became.tally, &tally);
+    expect_same(&rt, &became.transcript, &counts(67, 3, 0));
+    expect_same(&rt, &(replied(&became.said), became.said.other), &(3, 0));
+    expect(&rt, "the line was full", full.load(Ordering::SeqCst) > 0);
 }

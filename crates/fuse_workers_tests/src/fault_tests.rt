@@ -3,12 +3,14 @@ ghost use Rattle.std.specs.Prelude.{◌≡◌, length};
 ghost use Rattle.fuse_wire.specs.MemorySink.{EachFails, NumbersDiffer};
 ghost use Rattle.fuse_wire.specs.declared.consts.TheConstants.{BUFFER_SIZE};
 
+use crate::asserts::expect_same_in;
 use crate::runs::{Became, Said, WORKERS, all_well, counts, message, run_counting, taking, turns};
 use fuse_request::opcode::{FUSE_DESTROY, FUSE_STATFS};
 use fuse_wire::{
     MemorySink, MemorySource, NoMemory, Received, Sending, Source, Turn, receive_buffer, u64_at,
 };
 use std::alloc::{AllocGlobal, Global};
+use std::process::Abort;
 use std::sync::Wait;
 use std::test::Fail;
 use std::thread::Threads;
@@ -46,20 +48,25 @@ fn without_order(workers: Option<usize>, replied: &mut [bool]) {
 }
 
 /// What becomes of ten messages and DESTROY where these sends fail.
-fn run_refused<R: Threads + Wait + AllocGlobal + Sync>(
+fn run_refused<R: Threads + Wait + AllocGlobal + Abort + Sync>(
     rt: &R,
     workers: Option<usize>,
     faults: &[(u64, Sending)],
-) -> Result<Became, NoMemory>
+) -> Became
     requires differ { NumbersDiffer faults.now }
     requires fail { EachFails faults.now }
 {
     let alloc = rt.alloc();
-    let turns = turns(alloc, COUNT, Some(message(alloc, FUSE_DESTROY, COUNT)?))?;
-    let sink = MemorySink::new(alloc, faults.to_vec(alloc)?);
-    let (mut became, _source) = run_counting(rt, workers, turns, sink, COUNT + 1)?;
+    let turns = turns(
+        alloc,
+        COUNT,
+        Some(message(alloc, FUSE_DESTROY, COUNT).expect(rt, "there is memory")),
+    )
+    .expect(rt, "there is memory");
+    let sink = MemorySink::new(alloc, faults.to_vec(alloc).expect(rt, "there is memory"));
+    let (mut became, _source) = run_counting(rt, workers, turns, sink, COUNT + 1);
     without_order(workers, &mut became.said.replied);
-    Ok(became)
+    became
 }
 
 /// Each send that fails loses its own reply.
@@ -86,16 +93,15 @@ fn all_but(
 }
 
 #[test]
-fn a_reply_that_the_sink_refuses_is_lost_and_no_other(rt: HostRuntime) -> Result<(), Fail> {
+fn a_reply_that_the_sink_refuses_is_lost_and_no_other(rt: HostRuntime) {
     for workers in WORKERS {
         for case in 0..CASES {
             let faults = faults_of(case);
-            let became = run_refused(&rt, workers, faults)?;
-            let expected = all_but(rt.alloc(), workers, faults)?;
-            assert_eq!(rt; became, expected, "{workers:?}, case {case}");
+            let became = run_refused(&rt, workers, faults);
+            let expected = all_but(rt.alloc(), workers, faults).expect(&rt, "there is memory");
+            expect_same_in(&rt, &(workers, case), &became, &expected);
         }
     }
-    Ok(())
 }
 
 /// Ten messages, whose ids are their places, and a fault before the one of this place.
@@ -135,33 +141,33 @@ fn holds_from(source: &mut MemorySource, buffer: &mut [u8], first: u64) -> bool
 
 /// What becomes of ten messages with a fault before the one of this place, and whether that one and those after it are
 /// left.
-fn run_failing<R: Threads + Wait + AllocGlobal + Sync>(
+fn run_failing<R: Threads + Wait + AllocGlobal + Abort + Sync>(
     rt: &R,
     workers: Option<usize>,
     place: u64,
-) -> Result<(Became, bool), NoMemory> {
+) -> (Became, bool) {
     let alloc = rt.alloc();
-    let turns = failing_at(alloc, place)?;
-    let (became, mut source) = run_counting(rt, workers, turns, taking(alloc), place)?;
-    let mut buffer = receive_buffer(alloc)?;
-    Ok((became, holds_from(&mut source, &mut buffer, place)))
+    let turns = failing_at(alloc, place).expect(rt, "there is memory");
+    let (became, mut source) = run_counting(rt, workers, turns, taking(alloc), place);
+    let mut buffer = receive_buffer(alloc).expect(rt, "there is memory");
+    (became, holds_from(&mut source, &mut buffer, place))
 }
 
 #[test]
-fn what_comes_after_a_fault_of_the_source_is_not_taken(rt: HostRuntime) -> Result<(), Fail> {
+fn what_comes_after_a_fault_of_the_source_is_not_taken(rt: HostRuntime) {
     for workers in WORKERS {
         for place in 0..=COUNT {
-            let (became, is_left) = run_failing(&rt, workers, place)?;
+            let (became, is_left) = run_failing(&rt, workers, place);
             let expected = Became {
                 end: b'f',
-                ..all_well(rt.alloc(), place)?
+                ..all_well(rt.alloc(), place).expect(&rt, "there is memory")
             };
-            assert_eq!(rt;
-                (became, is_left),
-                (expected, true),
-                "{workers:?}, place {place}"
+            expect_same_in(
+                &rt,
+                &(workers, place),
+                &(became, is_left),
+                &(expected, true),
             );
         }
     }
-    Ok(())
 }

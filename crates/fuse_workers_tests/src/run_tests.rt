@@ -1,4 +1,5 @@
 // Runs over memory that lose nothing, on one thread and on several.
+use crate::asserts::{expect_same, expect_same_in};
 use crate::paced::paced;
 use crate::runs::{
     Became, Said, WORKERS, all_well, counts, message, read_frames, run_counting, run_of, taking,
@@ -9,26 +10,27 @@ use fuse_request::opcode::{FUSE_DESTROY, FUSE_STATFS};
 use fuse_wire::{Items, MemorySource, NoMemory, Turn};
 use fuse_workers::Transcript;
 use std::alloc::{AllocGlobal, Global};
+use std::process::Abort;
 use std::sync::Wait;
 use std::test::Fail;
 use std::thread::Threads;
 
 /// What becomes of so many messages and a last turn, and what the frames say of so many ids.
-fn run_to<R: Threads + Wait + AllocGlobal + Sync>(
+fn run_to<R: Threads + Wait + AllocGlobal + Abort + Sync>(
     rt: &R,
     workers: Option<usize>,
     count: u64,
     last: Option<Turn>,
     ids: u64,
-) -> Result<Became, NoMemory> {
+) -> Became {
     let alloc = rt.alloc();
-    let turns = turns(alloc, count, last)?;
-    let (became, _source) = run_counting(rt, workers, turns, taking(alloc), ids)?;
-    Ok(became)
+    let turns = turns(alloc, count, last).expect(rt, "there is memory");
+    let (became, _source) = run_counting(rt, workers, turns, taking(alloc), ids);
+    became
 }
 
 #[test]
-fn each_message_is_answered_by_one_call_and_one_frame(rt: HostRuntime) -> Result<(), Fail> {
+fn each_message_is_answered_by_one_call_and_one_frame(rt: HostRuntime) {
     for (workers, count) in [
         (None, 100),
         (Some(0), 100),
@@ -38,10 +40,14 @@ fn each_message_is_answered_by_one_call_and_one_frame(rt: HostRuntime) -> Result
         (Some(8), 100_000),
         (Some(3), 0),
     ] {
-        let became = run_to(&rt, workers, count, None, count)?;
-        assert_eq!(rt; became, all_well(rt.alloc(), count)?, "{workers:?}");
+        let became = run_to(&rt, workers, count, None, count);
+        expect_same_in(
+            &rt,
+            &workers,
+            &became,
+            &all_well(rt.alloc(), count).expect(&rt, "there is memory"),
+        );
     }
-    Ok(())
 }
 
 /// The end of ten messages: how it ended, how many messages were received, and how many frames were sent.
@@ -55,22 +61,29 @@ fn ended(alloc: Global, end: u8, received: u64, frames: u64) -> Result<Became, N
 }
 
 #[test]
-fn a_run_ends_by_its_last_turn(rt: HostRuntime) -> Result<(), Fail> {
+fn a_run_ends_by_its_last_turn(rt: HostRuntime) {
     let alloc = rt.alloc();
     for workers in WORKERS {
-        let destroy = message(alloc, FUSE_DESTROY, 10)?;
-        let short = Turn::Message(Items::from_vec(vec![in alloc; 0; 20]?));
+        let destroy = message(alloc, FUSE_DESTROY, 10).expect(&rt, "there is memory");
+        let short = Turn::Message(Items::from_vec(vec![in alloc; 0; 20].expect(
+            &rt,
+            "there is memory",
+        )));
         let expected = [
             (destroy, b'd', 11, 11),
             (short, b'b', 11, 10),
             (Turn::Fail, b'f', 10, 10),
         ];
         for (last, end, received, frames) in expected {
-            let became = run_to(&rt, workers, 10, Some(last), frames)?;
-            assert_eq!(rt; became, ended(alloc, end, received, frames)?, "{workers:?}");
+            let became = run_to(&rt, workers, 10, Some(last), frames);
+            expect_same_in(
+                &rt,
+                &workers,
+                &became,
+                &ended(alloc, end, received, frames).expect(&rt, "there is memory"),
+            );
         }
     }
-    Ok(())
 }
 
 /// So many messages, whose ids are their places, with so many turns that give nothing before each.
@@ -90,77 +103,85 @@ fn apart(alloc: Global, count: u64, nothing: u64) -> Result<Vec<Turn>, NoMemory>
 }
 
 #[test]
-fn turns_that_give_nothing_change_nothing(rt: HostRuntime) -> Result<(), Fail> {
+fn turns_that_give_nothing_change_nothing(rt: HostRuntime) {
     let alloc = rt.alloc();
     for workers in WORKERS {
         for (count, nothing) in [(1, 1), (10, 1), (3, 100_000)] {
-            let turns = apart(alloc, count, nothing)?;
-            let (became, _source) = run_counting(&rt, workers, turns, taking(alloc), count)?;
-            assert_eq!(rt; became, all_well(alloc, count)?, "{workers:?}");
+            let turns = apart(alloc, count, nothing).expect(&rt, "there is memory");
+            let (became, _source) = run_counting(&rt, workers, turns, taking(alloc), count);
+            expect_same_in(
+                &rt,
+                &workers,
+                &became,
+                &all_well(alloc, count).expect(&rt, "there is memory"),
+            );
         }
     }
-    Ok(())
 }
 
 /// What becomes of so many messages, each of which comes once the frame of the one before it was sent, and whether the
 /// frames are in their order.
-fn run_paced<R: Threads + Wait + AllocGlobal + Sync>(
+fn run_paced<R: Threads + Wait + AllocGlobal + Abort + Sync>(
     rt: &R,
     workers: Option<usize>,
     count: u64,
-) -> Result<(u8, Transcript, u64, bool), NoMemory> {
+) -> (u8, Transcript, u64, bool) {
     let alloc = rt.alloc();
     let work = Counting::new();
-    let (source, sink) = paced(alloc, turns(alloc, count, None)?)?;
-    let ran = run_of(rt, &work, workers, source, sink)?;
+    let (source, sink) = paced(
+        alloc,
+        turns(alloc, count, None).expect(rt, "there is memory"),
+    )
+    .expect(rt, "there is memory");
+    let ran = run_of(rt, &work, workers, source, sink);
     let mut in_order = true;
     let mut id: u64 = 0;
     for frame in ran.sink.inner.frames() {
         in_order = in_order && frame.as_slice() == empty_reply(id).as_slice();
         id = id.saturating_add(1);
     }
-    Ok((ran.end, ran.transcript, work.calls(), in_order))
+    (ran.end, ran.transcript, work.calls(), in_order)
 }
 
 #[test]
-fn a_message_is_answered_before_the_next_one_comes(rt: HostRuntime) -> Result<(), Fail> {
+fn a_message_is_answered_before_the_next_one_comes(rt: HostRuntime) {
     for workers in WORKERS {
-        let became = run_paced(&rt, workers, 1000)?;
-        assert_eq!(rt;
-            became,
-            (b'g', counts(1000, 1000, 0), 1000, true),
-            "{workers:?}"
+        let became = run_paced(&rt, workers, 1000);
+        expect_same_in(
+            &rt,
+            &workers,
+            &became,
+            &(b'g', counts(1000, 1000, 0), 1000, true),
         );
     }
-    Ok(())
 }
 
 /// What becomes of as many messages as workers, each of which is held until all have begun.
-fn run_meeting<R: Threads + Wait + AllocGlobal + Sync>(
+fn run_meeting<R: Threads + Wait + AllocGlobal + Abort + Sync>(
     rt: &R,
     workers: usize,
-) -> Result<(u8, Transcript, Said), NoMemory> {
+) -> (u8, Transcript, Said) {
     let alloc = rt.alloc();
     let count = workers as u64;
     let work = Meeting::new(count);
-    let source = MemorySource::new(turns(alloc, count, None)?);
-    let ran = run_of(rt, &work, Some(workers), source, taking(alloc))?;
-    let said = read_frames(alloc, ran.sink.frames(), count)?;
-    Ok((ran.end, ran.transcript, said))
+    let source = MemorySource::new(turns(alloc, count, None).expect(rt, "there is memory"));
+    let ran = run_of(rt, &work, Some(workers), source, taking(alloc));
+    let said = read_frames(alloc, ran.sink.frames(), count).expect(rt, "there is memory");
+    (ran.end, ran.transcript, said)
 }
 
 #[test]
-fn as_many_answer_at_once_as_workers_are_asked_for(rt: HostRuntime) -> Result<(), Fail> {
+fn as_many_answer_at_once_as_workers_are_asked_for(rt: HostRuntime) {
     let alloc = rt.alloc();
     for workers in [2, 3, 8] {
         let count = workers as u64;
-        let said = Said::all(alloc, count, Vec::new(alloc))?;
-        assert_eq!(rt;
-            run_meeting(&rt, workers)?,
-            (b'g', counts(count, count, 0), said)
+        let said = Said::all(alloc, count, Vec::new(alloc)).expect(&rt, "there is memory");
+        expect_same(
+            &rt,
+            &run_meeting(&rt, workers),
+            &(b'g', counts(count, count, 0), said),
         );
     }
-    Ok(())
 }
 
 /// The frame of an empty reply.
@@ -173,34 +194,43 @@ fn empty_reply(id: u64) -> [u8; 16] {
 
 /// What the frames before the last one say of so many messages, each held for a while, and whether the last frame is
 /// the reply to the DESTROY after them.
-fn run_held<R: Threads + Wait + AllocGlobal + Sync>(
+fn run_held<R: Threads + Wait + AllocGlobal + Abort + Sync>(
     rt: &R,
     workers: usize,
     count: u64,
-) -> Result<(Said, bool), NoMemory> {
+) -> (Said, bool) {
     let alloc = rt.alloc();
-    let destroy = message(alloc, FUSE_DESTROY, count)?;
-    let source = MemorySource::new(turns(alloc, count, Some(destroy))?);
-    let ran = run_of(rt, &Holding, Some(workers), source, taking(alloc))?;
+    let destroy = message(alloc, FUSE_DESTROY, count).expect(rt, "there is memory");
+    let source = MemorySource::new(turns(alloc, count, Some(destroy)).expect(
+        rt,
+        "there is memory",
+    ));
+    let ran = run_of(rt, &Holding, Some(workers), source, taking(alloc));
     let Some((last, before)) = ran.sink.frames().split_last() else {
-        return Ok((Said::all(alloc, 0, Vec::new(alloc))?, false));
+        return (
+            Said::all(alloc, 0, Vec::new(alloc)).expect(rt, "there is memory"),
+            false,
+        );
     };
     let is_last = last.as_slice() == empty_reply(count).as_slice();
-    Ok((read_frames(alloc, before, count)?, is_last))
+    (
+        read_frames(alloc, before, count).expect(rt, "there is memory"),
+        is_last,
+    )
 }
 
 #[test]
-fn the_reply_to_destroy_is_the_last(rt: HostRuntime) -> Result<(), Fail> {
+fn the_reply_to_destroy_is_the_last(rt: HostRuntime) {
     let alloc = rt.alloc();
     for (workers, count) in [(1, 8), (4, 8), (8, 8), (4, 100), (8, 100)] {
         for _round in 0..20 {
-            let said = Said::all(alloc, count, Vec::new(alloc))?;
-            assert_eq!(rt;
-                run_held(&rt, workers, count)?,
-                (said, true),
-                "{workers}, {count}"
+            let said = Said::all(alloc, count, Vec::new(alloc)).expect(&rt, "there is memory");
+            expect_same_in(
+                &rt,
+                &(workers, count),
+                &run_held(&rt, workers, count),
+                &(said, true),
             );
         }
     }
-    Ok(())
 }

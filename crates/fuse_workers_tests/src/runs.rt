@@ -7,6 +7,7 @@ use fuse_request::opcode::FUSE_STATFS;
 use fuse_wire::{Items, MemorySink, MemorySource, NoMemory, Sink, Source, Turn};
 use fuse_workers::{Buffers, End, RunEnd, Transcript, Work, run_inline, run_workers};
 use std::alloc::{AllocGlobal, Global};
+use std::process::Abort;
 use std::sync::Wait;
 use std::thread::Threads;
 
@@ -95,15 +96,15 @@ pub(crate) fn run_on<
 
 /// The same in memory of its own.
 pub(crate) fn run_of<
-    R: Threads + Wait + AllocGlobal + Sync,
+    R: Threads + Wait + AllocGlobal + Abort + Sync,
     W: Work,
     S: Source + Drop,
     K: Sink + Send + Drop,
->(rt: &R, work: &W, workers: Option<usize>, source: S, sink: K) -> Result<Ran<S, K>, NoMemory>
+>(rt: &R, work: &W, workers: Option<usize>, source: S, sink: K) -> Ran<S, K>
     requires { W.DEFERS ≡ false }
 {
-    let buffers = Buffers::new(rt.alloc())?;
-    Ok(run_on(rt, work, workers, source, sink, buffers))
+    let buffers = Buffers::new(rt.alloc()).expect(rt, "there is memory");
+    run_on(rt, work, workers, source, sink, buffers)
 }
 
 /// A sink that takes everything.
@@ -166,13 +167,13 @@ pub(crate) struct Became {
 
 /// What becomes of these turns on so many workers, or on the thread of their caller, where their work counts its calls,
 /// with what the frames say of so many ids. The source comes back.
-pub(crate) fn run_counting<R: Threads + Wait + AllocGlobal + Sync>(
+pub(crate) fn run_counting<R: Threads + Wait + AllocGlobal + Abort + Sync>(
     rt: &R,
     workers: Option<usize>,
     turns: Vec<Turn>,
     sink: MemorySink,
     ids: u64,
-) -> Result<(Became, MemorySource), NoMemory> {
+) -> (Became, MemorySource) {
     let work = Counting::new();
     let source = MemorySource::new(turns);
     let Ran {
@@ -180,14 +181,14 @@ pub(crate) fn run_counting<R: Threads + Wait + AllocGlobal + Sync>(
         transcript,
         source,
         sink,
-    } = run_of(rt, &work, workers, source, sink)?;
+    } = run_of(rt, &work, workers, source, sink);
     let became = Became {
         end,
         transcript,
         calls: work.calls(),
-        said: read_frames(rt.alloc(), sink.frames(), ids)?,
+        said: read_frames(rt.alloc(), sink.frames(), ids).expect(rt, "there is memory"),
     };
-    Ok((became, source))
+    (became, source)
 }
 
 /// Each of so many messages was answered by one call and one frame, and then none was left.

@@ -4,7 +4,7 @@ use Rattle.fuse_reply.specs.Answer.Answer.{Error}
 use Rattle.fuse_reply.specs.Frame.{reply}
 use Rattle.fuse_reply.specs.declared.out.Out.TheVariants.{Frame}
 use Rattle.fuse_reply.proofs.LateReplies.{frame_for}
-use Rattle.fuse_reply_tests.proofs.deferral_tests.a_listing_is_put_off_with_its_entries.Goals as goal
+use Rattle.fuse_reply_tests.proofs.deferral_tests.fail_later.Goals as goal
 
 pub send_or_retire-requires : goal.send_or_retire-requires
 send_or_retire-requires g c =

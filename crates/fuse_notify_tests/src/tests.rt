@@ -1,14 +1,15 @@
 // Notices as bytes, by the structs of `fuse.h`, and what becomes of them.
-ghost use Rattle.std.specs.Prelude.{◌≡◌, ◌≢◌, ◌<◌, IfOk};
+ghost use Rattle.std.specs.Prelude.{◌≡◌, ◌≢◌, ◌<◌};
 ghost use Rattle.fuse_wire.specs.declared.sink.Sending.TheVariants.{Sent};
 ghost use Rattle.std.specs.Arc.{arc_value};
 ghost use Rattle.fuse_line.specs.declared.hand.Kind.TheVariants.{First};
 
-use crate::laws::equal_where_they_are_the_same;
-use crate::{Notice, NoticeError, Notifier, NotifyError, Undelivered, deliver};
+use crate::asserts::expect_same;
 use fuse_line::{Class, Line, Pass};
-use fuse_reply::{Out, Parcel};
-use fuse_wire::{INodeNo, MemorySink, NoMemory, PollHandle, RequestId, Sending};
+use fuse_notify::laws::equal_where_they_are_the_same;
+use fuse_notify::{Notice, NoticeError, Notifier, NotifyError, Undelivered, deliver};
+use fuse_reply::{MAX_PAYLOAD, Out, Parcel};
+use fuse_wire::{INodeNo, MemorySink, PollHandle, RequestId, Sending};
 use std::alloc::Global;
 use std::process::Abort;
 use std::sync::{Arc, Wait};
@@ -61,22 +62,22 @@ fn frames_of_all<'a>() -> [&'a [u8]; 5] {
     [&POLL, &INVAL_INODE, &INVAL_ENTRY, &STORE, &DELETE]
 }
 
-/// The five notices of these frames.
-fn all(alloc: Global) -> Result<[Notice; 5], NoticeError> {
-    Ok([
-        Notice::poll(alloc, HANDLE),
-        Notice::inval_inode(alloc, INODE, -2, 10000),
-        Notice::inval_entry(alloc, INODE, b"abc")?,
-        Notice::store(alloc, INODE, 50, &[0xde, 0xad, 0xbe, 0xef])?,
-        Notice::delete(alloc, INODE, CHILD, b"abc")?,
-    ])
+/// The notice whose frame stands in this place.
+fn notice_at(alloc: Global, place: usize) -> Result<Notice, NoticeError> {
+    match place {
+        0 => Ok(Notice::poll(alloc, HANDLE)),
+        1 => Ok(Notice::inval_inode(alloc, INODE, -2, 10000)),
+        2 => Notice::inval_entry(alloc, INODE, b"abc"),
+        3 => Notice::store(alloc, INODE, 50, &[0xde, 0xad, 0xbe, 0xef]),
+        _ => Notice::delete(alloc, INODE, CHILD, b"abc"),
+    }
 }
 
 /// The sink holds these frames, and no other.
 fn holds<A: Abort>(rt: &A, sink: &MemorySink, expected: &[&[u8]]) {
-    assert_eq!(rt; sink.frames().len(), expected.len());
+    expect_same(rt, &sink.frames().len(), &expected.len());
     for (frame, bytes) in sink.frames().iter().zip(expected) {
-        assert_eq!(rt; frame.as_slice(), *bytes);
+        expect_same(rt, &frame.as_slice(), bytes);
     }
 }
 
@@ -85,11 +86,16 @@ fn each_notice_is_the_struct_of_its_kind(rt: HostRuntime) {
     equal_where_they_are_the_same();
     let alloc = rt.alloc();
     let mut sink = MemorySink::new(alloc, Vec::new(alloc));
-    let notices = all(alloc).expect(&rt, "there is memory");
-    for notice in &notices {
-        assert_eq!(rt; deliver(notice, &mut sink), Ok(()));
+    for place in 0..5 {
+        let notice = notice_at(alloc, place).expect(&rt, "there is memory");
+        expect_same(&rt, &deliver(&notice, &mut sink), &Ok(()));
     }
     holds(&rt, &sink, &frames_of_all());
+}
+
+#[test]
+fn the_longest_payload_and_its_header_fill_the_length_field(rt: HostRuntime) {
+    expect_same(&rt, &MAX_PAYLOAD, &(u32::MAX as usize - 16));
 }
 
 /// What comes of a notice at a sink whose first send is answered so.
@@ -104,35 +110,36 @@ fn end(alloc: Global, notice: &Notice, answer: Sending) -> Result<(), Undelivere
 #[test]
 fn only_a_poll_that_is_absent_is_told_and_each_failure_is(rt: HostRuntime) {
     let alloc = rt.alloc();
-    let failed = Err(Undelivered::Failed);
     let absent = Err(Undelivered::Absent);
-    let notices = all(alloc).expect(&rt, "there is memory");
-    for (notice, of_none) in notices.iter().zip([absent, Ok(()), Ok(()), Ok(()), Ok(())]) {
-        assert_eq!(rt;
-            (
-                end(alloc, notice, Sending::Absent),
-                end(alloc, notice, Sending::Failed)
-            ),
-            (of_none, failed)
+    for (place, of_none) in [absent, Ok(()), Ok(()), Ok(()), Ok(())]
+        .into_iter()
+        .enumerate()
+    {
+        let notice = notice_at(alloc, place).expect(&rt, "there is memory");
+        let ends = (
+            end(alloc, &notice, Sending::Absent),
+            end(alloc, &notice, Sending::Failed),
         );
+        expect_same(&rt, &ends, &(of_none, Err(Undelivered::Failed)));
     }
 }
 
 /// A line of so many places, its first pass, and a notifier of it.
-fn line_of(
+fn line_of<A: Abort>(
+    rt: &A,
     alloc: Global,
     places: usize,
-) -> Result<(Arc<Line<Parcel>, Global>, Pass<Parcel>, Notifier), NoMemory>
+) -> (Arc<Line<Parcel>, Global>, Pass<Parcel>, Notifier)
     requires { 0 < places }
-    ensures { IfOk result (λ r. (r.1.line ≡ arc_value r.0) × (r.1.hand.kind ≡ First)) }
+    ensures { (result.1.line ≡ arc_value result.0) × (result.1.hand.kind ≡ First) }
 {
-    let (line, mut first) = Line::new(alloc, places)?;
+    let (line, mut first) = Line::new(alloc, places).expect(rt, "there is memory");
     let door = line.split(&mut first, true);
     let Ok(line) = Arc::new(alloc, line) else {
-        return Err(NoMemory);
+        panic!(rt; "there is memory")
     };
-    let notifier = Notifier::new(Arc::try_clone(&line)?, door);
-    Ok((line, first, notifier))
+    let notifier = Notifier::new(Arc::try_clone(&line).expect(rt, "there is memory"), door);
+    (line, first, notifier)
 }
 
 /// Sends the notices that the line holds to an empty sink, oldest first.
@@ -150,9 +157,14 @@ fn drain<R: Wait>(
     let mut sink = MemorySink::new(alloc, Vec::new(alloc));
     for _ in 0..100 {
         match line.pop(rt, first) {
-            Some(Parcel::Notice(frame)) => frame.send(&mut sink),
-            Some(Parcel::Prompt(_, _) | Parcel::Late(_)) | None => break,
-        };
+            Some(Parcel::Notice(frame)) => {
+                frame.send(&mut sink);
+            }
+            other => {
+                drop(other);
+                break;
+            }
+        }
     }
     sink
 }
@@ -160,8 +172,12 @@ fn drain<R: Wait>(
 #[test]
 fn each_notice_is_queued_as_it_is_made(rt: HostRuntime) {
     let alloc = rt.alloc();
-    assert_eq!(rt; Parcel::Prompt(0, Out::note(RequestId(2), 3)).inner(), true);
-    let (line, mut first, mut notifier) = line_of(alloc, 8).expect(&rt, "there is memory");
+    expect_same(
+        &rt,
+        &Parcel::Prompt(0, Out::note(RequestId(2), 3)).inner(),
+        &true,
+    );
+    let (line, mut first, mut notifier) = line_of(&rt, alloc, 8);
     let answers = [
         notifier.poll(&rt, HANDLE),
         notifier.inval_inode(&rt, INODE, -2, 10000),
@@ -169,7 +185,7 @@ fn each_notice_is_queued_as_it_is_made(rt: HostRuntime) {
         notifier.store(&rt, INODE, 50, &[0xde, 0xad, 0xbe, 0xef]),
         notifier.delete(&rt, INODE, CHILD, b"abc"),
     ];
-    assert_eq!(rt; answers, [Ok(()), Ok(()), Ok(()), Ok(()), Ok(())]);
+    expect_same(&rt, &answers, &[Ok(()), Ok(()), Ok(()), Ok(()), Ok(())]);
     let sink = drain(&rt, alloc, &line, &mut first);
     holds(&rt, &sink, &frames_of_all());
 }
@@ -177,8 +193,8 @@ fn each_notice_is_queued_as_it_is_made(rt: HostRuntime) {
 #[test]
 fn a_full_line_refuses_and_takes_again_after_a_pop(rt: HostRuntime) {
     let alloc = rt.alloc();
-    let (line, mut first, mut notifier) = line_of(alloc, 1).expect(&rt, "there is memory");
-    assert_eq!(rt; notifier.inval_entry(&rt, INODE, b"abc"), Ok(()));
+    let (line, mut first, mut notifier) = line_of(&rt, alloc, 1);
+    expect_same(&rt, &notifier.inval_entry(&rt, INODE, b"abc"), &Ok(()));
     let refusals = [
         notifier.poll(&rt, HANDLE),
         notifier.inval_inode(&rt, INODE, -2, 10000),
@@ -186,35 +202,35 @@ fn a_full_line_refuses_and_takes_again_after_a_pop(rt: HostRuntime) {
         notifier.store(&rt, INODE, 50, &[0xde]),
         notifier.delete(&rt, INODE, CHILD, b"abc"),
     ];
-    assert_eq!(rt; refusals, [Err(NotifyError::Full); 5]);
+    expect_same(&rt, &refusals, &[Err(NotifyError::Full); 5]);
     holds(&rt, &drain(&rt, alloc, &line, &mut first), &[&INVAL_ENTRY]);
-    assert_eq!(rt; notifier.inval_inode(&rt, INODE, -2, 10000), Ok(()));
+    expect_same(&rt, &notifier.inval_inode(&rt, INODE, -2, 10000), &Ok(()));
     holds(&rt, &drain(&rt, alloc, &line, &mut first), &[&INVAL_INODE]);
 }
 
 #[test]
 fn a_poll_that_finds_the_line_full_comes_back_and_is_told_once(rt: HostRuntime) {
     let alloc = rt.alloc();
-    let (line, mut first, mut notifier) = line_of(alloc, 1).expect(&rt, "there is memory");
+    let (line, mut first, mut notifier) = line_of(&rt, alloc, 1);
     let told = notifier
         .poll_notifier(HANDLE)
         .expect(&rt, "there is memory");
-    assert_eq!(rt; told.handle(), HANDLE);
+    expect_same(&rt, &told.handle(), &HANDLE);
     let mut another = notifier.again().expect(&rt, "there is memory");
-    assert_eq!(rt; another.inval_entry(&rt, INODE, b"abc"), Ok(()));
+    expect_same(&rt, &another.inval_entry(&rt, INODE, b"abc"), &Ok(()));
     let Err(full) = told.notify(&rt) else {
         panic!(&rt; "the line is full");
     };
     holds(&rt, &drain(&rt, alloc, &line, &mut first), &[&INVAL_ENTRY]);
-    assert_eq!(rt; full.item.handle(), HANDLE);
-    assert_eq!(rt; full.item.notify(&rt).is_ok(), true);
+    expect_same(&rt, &full.item.handle(), &HANDLE);
+    expect_same(&rt, &full.item.notify(&rt).is_ok(), &true);
     holds(&rt, &drain(&rt, alloc, &line, &mut first), &[&POLL]);
 }
 
 #[test]
 fn a_long_payload_finds_memory_where_there_is_some(rt: HostRuntime) {
     let alloc = rt.alloc();
-    let (line, mut first, mut notifier) = line_of(alloc, 4).expect(&rt, "there is memory");
+    let (line, mut first, mut notifier) = line_of(&rt, alloc, 4);
     let long = [0x61; 1000];
     let made = [
         Notice::inval_entry(alloc, INODE, &long).is_ok(),
@@ -224,22 +240,23 @@ fn a_long_payload_finds_memory_where_there_is_some(rt: HostRuntime) {
         notifier.store(&rt, INODE, 50, &long).is_ok(),
         notifier.delete(&rt, INODE, CHILD, &long).is_ok(),
     ];
-    assert_eq!(rt; made, [true; 6]);
+    expect_same(&rt, &made, &[true; 6]);
     let sink = drain(&rt, alloc, &line, &mut first);
     let mut lengths = [0; 4];
     for (length, frame) in lengths.iter_mut().zip(sink.frames()) {
         *length = frame.as_slice().len();
     }
-    assert_eq!(rt;
-        lengths,
-        [16 + 17 + 1000, 16 + 24 + 1000, 16 + 25 + 1000, 0]
+    expect_same(
+        &rt,
+        &lengths,
+        &[16 + 17 + 1000, 16 + 24 + 1000, 16 + 25 + 1000, 0],
     );
 }
 
 #[test]
 fn two_threads_notify_on_one_line(rt: HostRuntime) {
     let alloc = rt.alloc();
-    let (line, mut first, mut notifier) = line_of(alloc, 2).expect(&rt, "there is memory");
+    let (line, mut first, mut notifier) = line_of(&rt, alloc, 2);
     let poll = notifier
         .poll_notifier(HANDLE)
         .expect(&rt, "there is memory");
@@ -248,6 +265,6 @@ fn two_threads_notify_on_one_line(rt: HostRuntime) {
         || poll.notify(&rt).is_ok(),
         || notifier.poll(&rt, HANDLE).is_ok(),
     );
-    assert_eq!(rt; answers, (true, true));
+    expect_same(&rt, &answers, &(true, true));
     holds(&rt, &drain(&rt, alloc, &line, &mut first), &[&POLL, &POLL]);
 }
