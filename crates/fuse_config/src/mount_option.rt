@@ -1,5 +1,5 @@
 // What a filesystem is mounted with.
-ghost use Rattle.std.specs.Prelude.{◌≡◌, ◌++◌, IfOk};
+ghost use Rattle.std.specs.Prelude.{◌≡◌, ◌++◌, IfOk, drop};
 ghost use Rattle.std.specs.Result.{result_ok};
 ghost use Rattle.std.specs.Option.{option_copied};
 ghost use Rattle.std.specs.String.{string_bytes};
@@ -108,7 +108,16 @@ fn plain_option(text: &str) -> Option<MountOption>
         Some(MountOption::Suid)
     } else if text == "nosuid" {
         Some(MountOption::NoSuid)
-    } else if text == "ro" {
+    } else {
+        option_of_use(text)
+    }
+}
+
+/// The same of the options after these six, which say what is done with files.
+fn option_of_use(text: &str) -> Option<MountOption>
+    ensures { result ≡ named text.now (drop 6 plain_options) }
+{
+    if text == "ro" {
         Some(MountOption::RO)
     } else if text == "rw" {
         Some(MountOption::RW)
@@ -116,7 +125,16 @@ fn plain_option(text: &str) -> Option<MountOption>
         Some(MountOption::Exec)
     } else if text == "noexec" {
         Some(MountOption::NoExec)
-    } else if text == "atime" {
+    } else {
+        option_of_writing(text)
+    }
+}
+
+/// The same of the options after those, which say what is written and when.
+fn option_of_writing(text: &str) -> Option<MountOption>
+    ensures { result ≡ named text.now (drop 10 plain_options) }
+{
+    if text == "atime" {
         Some(MountOption::Atime)
     } else if text == "noatime" {
         Some(MountOption::NoAtime)
