@@ -9,7 +9,6 @@ use fuse_probing::Probing;
 use fuse_probing::test_messages::{ACCEPTED, INIT_7_8};
 use fuse_session::{Ended, SessionError, Transcript, mount};
 use fuse_wire::{Items, MemorySink, MemorySource, RequestId, Turn};
-use std::alloc::{AllocError, Global};
 use std::process::Abort;
 use std::sync::Wait;
 use std::thread::Threads;
@@ -20,14 +19,24 @@ fn id_at(place: usize) -> u8 {
 }
 
 /// A source of INIT and the messages of these rows.
-fn source_of_rows(alloc: Global, rows: &[Row]) -> Result<MemorySource, AllocError> {
-    let mut turns = Vec::new(alloc);
-    turns.push(Turn::Message(Items::from_vec(INIT_7_8.to_vec(alloc)?)))?;
+fn source_of_rows<R: AllocGlobal + Abort>(rt: &R, rows: &[Row]) -> MemorySource {
+    let mut turns = Vec::new(rt.alloc());
+    put_turn(rt, &mut turns, copied(rt, &INIT_7_8));
     for (place, row) in rows.iter().enumerate() {
-        let message = message_of(alloc, row, id_at(place))?;
-        turns.push(Turn::Message(Items::from_vec(message)))?;
+        put_turn(rt, &mut turns, message_of(rt, row, id_at(place)));
     }
-    Ok(MemorySource::new(turns))
+    MemorySource::new(turns)
+}
+
+/// These bytes in memory of their own.
+fn copied<R: AllocGlobal + Abort>(rt: &R, bytes: &[u8]) -> Vec<u8> {
+    bytes.to_vec(rt.alloc()).expect(rt, "there is memory")
+}
+
+/// Puts a turn of this message at the end.
+fn put_turn(rt: &impl Abort, turns: &mut Vec<Turn>, message: Vec<u8>) {
+    let turn = Turn::Message(Items::from_vec(message));
+    turns.push(turn).expect(rt, "there is memory");
 }
 
 /// Whether what was recorded is this call of the request with this lowest byte of its id.
@@ -78,39 +87,41 @@ fn reached<R: Abort>(rt: &R, recorded: &[Recorded], rows: &[Row]) {
 }
 
 /// The frames that the sink takes for INIT and the messages of these rows.
-fn frames_of(alloc: Global, rows: &[Row]) -> Result<Vec<Items<u8>>, AllocError> {
-    let mut frames = Vec::new(alloc);
-    frames.push(Items::from_vec(ACCEPTED.to_vec(alloc)?))?;
+fn frames_of<R: AllocGlobal + Abort>(rt: &R, rows: &[Row]) -> Vec<Items<u8>> {
+    let mut frames = Vec::new(rt.alloc());
+    put(rt, &mut frames, copied(rt, &ACCEPTED));
     for (place, row) in rows.iter().enumerate() {
-        if let Some(frame) = frame_of(alloc, row.reply, id_at(place))? {
-            frames.push(Items::from_vec(frame))?;
+        if let Some(frame) = frame_of(rt, row.reply, id_at(place)) {
+            put(rt, &mut frames, frame);
         }
     }
-    Ok(frames)
+    frames
+}
+
+/// Puts a frame of these bytes at the end.
+fn put(rt: &impl Abort, frames: &mut Vec<Items<u8>>, bytes: Vec<u8>) {
+    let frame = Items::from_vec(bytes);
+    frames.push(frame).expect(rt, "there is memory");
 }
 
 /// The notes that it takes for them.
-fn notes_of(alloc: Global, rows: &[Row]) -> Result<Vec<(RequestId, u64)>, AllocError> {
-    let mut notes = Vec::new(alloc);
+fn notes_of<R: AllocGlobal + Abort>(rt: &R, rows: &[Row]) -> Vec<(RequestId, u64)> {
+    let mut notes = Vec::new(rt.alloc());
     for (place, row) in rows.iter().enumerate() {
         if let Reply::Note = row.reply {
-            notes.push((RequestId(asker(id_at(place)).0), 0))?;
+            let note = (RequestId(asker(id_at(place)).0), 0);
+            notes.push(note).expect(rt, "there is memory");
         }
     }
-    Ok(notes)
+    notes
 }
 
 /// The sink took the frames and the notes of INIT and these rows, and no other.
-fn replied<R: AllocGlobal + Abort>(
-    rt: &R,
-    sink: &MemorySink,
-    rows: &[Row],
-) -> Result<(), AllocError> {
-    let frames = frames_of(rt.alloc(), rows)?;
-    let notes = notes_of(rt.alloc(), rows)?;
+fn replied<R: AllocGlobal + Abort>(rt: &R, sink: &MemorySink, rows: &[Row]) {
+    let frames = frames_of(rt, rows);
+    let notes = notes_of(rt, rows);
     expect_same(rt, &sink.frames(), &frames.as_slice());
     expect_same(rt, &sink.notes(), &notes.as_slice());
-    Ok(())
 }
 
 /// What a session came to: what reached its filesystem, the sink, and how it ended and what it did.
@@ -145,25 +156,22 @@ fn served_by<R: Wait + Drop>(
 }
 
 /// Serves these messages.
-fn serve_rows<R: Threads + Wait + AllocGlobal + Send + Sync + Copy>(
+fn serve_rows<R: Threads + Wait + AllocGlobal + Abort + Send + Sync + Copy>(
     rt: &R,
     rows: &[Row],
-) -> Result<Served, AllocError> {
+) -> Served {
     let alloc = rt.alloc();
-    let source = source_of_rows(alloc, rows)?;
+    let source = source_of_rows(rt, rows);
     let sink = MemorySink::new(alloc, Vec::new(alloc));
     let probe = Recording::new(*rt, alloc);
     let mut config = Config::new(alloc);
     config.acl = SessionACL::All;
-    Ok(served_by(mount(rt, Probing { probe }, source, sink, 0, 4096, &config)))
+    served_by(mount(rt, Probing { probe }, source, sink, 0, 4096, &config))
 }
 
 /// Serves these messages: they come to the calls and the replies that they say, and to no other.
-fn comes_to<R: Threads + Wait + AllocGlobal + Abort + Send + Sync + Copy>(
-    rt: &R,
-    rows: &[Row],
-) -> Result<(), AllocError> {
-    let served = serve_rows(rt, rows)?;
+fn comes_to<R: Threads + Wait + AllocGlobal + Abort + Send + Sync + Copy>(rt: &R, rows: &[Row]) {
+    let served = serve_rows(rt, rows);
     let messages = rows.len().saturating_add(1) as u64;
     expect_same(
         rt,
@@ -171,17 +179,16 @@ fn comes_to<R: Threads + Wait + AllocGlobal + Abort + Send + Sync + Copy>(
         &(Ok(()), messages),
     );
     reached(rt, served.recorded.as_slice(), rows);
-    let compared = replied(rt, &served.sink, rows);
+    replied(rt, &served.sink, rows);
     drop(served);
-    compared
 }
 
 #[test]
 fn what_is_asked_of_inodes_and_names_reaches_the_filesystem(rt: HostRuntime) {
-    comes_to(&rt, nodes()).expect(&rt, "there is memory");
+    comes_to(&rt, nodes());
 }
 
 #[test]
 fn what_is_asked_of_open_files_reaches_the_filesystem(rt: HostRuntime) {
-    comes_to(&rt, files()).expect(&rt, "there is memory");
+    comes_to(&rt, files());
 }

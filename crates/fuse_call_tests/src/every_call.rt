@@ -1,6 +1,6 @@
 // Messages with arguments that all differ, and what each comes to.
 use fuse_probing::Argument;
-use std::alloc::{AllocError, Global};
+use std::process::Abort;
 
 /// How many nanoseconds a second has.
 pub(crate) const SECOND: i128 = 1_000_000_000;
@@ -54,7 +54,7 @@ pub(crate) fn asker(id: u8) -> (u64, u32, u32, u32) {
 }
 
 /// The message of a row, with this lowest byte of its id.
-pub(crate) fn message_of(alloc: Global, row: &Row, id: u8) -> Result<Vec<u8>, AllocError> {
+pub(crate) fn message_of<R: AllocGlobal + Abort>(rt: &R, row: &Row, id: u8) -> Vec<u8> {
     let mut header = HEADER;
     header[0] = row
         .length
@@ -62,17 +62,20 @@ pub(crate) fn message_of(alloc: Global, row: &Row, id: u8) -> Result<Vec<u8>, Al
         .saturating_add(40);
     header[4..8].copy_from_slice(&row.opcode.to_le_bytes());
     header[8] = id;
-    let mut message = Vec::from_slice(alloc, &header)?;
+    let mut message = Vec::from_slice(rt.alloc(), &header).expect(rt, "there is memory");
     for place in 0..row.length {
-        message.push(place.wrapping_add(1))?;
+        let byte = place.wrapping_add(1);
+        message.push(byte).expect(rt, "there is memory");
     }
     for (place, byte) in row.changes {
         if let Some(argument) = message.get_mut(place.saturating_add(HEADER.len())) {
             *argument = *byte;
         }
     }
-    message.extend_from_slice(row.tail)?;
-    Ok(message)
+    message
+        .extend_from_slice(row.tail)
+        .expect(rt, "there is memory");
+    message
 }
 
 /// The header of a frame with this error, or 0, with a payload of this length, and with this lowest byte of its id.
@@ -88,13 +91,16 @@ fn reply_header(errno: u8, length: usize, id: u8) -> [u8; 16] {
 }
 
 /// The frame of a reply, with this lowest byte of its id. A note has none.
-pub(crate) fn frame_of(alloc: Global, reply: Reply, id: u8) -> Result<Option<Vec<u8>>, AllocError> {
+pub(crate) fn frame_of<R: AllocGlobal + Abort>(rt: &R, reply: Reply, id: u8) -> Option<Vec<u8>> {
     let (errno, payload) = match reply {
         Reply::Error(errno) => (errno, [].as_slice()),
         Reply::Payload(payload) => (0, payload),
-        Reply::Note => return Ok(None),
+        Reply::Note => return None,
     };
-    let mut frame = Vec::from_slice(alloc, &reply_header(errno, payload.len(), id))?;
-    frame.extend_from_slice(payload)?;
-    Ok(Some(frame))
+    let header = reply_header(errno, payload.len(), id);
+    let mut frame = Vec::from_slice(rt.alloc(), &header).expect(rt, "there is memory");
+    frame
+        .extend_from_slice(payload)
+        .expect(rt, "there is memory");
+    Some(frame)
 }

@@ -1,16 +1,16 @@
 // Lookups that are answered after their methods have returned, in whole sessions.
 use crate::asserts::{expect, expect_same};
 use crate::deferring::{Deferring, HELD, LAST, SOON, Shelf, Tally, close, shared_shelf};
-use crate::serving::{Rest, are_replies, counts, rest_of};
+use crate::serving::{Rest, are_replies, counts, put_turn, rest_of};
 use fuse_config::{Config, SessionACL};
 use fuse_probing::Probing;
 use fuse_probing::test_messages::{
     ACCEPTED, ENOENT, ENOSYS, INIT_7_8, differ_at, error_reply, getattr, lookup_by, lookup_of,
-    source_of, turn,
+    source_of,
 };
 use fuse_session::{Ended, Filesystem, Session, SessionError, Transcript, mount};
 use fuse_wire::{Items, MemorySink, MemorySource};
-use std::alloc::{AllocError, AllocGlobal, Global};
+use std::alloc::{AllocGlobal, Global};
 use std::process::Abort;
 use std::sync::{Arc, Wait};
 use std::thread;
@@ -65,16 +65,16 @@ fn serve_by<R: Threads + Wait + AllocGlobal + Sync, FS: Filesystem>(
 type Ran = (Result<(), SessionError>, Transcript, MemorySink);
 
 /// Serves a filesystem that has a share of the shelf.
-fn serve_from<R: Threads + Wait + AllocGlobal + Send + Sync + Copy>(
+fn serve_from<R: Threads + Wait + AllocGlobal + Abort + Send + Sync + Copy>(
     rt: &R,
     way: Way,
     shelf: &Arc<Shelf, Global>,
     source: MemorySource,
     config: &Config,
-) -> Result<Ran, AllocError> {
+) -> Ran {
     let probe = Deferring {
         rt: *rt,
-        shelf: Arc::try_clone(shelf)?,
+        shelf: Arc::try_clone(shelf).expect(rt, "there is memory"),
     };
     let sink = MemorySink::new(rt.alloc(), Vec::new(rt.alloc()));
     let Rest {
@@ -85,18 +85,18 @@ fn serve_from<R: Threads + Wait + AllocGlobal + Send + Sync + Copy>(
     } = rest_of(serve_by(rt, way, Probing { probe }, source, sink, config));
     let Deferring { rt: _, shelf } = probe;
     let _ = close(rt, shelf);
-    Ok((outcome, transcript, sink))
+    (outcome, transcript, sink)
 }
 
 /// The same, while so many threads of the test's own answer the lookups that are put off.
-fn serve_beside<R: Threads + Wait + AllocGlobal + Send + Sync + Copy>(
+fn serve_beside<R: Threads + Wait + AllocGlobal + Abort + Send + Sync + Copy>(
     rt: &R,
     way: Way,
     threads: u64,
     shelf: &Arc<Shelf, Global>,
     source: MemorySource,
     config: &Config,
-) -> Result<Ran, AllocError> {
+) -> Ran {
     thread::scope(thread::scope_env(), rt, |scope| {
         for seed in 1..=threads {
             let _ = scope.spawn(move || shelf.answer_later(rt, seed));
@@ -117,34 +117,32 @@ fn served_by(alloc: Global, n_threads: usize) -> Config {
 
 /// Serves this source by the plan, while so many threads of the test's own answer the lookups that are put off. What is
 /// left of these is answered after that.
-fn serve_source<R: Threads + Wait + AllocGlobal + Send + Sync + Copy>(
+fn serve_source<R: Threads + Wait + AllocGlobal + Abort + Send + Sync + Copy>(
     rt: &R,
     plan: Plan,
     threads: u64,
     source: MemorySource,
-) -> Result<Served, AllocError> {
+) -> Served {
     let alloc = rt.alloc();
-    let shelf = shared_shelf(rt, alloc, plan.awaited, plan.least_held)?;
+    let shelf = shared_shelf(rt, alloc, plan.awaited, plan.least_held);
+    let shelf = shelf.expect(rt, "there is memory");
     let config = served_by(alloc, plan.n_threads);
-    let ran = serve_beside(rt, plan.way, threads, &shelf, source, &config);
-    drop(config);
-    let tally = close(rt, shelf);
-    let (outcome, transcript, sink) = ran?;
-    Ok(Served {
+    let (outcome, transcript, sink) = serve_beside(rt, plan.way, threads, &shelf, source, &config);
+    Served {
         outcome,
         transcript,
         sink,
-        tally,
-    })
+        tally: close(rt, shelf),
+    }
 }
 
 /// Serves these messages by the plan, with one such thread.
-fn serve<R: Threads + Wait + AllocGlobal + Send + Sync + Copy>(
+fn serve<R: Threads + Wait + AllocGlobal + Abort + Send + Sync + Copy>(
     rt: &R,
     plan: Plan,
     messages: &[&[u8]],
-) -> Result<Served, AllocError> {
-    let source = source_of(rt.alloc(), messages)?;
+) -> Served {
+    let source = source_of(rt.alloc(), messages).expect(rt, "there is memory");
     serve_source(rt, plan, 1, source)
 }
 
@@ -190,7 +188,7 @@ fn a_lookup_is_answered_by_another_thread(rt: HostRuntime) {
         least_held: 0,
     };
     let messages: [&[u8]; 3] = [&INIT_7_8, &lookup_of(2, SOON), &lookup_of(3, HELD)];
-    let served = serve(&rt, plan, &messages).expect(&rt, "there is memory");
+    let served = serve(&rt, plan, &messages);
     let replies = [error_reply(2, ENOENT), error_reply(3, ENOENT)];
     has_replied(&rt, &served, 3, &replies, all_queued(1));
 }
@@ -209,7 +207,7 @@ fn two_lookups_under_one_id_are_answered_later(rt: HostRuntime) {
         &lookup_of(2, SOON),
         &lookup_of(3, HELD),
     ];
-    let served = serve(&rt, plan, &messages).expect(&rt, "there is memory");
+    let served = serve(&rt, plan, &messages);
     let replies = [
         error_reply(2, ENOENT),
         error_reply(2, ENOENT),
@@ -232,7 +230,7 @@ fn one_thread_puts_no_lookup_off(rt: HostRuntime) {
         &lookup_of(3, LAST),
         &lookup_of(4, HELD),
     ];
-    let served = serve(&rt, plan, &messages).expect(&rt, "there is memory");
+    let served = serve(&rt, plan, &messages);
     let replies = [
         error_reply(2, ENOENT),
         error_reply(3, ENOENT),
@@ -265,7 +263,7 @@ fn a_lookup_after_the_end_is_told_how_many_were_taken(rt: HostRuntime) {
         &lookup_of(4, HELD),
         &lookup_of(5, HELD),
     ];
-    let served = serve(&rt, plan, &messages).expect(&rt, "there is memory");
+    let served = serve(&rt, plan, &messages);
     let replies = [
         error_reply(2, ENOENT),
         error_reply(4, ENOENT),
@@ -295,7 +293,7 @@ fn what_is_answered_at_once_keeps_its_frame(rt: HostRuntime) {
         &lookup_of(4, SOON),
         &lookup_of(5, HELD),
     ];
-    let served = serve(&rt, plan, &messages).expect(&rt, "there is memory");
+    let served = serve(&rt, plan, &messages);
     let replies = [
         error_reply(2, ENOENT),
         error_reply(3, ENOSYS),
@@ -309,14 +307,14 @@ fn what_is_answered_at_once_keeps_its_frame(rt: HostRuntime) {
 const MANY: u64 = 100_000;
 
 /// INIT, lookups of the ids below a number that are put off, and one of that number that is held until they are answered.
-fn many_lookups(alloc: Global, many: u64) -> Result<MemorySource, AllocError> {
-    let mut turns = Vec::new(alloc);
-    turns.push(turn(alloc, &INIT_7_8)?)?;
+fn many_lookups<R: AllocGlobal + Abort>(rt: &R, many: u64) -> MemorySource {
+    let mut turns = Vec::new(rt.alloc());
+    put_turn(rt, &mut turns, &INIT_7_8);
     for id in 0..many {
-        turns.push(turn(alloc, &lookup_by(id, SOON))?)?;
+        put_turn(rt, &mut turns, &lookup_by(id, SOON));
     }
-    turns.push(turn(alloc, &lookup_by(many, HELD))?)?;
-    Ok(MemorySource::new(turns))
+    put_turn(rt, &mut turns, &lookup_by(many, HELD));
+    MemorySource::new(turns)
 }
 
 /// The id of a request, where the frame answers it by ENOENT.
@@ -330,8 +328,9 @@ fn refused_id(frame: &[u8]) -> Option<u64> {
 }
 
 /// How many ids below a number these frames answer by ENOENT, and how many of the frames are another reply or a second one.
-fn refusals(alloc: Global, frames: &[Items<u8>], ids: u64) -> Result<(u64, u64), AllocError> {
-    let mut is_refused = vec![in alloc; false; ids as usize]?;
+fn refusals<R: AllocGlobal + Abort>(rt: &R, frames: &[Items<u8>], ids: u64) -> (u64, u64) {
+    let is_refused = vec![in rt.alloc(); false; ids as usize];
+    let mut is_refused = is_refused.expect(rt, "there is memory");
     let (mut refused, mut other): (u64, u64) = (0, 0);
     for frame in frames {
         match refused_id(frame.as_slice()).and_then(|id| is_refused.get_mut(id as usize)) {
@@ -342,7 +341,7 @@ fn refusals(alloc: Global, frames: &[Items<u8>], ids: u64) -> Result<(u64, u64),
             _ => other = other.saturating_add(1),
         }
     }
-    Ok((refused, other))
+    (refused, other)
 }
 
 #[test]
@@ -353,9 +352,9 @@ fn many_lookups_are_answered_by_four_threads(rt: HostRuntime) {
         awaited: MANY,
         least_held: 0,
     };
-    let source = many_lookups(rt.alloc(), MANY).expect(&rt, "there is memory");
-    let served = serve_source(&rt, plan, 4, source).expect(&rt, "there is memory");
-    let refused = refusals(rt.alloc(), served.sink.frames(), MANY + 1);
+    let source = many_lookups(&rt, MANY);
+    let served = serve_source(&rt, plan, 4, source);
+    let refused = refusals(&rt, served.sink.frames(), MANY + 1);
     expect_same(
         &rt,
         &(served.outcome, served.transcript),
@@ -364,5 +363,5 @@ fn many_lookups_are_answered_by_four_threads(rt: HostRuntime) {
     expect_same(&rt, &served.tally, &Some(all_queued(MANY)));
     drop(served);
     // All but the handshake's reply.
-    expect_same(&rt, &refused.expect(&rt, "there is memory"), &(MANY + 1, 1));
+    expect_same(&rt, &refused, &(MANY + 1, 1));
 }

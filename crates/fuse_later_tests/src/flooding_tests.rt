@@ -14,7 +14,8 @@ use fuse_reply::{Replied, ReplyEntry};
 use fuse_request::Request;
 use fuse_session::{Session, defaults};
 use fuse_wire::{INodeNo, Items, MemorySink, NoMemory, PollHandle};
-use std::alloc::{AllocError, Global};
+use std::alloc::Global;
+use std::process::Abort;
 use std::sync::atomic::{AtomicU64, Ordering};
 use std::sync::{Arc, Mutex, Wait};
 use std::thread::Threads;
@@ -91,22 +92,22 @@ fn hand_over<R: Wait>(rt: &R, slot: &Slot, made: Result<Notifier, NoMemory>) {
 }
 
 /// Serves it, in a session whose notifier it finds in the slot.
-fn serve_flooding<R: Threads + Wait + AllocGlobal + Send + Sync + Copy>(
+fn serve_flooding<R: Threads + Wait + AllocGlobal + Abort + Send + Sync + Copy>(
     rt: &R,
     slot: &Slot,
-) -> Result<Rest<Probing<Flooding<R>>>, AllocError> {
+) -> Rest<Probing<Flooding<R>>> {
     let alloc = rt.alloc();
     let mut config = Config::new(alloc);
     config.acl = SessionACL::All;
-    let source = source_of(alloc, &[&INIT_7_8, &lookup(2, 0)])?;
+    let source = source_of(alloc, &[&INIT_7_8, &lookup(2, 0)]).expect(rt, "there is memory");
     let sink = MemorySink::new(alloc, Vec::new(alloc));
     let probe = Flooding {
         rt: *rt,
-        slot: Arc::try_clone(slot)?,
+        slot: Arc::try_clone(slot).expect(rt, "there is memory"),
         queued: AtomicU64::new(0),
         full: AtomicU64::new(0),
     };
-    Ok(rest_of(
+    rest_of(
         match Session::new(rt, Probing { probe }, source, sink, 0, 4096, &config) {
             Ok(mut session) => {
                 hand_over(rt, slot, session.notifier());
@@ -114,7 +115,7 @@ fn serve_flooding<R: Threads + Wait + AllocGlobal + Send + Sync + Copy>(
             }
             Err(over) => over,
         },
-    ))
+    )
 }
 
 /// The notice of a poll with this handle, `struct fuse_notify_poll_wakeup_out`, whose code is 1.
@@ -145,7 +146,7 @@ fn notices_after(frames: &[Items<u8>], replies: &[&[u8]; 2]) -> Option<usize> {
 #[test]
 fn the_notices_of_a_filesystem_follow_its_reply(rt: HostRuntime) {
     let slot = Arc::new(rt.alloc(), Mutex::new(None)).expect(&rt, "there is memory");
-    let rest = serve_flooding(&rt, &slot).expect(&rt, "there is memory");
+    let rest = serve_flooding(&rt, &slot);
     expect_same(
         &rt,
         &(rest.outcome, rest.transcript),

@@ -1,14 +1,13 @@
 // Notices, which are sent after the frame of the message that was answered last.
 use crate::asserts::expect_same;
 use crate::polling::Polling;
-use crate::serving::{Rest, counts, serve};
+use crate::serving::{Rest, counts, put_turn, serve};
 use fuse_probing::Probing;
 use fuse_probing::test_messages::{
-    ACCEPTED, ENOENT, INIT_7_8, differ_at, error_reply, getattr, poll, source_of, turn,
+    ACCEPTED, ENOENT, INIT_7_8, differ_at, error_reply, getattr, poll, source_of,
 };
 use fuse_session::Transcript;
 use fuse_wire::{Items, MemorySink, MemorySource, Sending};
-use std::alloc::{AllocError, Global};
 use std::process::Abort;
 use std::sync::Wait;
 use std::thread::Threads;
@@ -87,12 +86,14 @@ fn a_poll_is_told_once_there_is_news(rt: HostRuntime) {
 }
 
 /// A sink that does not take its third, fifth and sixth frame.
-fn refusing(alloc: Global) -> Result<MemorySink, AllocError> {
-    let mut faults = Vec::new(alloc);
-    faults.push((3, Sending::Absent))?;
-    faults.push((5, Sending::Failed))?;
-    faults.push((6, Sending::Failed))?;
-    Ok(MemorySink::new(alloc, faults))
+fn refusing<R: AllocGlobal + Abort>(rt: &R) -> MemorySink {
+    let faults = [
+        (3, Sending::Absent),
+        (5, Sending::Failed),
+        (6, Sending::Failed),
+    ];
+    let faults = faults.to_vec(rt.alloc()).expect(rt, "there is memory");
+    MemorySink::new(rt.alloc(), faults)
 }
 
 #[test]
@@ -106,7 +107,7 @@ fn a_notice_that_is_not_taken_is_counted_nowhere(rt: HostRuntime) {
     // The sends are the reply to INIT, and then a reply and its notice for each poll.
     let frames: [&[u8]; 4] = [&ACCEPTED, &ready(2), &ready(3), &news([9, 0])];
     let source = source_of(rt.alloc(), &messages).expect(&rt, "there is memory");
-    let sink = refusing(rt.alloc()).expect(&rt, "there is memory");
+    let sink = refusing(&rt);
     let mut expected = counts(4, 3);
     expected.lost = 1;
     let sink = serves(&rt, source, sink, expected, 0);
@@ -114,46 +115,47 @@ fn a_notice_that_is_not_taken_is_counted_nowhere(rt: HostRuntime) {
 }
 
 /// A source of one poll more than there are places, and of two GETATTRs.
-fn many_polls(alloc: Global) -> Result<MemorySource, AllocError> {
-    let mut turns = Vec::new(alloc);
-    turns.push(turn(alloc, &INIT_7_8)?)?;
+fn many_polls<R: AllocGlobal + Abort>(rt: &R) -> MemorySource {
+    let mut turns = Vec::new(rt.alloc());
+    put_turn(rt, &mut turns, &INIT_7_8);
     for handle in 0..=PLACES {
-        turns.push(turn(alloc, &poll(2, [handle as u8, 0], 1))?)?;
+        put_turn(rt, &mut turns, &poll(2, [handle as u8, 0], 1));
     }
-    turns.push(turn(alloc, &getattr(3, 0))?)?;
-    turns.push(turn(alloc, &getattr(3, 0))?)?;
-    Ok(MemorySource::new(turns))
+    put_turn(rt, &mut turns, &getattr(3, 0));
+    put_turn(rt, &mut turns, &getattr(3, 0));
+    MemorySource::new(turns)
 }
 
 /// Puts this frame behind the others.
-fn put(alloc: Global, frames: &mut Vec<Items<u8>>, frame: &[u8]) -> Result<(), AllocError> {
-    frames.push(Items::from_vec(frame.to_vec(alloc)?))?;
-    Ok(())
+fn put<R: AllocGlobal + Abort>(rt: &R, frames: &mut Vec<Items<u8>>, frame: &[u8]) {
+    let bytes = frame.to_vec(rt.alloc()).expect(rt, "there is memory");
+    let frame = Items::from_vec(bytes);
+    frames.push(frame).expect(rt, "there is memory");
 }
 
 /// What is sent for them: the reply to INIT, and then those to the polls; the reply to a GETATTR, and the notices for which
 /// there are places; the reply to the other one, and the notice that is left.
-fn many_frames(alloc: Global) -> Result<Vec<Items<u8>>, AllocError> {
-    let mut frames = Vec::new(alloc);
-    put(alloc, &mut frames, &ACCEPTED)?;
+fn many_frames<R: AllocGlobal + Abort>(rt: &R) -> Vec<Items<u8>> {
+    let mut frames = Vec::new(rt.alloc());
+    put(rt, &mut frames, &ACCEPTED);
     for _ in 0..=PLACES {
-        put(alloc, &mut frames, &ready(2))?;
+        put(rt, &mut frames, &ready(2));
     }
-    put(alloc, &mut frames, &error_reply(3, ENOENT))?;
+    put(rt, &mut frames, &error_reply(3, ENOENT));
     for place in 0..PLACES {
         // The filesystem tells of the newest poll first.
-        put(alloc, &mut frames, &news([(PLACES - place) as u8, 0]))?;
+        put(rt, &mut frames, &news([(PLACES - place) as u8, 0]));
     }
-    put(alloc, &mut frames, &error_reply(3, ENOENT))?;
-    put(alloc, &mut frames, &news([0, 0]))?;
-    Ok(frames)
+    put(rt, &mut frames, &error_reply(3, ENOENT));
+    put(rt, &mut frames, &news([0, 0]));
+    frames
 }
 
 #[test]
 fn a_notice_for_which_there_is_no_place_waits(rt: HostRuntime) {
     let messages = PLACES as u64 + 4;
-    let frames = many_frames(rt.alloc()).expect(&rt, "there is memory");
-    let source = many_polls(rt.alloc()).expect(&rt, "there is memory");
+    let frames = many_frames(&rt);
+    let source = many_polls(&rt);
     let sink = MemorySink::new(rt.alloc(), Vec::new(rt.alloc()));
     let sink = serves(&rt, source, sink, counts(messages, messages), 0);
     expect_same(&rt, &sink.frames(), &frames.as_slice());

@@ -1,10 +1,17 @@
 // Sessions from memory to memory, and what is left of them.
 use fuse_config::{Config, SessionACL};
-use fuse_probing::test_messages::ACCEPTED;
+use fuse_probing::test_messages::{ACCEPTED, turn};
 use fuse_session::{Ended, Filesystem, SessionError, Transcript, mount};
-use fuse_wire::{Items, MemorySink, MemorySource};
+use fuse_wire::{Items, MemorySink, MemorySource, Turn};
+use std::process::Abort;
 use std::sync::Wait;
 use std::thread::Threads;
+
+/// Puts a turn of this message at the end.
+pub(crate) fn put_turn<R: AllocGlobal + Abort>(rt: &R, turns: &mut Vec<Turn>, message: &[u8]) {
+    let turn = turn(rt.alloc(), message).expect(rt, "there is memory");
+    turns.push(turn).expect(rt, "there is memory");
+}
 
 /// What is left of a session, but for its source.
 #[derive(Drop)]

@@ -10,10 +10,8 @@ use fuse_session::{Ended, mount};
 use fuse_wire::{
     Duration, FileAttr, FileType, INodeNo, Items, MemorySink, MemorySource, RequestId, Turn,
 };
-use std::alloc::{AllocError, Global};
 use std::process::Abort;
 use std::sync::Wait;
-use std::test::Fail;
 use std::thread::Threads;
 
 /// The directory 1 with two files: `one`, which is node 2, and node 3, whose entry is long.
@@ -91,28 +89,38 @@ fn short(length: usize) -> u8 {
 }
 
 /// A message of root with the id 2, and this body: `struct fuse_in_header`.
-fn message(alloc: Global, opcode: u8, node: u8, body: &[u8]) -> Result<Vec<u8>, AllocError> {
-    let mut bytes = vec![in alloc; 0; 40]?;
+fn message<R: AllocGlobal + Abort>(rt: &R, opcode: u8, node: u8, body: &[u8]) -> Vec<u8> {
+    let mut bytes = vec![in rt.alloc(); 0; 40].expect(rt, "there is memory");
     bytes[0] = short(body.len().saturating_add(40));
     bytes[4] = opcode;
     bytes[8] = 2;
     bytes[16] = node;
-    bytes.extend_from_slice(body)?;
-    Ok(bytes)
+    put(rt, &mut bytes, body);
+    bytes
+}
+
+/// Puts these behind the other bytes.
+fn put(rt: &impl Abort, bytes: &mut Vec<u8>, more: &[u8]) {
+    bytes.extend_from_slice(more).expect(rt, "there is memory");
 }
 
 /// A frame for the id 2: this status, whose lowest byte is given, and this payload.
-fn frame(alloc: Global, status: u8, payload: &[u8]) -> Result<Vec<u8>, AllocError> {
+fn frame<R: AllocGlobal + Abort>(rt: &R, status: u8, payload: &[u8]) -> Vec<u8> {
     let above = if status == 0 { 0 } else { 0xff };
     let length = short(payload.len().saturating_add(16));
-    let mut bytes = [length, 0, 0, 0, status, above, above, above].to_vec(alloc)?;
-    bytes.extend_from_slice(&[2, 0, 0, 0, 0, 0, 0, 0])?;
-    bytes.extend_from_slice(payload)?;
-    Ok(bytes)
+    let mut bytes = Vec::new(rt.alloc());
+    put(
+        rt,
+        &mut bytes,
+        &[length, 0, 0, 0, status, above, above, above],
+    );
+    put(rt, &mut bytes, &[2, 0, 0, 0, 0, 0, 0, 0]);
+    put(rt, &mut bytes, payload);
+    bytes
 }
 
 /// INIT of version 7.8, with the id 1.
-fn init(alloc: Global) -> Result<Vec<u8>, AllocError> {
+fn init() -> [u8; 104] {
     let mut bytes = [0; 104];
     bytes[0] = 104;
     bytes[4] = 26;
@@ -120,17 +128,24 @@ fn init(alloc: Global) -> Result<Vec<u8>, AllocError> {
     bytes[40] = 7;
     bytes[44] = 8;
     bytes[49] = 0x10;
-    bytes.to_vec(alloc)
+    bytes
 }
 
 /// A source of an INIT and these requests.
-fn after_init(alloc: Global, requests: &[Vec<u8>]) -> Result<MemorySource, AllocError> {
-    let mut turns = Vec::new(alloc);
-    turns.push(Turn::Message(Items::from_vec(init(alloc)?)))?;
+fn after_init<R: AllocGlobal + Abort>(rt: &R, requests: &[Vec<u8>]) -> MemorySource {
+    let mut turns = Vec::new(rt.alloc());
+    put_turn(rt, &mut turns, &init());
     for request in requests {
-        turns.push(Turn::Message(Items::from_vec(request.to_vec(alloc)?)))?;
+        put_turn(rt, &mut turns, request);
     }
-    Ok(MemorySource::new(turns))
+    MemorySource::new(turns)
+}
+
+/// Puts a turn of this message at the end.
+fn put_turn<R: AllocGlobal + Abort>(rt: &R, turns: &mut Vec<Turn>, message: &[u8]) {
+    let bytes = message.to_vec(rt.alloc()).expect(rt, "there is memory");
+    let turn = Turn::Message(Items::from_vec(bytes));
+    turns.push(turn).expect(rt, "there is memory");
 }
 
 /// Behind its first frame the sink took these, and these notes, and no other.
@@ -150,11 +165,11 @@ fn serves<R: Threads + Wait + AllocGlobal + Abort + Sync>(
     requests: &[Vec<u8>],
     frames: &[Vec<u8>],
     notes: &[(RequestId, u64)],
-) -> Result<(), AllocError> {
+) {
     let alloc = rt.alloc();
     let mut config = Config::new(alloc);
     config.acl = SessionACL::All;
-    let source = after_init(alloc, requests)?;
+    let source = after_init(rt, requests);
     let sink = MemorySink::new(alloc, Vec::new(alloc));
     let Ended {
         filesystem,
@@ -169,22 +184,22 @@ fn serves<R: Threads + Wait + AllocGlobal + Abort + Sync>(
         (outcome, transcript.lost, held, filesystem.into_files()),
         (Ok(()), 0, Pair, Pair)
     );
-    Ok(())
 }
 
 /// Serves these requests, each with its one frame.
-fn serves_each<R: Threads + Wait + AllocGlobal + Abort + Sync>(
-    rt: &R,
-    cases: &[Case<'_>],
-) -> Result<(), AllocError> {
-    let alloc = rt.alloc();
-    let mut requests = Vec::new(alloc);
-    let mut frames = Vec::new(alloc);
+fn serves_each<R: Threads + Wait + AllocGlobal + Abort + Sync>(rt: &R, cases: &[Case<'_>]) {
+    let mut requests = Vec::new(rt.alloc());
+    let mut frames = Vec::new(rt.alloc());
     for (opcode, node, body, status, payload) in cases {
-        requests.push(message(alloc, *opcode, *node, body)?)?;
-        frames.push(frame(alloc, *status, payload)?)?;
+        put_all(rt, &mut requests, message(rt, *opcode, *node, body));
+        put_all(rt, &mut frames, frame(rt, *status, payload));
     }
-    serves(rt, &requests, &frames, &[])
+    serves(rt, &requests, &frames, &[]);
+}
+
+/// Puts these bytes behind the others.
+fn put_all(rt: &impl Abort, all: &mut Vec<Vec<u8>>, bytes: Vec<u8>) {
+    all.push(bytes).expect(rt, "there is memory");
 }
 
 /// The body of a READ or a READDIR: `struct fuse_read_in`.
@@ -232,7 +247,7 @@ fn held(attributes: [u8; 88]) -> [u8; 104] {
 }
 
 #[test]
-fn looks_up_and_reads(rt: HostRuntime) -> Result<(), Fail> {
+fn looks_up_and_reads(rt: HostRuntime) {
     let one = attributes(2, [6, 0], 1, [0x24, 0x81], 1);
     let other = attributes(3, [1, 2], 2, [0x24, 0x81], 1);
     let root = attributes(1, [0, 0], 0, [0xed, 0x41], 2);
@@ -257,8 +272,7 @@ fn looks_up_and_reads(rt: HostRuntime) -> Result<(), Fail> {
         (15, 1, &read(near(0), 1), 0xfe, b""),
         (5, 2, b"", 0xda, b""),
     ];
-    serves_each(&rt, &cases)?;
-    Ok(())
+    serves_each(&rt, &cases);
 }
 
 /// An entry of the directory: `struct fuse_dirent` with a name, whose type is that of `dirent.h`.
@@ -276,16 +290,16 @@ fn dirent<const N: usize>(ino: u8, offset: u8, kind: u8, name: &[u8]) -> [u8; N]
 }
 
 #[test]
-fn lists_what_fits(rt: HostRuntime) -> Result<(), Fail> {
-    let alloc = rt.alloc();
+fn lists_what_fits(rt: HostRuntime) {
     let here: [u8; 32] = dirent(1, 1, 4, b".");
     let above: [u8; 32] = dirent(1, 2, 4, b"..");
     let one: [u8; 32] = dirent(2, 3, 8, b"one");
     let long: [u8; 64] = dirent(3, 4, 8, LONG);
-    let mut all = here.to_vec(alloc)?;
-    all.extend_from_slice(&above)?;
-    all.extend_from_slice(&one)?;
-    all.extend_from_slice(&long)?;
+    let mut all = Vec::new(rt.alloc());
+    put(&rt, &mut all, &here);
+    put(&rt, &mut all, &above);
+    put(&rt, &mut all, &one);
+    put(&rt, &mut all, &long);
     let cases: [Case<'_>; 10] = [
         (28, 1, &read(near(0), 160), 0, all.as_slice()),
         (28, 1, &read(near(0), 159), 0, all.get(..96).unwrap_or(&[])),
@@ -298,12 +312,11 @@ fn lists_what_fits(rt: HostRuntime) -> Result<(), Fail> {
         (28, 4, &read(near(0), 255), 0xfe, b""),
         (27, 1, &[0; 8], 0, &[0; 16]),
     ];
-    serves_each(&rt, &cases)?;
-    Ok(())
+    serves_each(&rt, &cases);
 }
 
 #[test]
-fn changes_nothing(rt: HostRuntime) -> Result<(), Fail> {
+fn changes_nothing(rt: HostRuntime) {
     let mut written = [0; 44];
     written[16] = 4;
     let cases: [Case<'_>; 18] = [
@@ -344,22 +357,23 @@ fn changes_nothing(rt: HostRuntime) -> Result<(), Fail> {
         (47, 2, &[0; 56], 0xe2, b""),
         (15, 2, &read(near(0), 255), 0, b"first\n"),
     ];
-    serves_each(&rt, &cases)?;
-    Ok(())
+    serves_each(&rt, &cases);
 }
 
 #[test]
-fn notes_forgets(rt: HostRuntime) -> Result<(), Fail> {
-    let alloc = rt.alloc();
+fn notes_forgets(rt: HostRuntime) {
     let mut rows = [0; 40];
     rows[0] = 2;
     rows[8] = 2;
     rows[16] = 5;
     rows[24] = 3;
     rows[32] = 7;
-    let mut requests = Vec::new(alloc);
-    requests.push(message(alloc, 2, 2, &[9, 0, 0, 0, 0, 0, 0, 0])?)?;
-    requests.push(message(alloc, 42, 0, &rows)?)?;
-    serves(&rt, &requests, &[], &[(RequestId(2), 9), (RequestId(2), 2)])?;
-    Ok(())
+    let mut requests = Vec::new(rt.alloc());
+    put_all(
+        &rt,
+        &mut requests,
+        message(&rt, 2, 2, &[9, 0, 0, 0, 0, 0, 0, 0]),
+    );
+    put_all(&rt, &mut requests, message(&rt, 42, 0, &rows));
+    serves(&rt, &requests, &[], &[(RequestId(2), 9), (RequestId(2), 2)]);
 }

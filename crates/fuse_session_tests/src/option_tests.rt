@@ -6,10 +6,8 @@ use fuse_config::{Config, SessionACL};
 use fuse_probing::test_messages::{INIT_7_8, source_of};
 use fuse_session::{SessionError, Transcript};
 use fuse_wire::MemorySink;
-use std::alloc::AllocError;
 use std::process::Abort;
 use std::sync::Wait;
-use std::test::Fail;
 use std::thread::Threads;
 
 const OWNER: SessionACL = SessionACL::Owner;
@@ -41,29 +39,25 @@ fn course_of(outcome: Result<(), SessionError>, taken: u64) -> Course {
 
 /// Serves a session of an INIT, and then one without options over the same devices: what the first did, how many frames
 /// the sink had then, and how many messages the second took.
-fn serves_twice<R: Threads + Wait + AllocGlobal + Sync>(
+fn serves_twice<R: Threads + Wait + AllocGlobal + Abort + Sync>(
     rt: &R,
     config: &Config,
-) -> Result<(Course, u64, u64), AllocError> {
+) -> (Course, u64, u64) {
     let alloc = rt.alloc();
-    let source = source_of(alloc, &[&INIT_7_8])?;
+    let source = source_of(alloc, &[&INIT_7_8]).expect(rt, "there is memory");
     let sink = MemorySink::new(alloc, Vec::new(alloc));
     let (course, source, sink) = run(rt, source, sink, config);
     let frames = sink.frames().len() as u64;
     let (later, source, sink) = run(rt, source, sink, &Config::new(alloc));
     drop(source);
     drop(sink);
-    Ok((course, frames, later.transcript.received))
+    (course, frames, later.transcript.received)
 }
 
 /// Serves a session of an INIT, which is taken or not. Where it was not, it is there for a session without options.
-fn ends<R: Threads + Wait + AllocGlobal + Abort + Sync>(
-    rt: &R,
-    row: &Row,
-    taken: u64,
-) -> Result<(), Fail> {
+fn ends<R: Threads + Wait + AllocGlobal + Abort + Sync>(rt: &R, row: &Row, taken: u64) {
     let (texts, acl, n_threads, clone_fd, outcome) = row;
-    let config = config_of(rt.alloc(), texts, *acl, *n_threads, *clone_fd)?;
+    let config = config_of(rt, texts, *acl, *n_threads, *clone_fd);
     let served = serves_twice(rt, &config);
     drop(config);
     let expected = (
@@ -71,8 +65,7 @@ fn ends<R: Threads + Wait + AllocGlobal + Abort + Sync>(
         taken,
         1u64.saturating_sub(taken),
     );
-    expect_same(rt, &served?, &expected);
-    Ok(())
+    expect_same(rt, &served, &expected);
 }
 
 const CONFLICT: Result<(), SessionError> = Err(SessionError::Conflict {
@@ -141,17 +134,15 @@ const FINE: [Row; 6] = [
 ];
 
 #[test]
-fn refuses_options_and_takes_nothing(rt: HostRuntime) -> Result<(), Fail> {
+fn refuses_options_and_takes_nothing(rt: HostRuntime) {
     for row in &REFUSED {
-        ends(&rt, row, 0)?;
+        ends(&rt, row, 0);
     }
-    Ok(())
 }
 
 #[test]
-fn serves_with_options_that_are_fine(rt: HostRuntime) -> Result<(), Fail> {
+fn serves_with_options_that_are_fine(rt: HostRuntime) {
     for row in &FINE {
-        ends(&rt, row, 1)?;
+        ends(&rt, row, 1);
     }
-    Ok(())
 }

@@ -11,7 +11,6 @@ use fuse_request::opcode::{
 };
 use fuse_session::Transcript;
 use fuse_wire::{Items, MemorySink, MemorySource, Turn};
-use std::alloc::{AllocError, Global};
 use std::process::Abort;
 use std::sync::Wait;
 use std::thread::Threads;
@@ -20,14 +19,20 @@ use std::thread::Threads;
 type Refusal = (u32, u8, usize, u8, u8);
 
 /// A source of an INIT and these messages.
-fn after_init(alloc: Global, rows: &[Refusal]) -> Result<MemorySource, AllocError> {
-    let mut turns = Vec::new(alloc);
-    turns.push(Turn::Message(Items::from_vec(INIT_7_8.to_vec(alloc)?)))?;
+fn after_init<R: AllocGlobal + Abort>(rt: &R, rows: &[Refusal]) -> MemorySource {
+    let mut turns = Vec::new(rt.alloc());
+    put(rt, &mut turns, &INIT_7_8);
     for (opcode, id, place, byte, _) in rows {
-        let message = with_argument(*opcode, *id, *place, *byte);
-        turns.push(Turn::Message(Items::from_vec(message.to_vec(alloc)?)))?;
+        put(rt, &mut turns, &with_argument(*opcode, *id, *place, *byte));
     }
-    Ok(MemorySource::new(turns))
+    MemorySource::new(turns)
+}
+
+/// Puts a turn of this message at the end.
+fn put<R: AllocGlobal + Abort>(rt: &R, turns: &mut Vec<Turn>, message: &[u8]) {
+    let bytes = message.to_vec(rt.alloc()).expect(rt, "there is memory");
+    let turn = Turn::Message(Items::from_vec(bytes));
+    turns.push(turn).expect(rt, "there is memory");
 }
 
 /// The error that a message gets.
@@ -53,7 +58,7 @@ fn serves<R: Threads + Wait + AllocGlobal + Abort + Sync>(
     let alloc = rt.alloc();
     let mut config = Config::new(rt.alloc());
     config.acl = acl;
-    let source = after_init(alloc, rows).expect(rt, "there is memory");
+    let source = after_init(rt, rows);
     let sink = MemorySink::new(alloc, Vec::new(alloc));
     let (course, _, sink) = run(rt, source, sink, &config);
     let messages = rows.len().saturating_add(1) as u64;

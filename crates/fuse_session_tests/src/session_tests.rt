@@ -11,10 +11,8 @@ use fuse_request::RequestError;
 use fuse_request::opcode::FUSE_LOOKUP;
 use fuse_session::{Ended, InvalidData, Session, SessionError, Transcript};
 use fuse_wire::{Items, MemorySink, MemorySource, Version};
-use std::alloc::Global;
 use std::process::Abort;
 use std::sync::Wait;
-use std::test::Fail;
 use std::thread::Threads;
 
 pub(crate) type Over = Ended<Probing<Counting>, MemorySource, MemorySink>;
@@ -22,42 +20,43 @@ pub(crate) type Over = Ended<Probing<Counting>, MemorySource, MemorySink>;
 type Opening = Result<Session<Probing<Counting>, MemorySource, MemorySink>, Over>;
 
 /// A configuration of these options and threads, of which each has a device of its own or not.
-pub(crate) fn config_of(
-    alloc: Global,
+pub(crate) fn config_of<R: AllocGlobal + Abort>(
+    rt: &R,
     texts: &[&str],
     acl: SessionACL,
     n_threads: Option<usize>,
     clone_fd: bool,
-) -> Result<Config, Fail> {
-    let mut options = Vec::new(alloc);
+) -> Config {
+    let mut options = Vec::new(rt.alloc());
     for text in texts {
-        options.push(MountOption::from_str(alloc, text)?)?;
+        let option = MountOption::from_str(rt.alloc(), text).expect(rt, "there is memory");
+        options.push(option).expect(rt, "there is memory");
     }
-    Ok(Config {
+    Config {
         mount_options: Items::from_vec(options),
         acl,
         n_threads,
         clone_fd,
-    })
+    }
 }
 
 /// A session of user 5 over these messages: as it is configured, or over a device with an access rule of its own.
-fn open<R: Wait + AllocGlobal>(
+fn open<R: Wait + AllocGlobal + Abort>(
     rt: &R,
     messages: &[&[u8]],
     config: Config,
     device: Option<SessionACL>,
-) -> Result<Opening, Fail> {
+) -> Opening {
     let alloc = rt.alloc();
-    let source = source_of(alloc, messages)?;
+    let source = source_of(alloc, messages).expect(rt, "there is memory");
     let sink = MemorySink::new(alloc, Vec::new(alloc));
     let filesystem = Probing {
         probe: Counting::new(None),
     };
-    Ok(match device {
+    match device {
         Some(acl) => Session::from_device(rt, filesystem, source, sink, acl, 5, 4096, config),
         None => Session::new(rt, filesystem, source, sink, 5, 4096, &config),
-    })
+    }
 }
 
 /// The end of a session that was to be opened, which is run where it was.
@@ -107,15 +106,14 @@ pub(crate) fn is_left<A: Abort>(
 }
 
 #[test]
-fn a_session_is_opened_and_then_run(rt: HostRuntime) -> Result<(), Fail> {
+fn a_session_is_opened_and_then_run(rt: HostRuntime) {
     for device in [None, Some(SessionACL::All)] {
-        let config = config_of(rt.alloc(), &[], SessionACL::All, None, true)?;
-        let opening = open(&rt, &[&INIT_7_8, &lookup(2, 6)], config, device)?;
+        let config = config_of(&rt, &[], SessionACL::All, None, true);
+        let opening = open(&rt, &[&INIT_7_8, &lookup(2, 6)], config, device);
         let over = end_of(&rt, opening);
         let frames: [&[u8]; 2] = [&ACCEPTED, &error_reply(2, ENOENT)];
         is_left(&rt, over, Ok(()), 2, &frames, 1);
     }
-    Ok(())
 }
 
 /// These messages open no session, for this reason: they get these frames, and the filesystem is destroyed.
@@ -124,53 +122,50 @@ fn opens_none<R: Threads + Wait + AllocGlobal + Abort + Sync>(
     messages: &[&[u8]],
     frames: &[&[u8]],
     outcome: &Result<(), SessionError>,
-) -> Result<(), Fail> {
+) {
     for device in [None, Some(SessionACL::All)] {
-        let config = config_of(rt.alloc(), &[], SessionACL::All, Some(0), true)?;
-        let opening = open(rt, messages, config, device)?;
+        let config = config_of(rt, &[], SessionACL::All, Some(0), true);
+        let opening = open(rt, messages, config, device);
         expect(rt, "the session is not opened", opening.is_err());
         let over = end_of(rt, opening);
         is_left(rt, over, *outcome, messages.len() as u64, frames, 1);
     }
-    Ok(())
 }
 
 #[test]
-fn a_handshake_that_is_not_accepted_opens_no_session(rt: HostRuntime) -> Result<(), Fail> {
-    opens_none(&rt, &[], &[], &Err(SessionError::NotConnected))?;
+fn a_handshake_that_is_not_accepted_opens_no_session(rt: HostRuntime) {
+    opens_none(&rt, &[], &[], &Err(SessionError::NotConnected));
     let header = InvalidData::Header(RequestError::ShortReadHeader(20));
     let short = Err(SessionError::InvalidData(header));
-    opens_none(&rt, &[&INIT_7_8[..20]], &[], &short)?;
+    opens_none(&rt, &[&INIT_7_8[..20]], &[], &short);
     let lookup_first = Err(SessionError::InvalidData(InvalidData::NotInit(FUSE_LOOKUP)));
     let refused = error_reply(2, EIO);
-    opens_none(&rt, &[&lookup(2, 5)], &[&refused], &lookup_first)?;
+    opens_none(&rt, &[&lookup(2, 5)], &[&refused], &lookup_first);
     let old = Err(SessionError::Unsupported(Version(7, 5)));
     let unsupported = error_reply(1, EPROTO);
-    opens_none(&rt, &[&init(7, 5)], &[&unsupported], &old)
+    opens_none(&rt, &[&init(7, 5)], &[&unsupported], &old);
 }
 
 #[test]
-fn no_thread_is_to_serve_a_session_that_is_opened(rt: HostRuntime) -> Result<(), Fail> {
+fn no_thread_is_to_serve_a_session_that_is_opened(rt: HostRuntime) {
     for device in [None, Some(SessionACL::All)] {
-        let config = config_of(rt.alloc(), &[], SessionACL::All, Some(0), true)?;
-        let opening = open(&rt, &[&INIT_7_8, &lookup(2, 5)], config, device)?;
+        let config = config_of(&rt, &[], SessionACL::All, Some(0), true);
+        let opening = open(&rt, &[&INIT_7_8, &lookup(2, 5)], config, device);
         expect(&rt, "the session is opened", opening.is_ok());
         let over = end_of(&rt, opening);
         is_left(&rt, over, Err(SessionError::Threads), 1, &[&ACCEPTED], 1);
     }
-    Ok(())
 }
 
 /// The end of a session of an INIT, with options that conflict, and with the unmount for an owner.
-fn end_with_options<R: Threads + Wait + AllocGlobal + Sync>(
+fn end_with_options<R: Threads + Wait + AllocGlobal + Abort + Sync>(
     rt: &R,
     n_threads: Option<usize>,
     device: Option<SessionACL>,
-) -> Result<Over, Fail> {
+) -> Over {
     let options = ["ro", "rw", "auto_unmount"];
-    let config = config_of(rt.alloc(), &options, SessionACL::Owner, n_threads, true)?;
-    let opening = open(rt, &[&INIT_7_8], config, device)?;
-    Ok(end_of(rt, opening))
+    let config = config_of(rt, &options, SessionACL::Owner, n_threads, true);
+    end_of(rt, open(rt, &[&INIT_7_8], config, device))
 }
 
 // Options that conflict, and the unmount for an owner, are of a mount.
@@ -180,31 +175,29 @@ const CONFLICT: Result<(), SessionError> = Err(SessionError::Conflict {
 });
 
 #[test]
-fn of_its_options_a_device_looks_at_one(rt: HostRuntime) -> Result<(), Fail> {
+fn of_its_options_a_device_looks_at_one(rt: HostRuntime) {
     let owner = Some(SessionACL::Owner);
-    let over = end_with_options(&rt, None, None)?;
+    let over = end_with_options(&rt, None, None);
     is_left(&rt, over, CONFLICT, 0, &[], 0);
-    let over = end_with_options(&rt, None, owner)?;
+    let over = end_with_options(&rt, None, owner);
     is_left(&rt, over, Ok(()), 1, &[&ACCEPTED], 1);
-    let over = end_with_options(&rt, Some(2), None)?;
+    let over = end_with_options(&rt, Some(2), None);
     is_left(&rt, over, CONFLICT, 0, &[], 0);
-    let over = end_with_options(&rt, Some(2), owner)?;
+    let over = end_with_options(&rt, Some(2), owner);
     is_left(&rt, over, Err(SessionError::CloneFd), 0, &[], 0);
-    Ok(())
 }
 
 #[test]
-fn a_device_serves_whom_its_own_rule_admits(rt: HostRuntime) -> Result<(), Fail> {
+fn a_device_serves_whom_its_own_rule_admits(rt: HostRuntime) {
     let rows = [
         (SessionACL::All, SessionACL::Owner, EACCES),
         (SessionACL::Owner, SessionACL::All, ENOENT),
     ];
     for (configured, acl, errno) in rows {
-        let config = config_of(rt.alloc(), &[], configured, None, true)?;
-        let opening = open(&rt, &[&INIT_7_8, &lookup(2, 6)], config, Some(acl))?;
+        let config = config_of(&rt, &[], configured, None, true);
+        let opening = open(&rt, &[&INIT_7_8, &lookup(2, 6)], config, Some(acl));
         let over = end_of(&rt, opening);
         let frames: [&[u8]; 2] = [&ACCEPTED, &error_reply(2, errno)];
         is_left(&rt, over, Ok(()), 2, &frames, 1);
     }
-    Ok(())
 }

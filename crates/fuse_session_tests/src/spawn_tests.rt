@@ -17,7 +17,6 @@ use std::alloc::Global;
 use std::process::Abort;
 use std::sync::atomic::{AtomicU64, Ordering};
 use std::sync::{Arc, Wait};
-use std::test::Fail;
 use std::thread;
 use std::thread::Threads;
 
@@ -31,14 +30,14 @@ type Opened = Session<Probing<Counting>, MemorySource, MemorySink>;
 type Refusal = SpawnError<Probing<Counting>, MemorySource, MemorySink>;
 
 /// Mounts a filesystem that counts over these messages, in the background.
-fn spawn<R: Threads + Wait + AllocGlobal + Send + Sync + Copy + 'static>(
+fn spawn<R: Threads + Wait + AllocGlobal + Abort + Send + Sync + Copy + 'static>(
     rt: &R,
     spawner: &mut Spawner,
     n_threads: Option<usize>,
     messages: &[&[u8]],
-) -> Result<Result<Background, Refusal>, Fail> {
+) -> Result<Background, Refusal> {
     let alloc = rt.alloc();
-    let source = source_of(alloc, messages)?;
+    let source = source_of(alloc, messages).expect(rt, "there is memory");
     let sink = MemorySink::new(alloc, Vec::new(alloc));
     let filesystem = Probing {
         probe: Counting::new(None),
@@ -46,7 +45,7 @@ fn spawn<R: Threads + Wait + AllocGlobal + Send + Sync + Copy + 'static>(
     let mut config = Config::new(alloc);
     config.acl = SessionACL::All;
     config.n_threads = n_threads;
-    Ok(spawn_mount(rt, spawner, filesystem, source, sink, 0, 4096, &config))
+    spawn_mount(rt, spawner, filesystem, source, sink, 0, 4096, &config)
 }
 
 /// The end of a session that a spawner was to start, and whether it did. Where it refused, the session is run here.
@@ -68,43 +67,40 @@ fn has_answered_a_lookup<R: Abort>(rt: &R, over: Over) {
 }
 
 #[test]
-fn a_session_runs_in_the_background(rt: HostRuntime) -> Result<(), Fail> {
+fn a_session_runs_in_the_background(rt: HostRuntime) {
     for n_threads in [None, Some(2)] {
         let mut spawners = [
             Spawner::Thread(ThreadSpawner::new()),
             Spawner::Inline(InlineSpawner::new(Vec::new(rt.alloc()))),
         ];
         for spawner in &mut spawners {
-            let spawned = spawn(&rt, spawner, n_threads, &[&INIT_7_8, &lookup(2, 0)])?;
+            let spawned = spawn(&rt, spawner, n_threads, &[&INIT_7_8, &lookup(2, 0)]);
             let (over, started) = over(&rt, spawned);
             expect(&rt, "the session is started", started);
             has_answered_a_lookup(&rt, over);
         }
     }
-    Ok(())
 }
 
 #[test]
-fn a_session_that_is_not_started_can_still_be_run(rt: HostRuntime) -> Result<(), Fail> {
-    let refusals = vec![in rt.alloc(); 1, 3]?;
+fn a_session_that_is_not_started_can_still_be_run(rt: HostRuntime) {
+    let refusals = vec![in rt.alloc(); 1, 3].expect(&rt, "there is memory");
     let mut spawner = Spawner::Inline(InlineSpawner::new(refusals));
     for expected in [false, true, false, true] {
-        let spawned = spawn(&rt, &mut spawner, None, &[&INIT_7_8, &lookup(2, 0)])?;
+        let spawned = spawn(&rt, &mut spawner, None, &[&INIT_7_8, &lookup(2, 0)]);
         let (over, started) = over(&rt, spawned);
         expect_same(&rt, &started, &expected);
         has_answered_a_lookup(&rt, over);
     }
-    Ok(())
 }
 
 #[test]
-fn a_session_that_is_not_opened_is_not_started(rt: HostRuntime) -> Result<(), Fail> {
+fn a_session_that_is_not_opened_is_not_started(rt: HostRuntime) {
     let mut spawner = Spawner::Thread(ThreadSpawner::new());
-    let spawned = spawn(&rt, &mut spawner, None, &[])?;
+    let spawned = spawn(&rt, &mut spawner, None, &[]);
     let (over, started) = over(&rt, spawned);
     expect(&rt, "the session is not started", !started);
     is_left(&rt, over, Err(SessionError::NotConnected), 0, &[], 1);
-    Ok(())
 }
 
 /// A filesystem that says how often it was called.
@@ -223,15 +219,14 @@ fn start<R: Threads + Wait + AllocGlobal + Abort + Send + Sync + Copy + 'static>
 }
 
 #[test]
-fn a_session_in_the_background_has_notifiers(rt: HostRuntime) -> Result<(), Fail> {
+fn a_session_in_the_background_has_notifiers(rt: HostRuntime) {
     let messages: [&[u8]; 2] = [&INIT_7_8, &lookup(2, 0)];
-    let refusals = vec![in rt.alloc(); 1]?;
+    let refusals = vec![in rt.alloc(); 1].expect(&rt, "there is memory");
     let mut refusing = Spawner::Inline(InlineSpawner::new(refusals));
-    let session = refused(&rt, spawn(&rt, &mut refusing, None, &messages)?);
+    let session = refused(&rt, spawn(&rt, &mut refusing, None, &messages));
     let background = start(&rt, &mut refusing, session);
     expect(&rt, "notifiers are made", makes_notifiers(&rt, background));
     let mut threads = Spawner::Thread(ThreadSpawner::new());
-    let background = started(&rt, spawn(&rt, &mut threads, None, &messages)?);
+    let background = started(&rt, spawn(&rt, &mut threads, None, &messages));
     expect(&rt, "notifiers are made", makes_notifiers(&rt, background));
-    Ok(())
 }

@@ -12,7 +12,6 @@ use fuse_request::RequestError;
 use fuse_request::opcode::{FUSE_DESTROY, FUSE_LOOKUP};
 use fuse_session::{InvalidData, SessionError, Transcript};
 use fuse_wire::{Items, MemorySink, MemorySource, RequestId, Version};
-use std::alloc::{AllocError, Global};
 use std::process::Abort;
 use std::sync::Wait;
 use std::thread::Threads;
@@ -421,18 +420,19 @@ fn serves_any_owner_pages_and_threads(rt: HostRuntime) {
 }
 
 /// Reads a file of these contents at once. The outcome, and the sink.
-fn read_at_once<R: Threads + Wait + AllocGlobal + Sync>(
+fn read_at_once<R: Threads + Wait + AllocGlobal + Abort + Sync>(
     rt: &R,
     contents: &[u8],
     size: u32,
-) -> Result<(Result<(), SessionError>, MemorySink), AllocError> {
+) -> (Result<(), SessionError>, MemorySink) {
     let alloc = rt.alloc();
-    let source = source_of(alloc, &[&INIT_7_8, &read(2, 0, 0, size)])?;
-    let full = Counting::new(Some(contents.to_vec(alloc)?));
+    let source = source_of(alloc, &[&INIT_7_8, &read(2, 0, 0, size)]).expect(rt, "there is memory");
+    let contents = contents.to_vec(alloc).expect(rt, "there is memory");
+    let full = Counting::new(Some(contents));
     let sink = MemorySink::new(alloc, Vec::new(alloc));
     let (course, source, sink) = run_with(rt, full, source, sink, 0, 4096, &Config::new(alloc));
     drop(source);
-    Ok((course.outcome, sink))
+    (course.outcome, sink)
 }
 
 /// The last of the frames has this header, and then these contents.
@@ -456,16 +456,15 @@ fn reads_whole<R: Threads + Wait + AllocGlobal + Abort + Sync>(
     rt: &R,
     size: u32,
     header: &[u8; 16],
-) -> Result<(), AllocError> {
-    let contents = vec![in rt.alloc(); 0x2a; size as usize]?;
-    let (outcome, sink) = read_at_once(rt, &contents, size)?;
+) {
+    let contents = vec![in rt.alloc(); 0x2a; size as usize].expect(rt, "there is memory");
+    let (outcome, sink) = read_at_once(rt, &contents, size);
     expect_same(rt, &outcome, &Ok(()));
     ends_with_contents(rt, sink.frames(), header, &contents);
-    Ok(())
 }
 
 #[test]
 fn reads_two_mebibytes_whole(rt: HostRuntime) {
     let header = [16, 0, 0x20, 0, 0, 0, 0, 0, 2, 0, 0, 0, 0, 0, 0, 0];
-    reads_whole(&rt, 0x20_0000, &header).expect(&rt, "there is memory");
+    reads_whole(&rt, 0x20_0000, &header);
 }
