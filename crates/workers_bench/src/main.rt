@@ -9,13 +9,15 @@
 //! number or `inline`. COST is `sleep` or `steps`, of so many milliseconds or steps for each message.
 #![tactic(auto)]
 
+ghost use Rattle.fuse_workers.specs.Lines.{IsUnused};
+
 mod costly;
 mod devices;
 
 use costly::{Cost, Costly};
-use devices::devices;
+use devices::{Counted, Generated, devices};
 use fuse_wire::NoMemory;
-use fuse_workers::{Buffers, RunEnd, run_inline, run_workers};
+use fuse_workers::{Buffers, run_inline, run_workers};
 use std::process::ExitCode;
 use std::rt::Env;
 use std::sync::Wait;
@@ -60,26 +62,34 @@ fn form_of(words: &[String]) -> Option<Form> {
     })
 }
 
-/// What was counted of a run: its messages, the frames that it sent, and the calls of its work.
+/// What was counted of a run over these devices: its messages, the frames that it sent, and the calls of its work.
+fn run<R: Threads + Wait + AllocGlobal + Clock + Sync + Copy>(
+    rt: &R,
+    form: &Form,
+    source: Generated,
+    sink: Counted,
+    buffers: Buffers,
+) -> (u64, u64, u64)
+    requires { IsUnused buffers }
+{
+    let work = Costly::new(*rt, form.cost);
+    let ran = match form.workers {
+        None => run_inline(rt, &work, source, sink, buffers),
+        Some(workers) => run_workers(rt, &work, source, sink, buffers, workers),
+    };
+    let counted = (ran.transcript.received, ran.sink.sent(), work.calls());
+    drop(ran);
+    counted
+}
+
+/// The same over devices and in memory of its own.
 fn counted<R: Threads + Wait + AllocGlobal + Clock + Sync + Copy>(
     rt: &R,
     form: &Form,
 ) -> Result<(u64, u64, u64), NoMemory> {
-    let alloc = rt.alloc();
-    let work = Costly::new(*rt, form.cost);
-    let (source, sink) = devices(alloc, form.count, form.is_paced)?;
-    let buffers = Buffers::new(alloc)?;
-    let RunEnd {
-        end: _,
-        transcript,
-        source: _,
-        sink,
-        buffers: _,
-    } = match form.workers {
-        None => run_inline(rt, &work, source, sink, buffers),
-        Some(workers) => run_workers(rt, &work, source, sink, buffers, workers),
-    };
-    Ok((transcript.received, sink.sent(), work.calls()))
+    let (source, sink) = devices(rt.alloc(), form.count, form.is_paced)?;
+    let buffers = Buffers::new(rt.alloc())?;
+    Ok(run(rt, form, source, sink, buffers))
 }
 
 fn main(rt: HostRuntime) -> io::Result<ExitCode> {
