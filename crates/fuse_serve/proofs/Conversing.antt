@@ -23,9 +23,9 @@ use Rattle.fuse_workers.specs.Progress.{is_notice, nothing_yet, progress}
 use Rattle.fuse_workers.specs.declared.transcript.Transcript.{Transcript}
 use Rattle.fuse_session.specs.declared.error.SessionError.TheVariants as session
 use Rattle.fuse_serve.specs.Status.{status}
-use Rattle.fuse_serve.specs.Tree.{tree_promise, tree_may_init}
+use Rattle.fuse_tree.specs.Tree.{tree_promise, tree_may_init}
 use Rattle.fuse_serve.specs.Program.{Fronts, WritesFrames, EachAnswered, Still, ByteExchange, InputWell, form_setup}
-use Rattle.fuse_serve.specs.declared.hello.Hello.{Hello}
+use Rattle.fuse_tree.specs.declared.hello.Hello.{Hello}
 use Rattle.fuse_serve.specs.declared.arguments.ServeForm.{ServeForm}
 use Rattle.fuse_serve.proofs.Statuses.{status-counted, ok-statuses, eight-status}
 use Rattle.fuse_serve.proofs.Reading.{Fronts-begins, Fronts-takes, TakesBytes-takes, NoByteLeft-nothing, front-whole, same_some}

@@ -16,12 +16,13 @@ use Rattle.fuse_workers.specs.Progress.{nothing_yet, progress, replies}
 use Rattle.fuse_session.specs.declared.error.SessionError.{SessionError}
 use Rattle.fuse_session.specs.declared.error.SessionError.TheVariants as session
 use Rattle.fuse_workers.specs.declared.transcript.Transcript.{Transcript}
-use Rattle.fuse_serve.specs.Generated.{destroy, init, request_at, requests, stream}
-use Rattle.fuse_serve.specs.Load.{Answers, IsNoLine, Stored, Summarizes, messages_told, stored_told, summary_of}
-use Rattle.fuse_serve.specs.Tree.{tree_promise}
+use Rattle.fuse_tree.specs.Generated.{destroy, init, request_at, requests, stream}
+use Rattle.fuse_tree.specs.Store.{Stored, messages_told, stored_told, summary_of}
+use Rattle.fuse_serve.specs.Load.{Answers, IsNoLine, Summarizes}
+use Rattle.fuse_tree.specs.Tree.{tree_promise}
 use Rattle.fuse_serve.specs.declared.arguments.LoadForm.{LoadForm}
-use Rattle.fuse_serve.specs.declared.hello.Hello.{Hello}
-use Rattle.fuse_serve.specs.declared.summary.Summary.{Summary}
+use Rattle.fuse_tree.specs.declared.hello.Hello.{Hello}
+use Rattle.fuse_tree.specs.declared.summary.Summary.{Summary}
 use Rattle.fuse_serve.proofs.Messages.{Goes, fits-buffer, front-goes, stream-received}
 
 -- a store that holds nothing

@@ -7,7 +7,7 @@ use Rattle.std.specs.Prelude.{nat_lt, replicate}
 use Rattle.std.proofs.lemmas.Bool.{le-ltb}
 use Rattle.std.proofs.lemmas.List.{take_all}
 use Rattle.fuse_wire.specs.Numbers.{number}
-use Rattle.fuse_wire.specs.Source.{TakesMessage, message as received}
+use Rattle.fuse_wire.specs.Source.{message as received}
 use Rattle.fuse_wire.specs.declared.consts.TheConstants.{BUFFER_SIZE}
 use Rattle.fuse_wire.proofs.NumberLaws.{number-append_right, number-to_le_bytes_4}
 use Rattle.fuse_request.specs.Header.{header, header_fields, body}
@@ -21,10 +21,10 @@ use Rattle.fuse_request.specs.declared.error.RequestError.TheVariants.{ShortRead
 use Rattle.fuse_workers.specs.Incoming.{incoming, incoming_by}
 use Rattle.fuse_workers.specs.Incoming.Incoming.{Destroy, Request}
 use Rattle.fuse_session.specs.Complete.{GoodHeaders, HandshakeWell, IsInit, OpensAtLeast, OpensWell, SessionWell}
-use Rattle.fuse_serve.specs.Generated.{destroy, init, init_body, message, name_body, read_body, request, request_at, requests, stream, write_body, x_after}
-use Rattle.fuse_serve.specs.Load.{messages_told}
-use Rattle.fuse_serve.specs.Tree.{tree_may_init}
-use Rattle.fuse_serve.specs.declared.hello.Hello.{Hello}
+use Rattle.fuse_tree.specs.Generated.{destroy, init, init_body, message, name_body, read_body, request, request_at, requests, stream, write_body, x_after}
+use Rattle.fuse_tree.specs.Store.{messages_told}
+use Rattle.fuse_tree.specs.Tree.{tree_may_init}
+use Rattle.fuse_tree.specs.declared.hello.Hello.{Hello}
 use Rattle.fuse_serve.proofs.Conversing.{AcceptsAll-tree}
 
 -- the field of the length
@@ -216,13 +216,3 @@ SessionWell-stream seed count threads tree left some = record {
 } where
   some-not : (n : ℕ) → 0 < n → Some n ≡ Some 0 → ⊥
   some-not n some is = let none : n ≡ 0 = cc in omega arith
-
--- a short message was taken from the front, and stands in the front of a buffer
-pub TakesMessage-stored : (m : List ℕ) (left : List (List ℕ)) (n : ℕ) (buffer : List ℕ) → n ≡ length m → n ≤ 104 → take n buffer ≡ m
-    → TakesMessage n (messages_told (m ∷ left)) (messages_told left) buffer
-TakesMessage-stored m left n buffer whole short front = record {
-  turn = m;
-  taken = record { turns = refl; faults = omega arith };
-  fits = omega arith;
-  bytes = front ∙ sym (fits-buffer m (omega (arith, whole, short)));
-}

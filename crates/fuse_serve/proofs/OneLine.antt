@@ -27,12 +27,13 @@ use Rattle.fuse_session.specs.Handshake.{Greets, Handshake, HandshakeEnd, Negoti
 use Rattle.fuse_session.specs.Handshake.{greeting, greeting_by_header, greeting_by_operation, offer_of}
 use Rattle.fuse_session.specs.Handshake.HandshakeEnd.{Accepted}
 use Rattle.fuse_dispatch.specs.Owed.{Owed}
-use Rattle.fuse_serve.specs.Generated.{init, stream}
-use Rattle.fuse_serve.specs.Load.{Answers, Loads, SameStream, Summarizes, WritesOneLine, is_error, line, summary_of}
-use Rattle.fuse_serve.specs.Tree.{tree_may_init, tree_promise}
+use Rattle.fuse_tree.specs.Generated.{init, stream}
+use Rattle.fuse_tree.specs.Store.{is_error, line, summary_of}
+use Rattle.fuse_serve.specs.Load.{Answers, Loads, SameStream, Summarizes, WritesOneLine}
+use Rattle.fuse_tree.specs.Tree.{tree_may_init, tree_promise}
 use Rattle.fuse_serve.specs.declared.arguments.LoadForm.{LoadForm}
-use Rattle.fuse_serve.specs.declared.hello.Hello.{Hello}
-use Rattle.fuse_serve.specs.declared.summary.Summary.{Summary}
+use Rattle.fuse_tree.specs.declared.hello.Hello.{Hello}
+use Rattle.fuse_tree.specs.declared.summary.Summary.{Summary}
 use Rattle.fuse_serve.proofs.Messages.{init-is}
 use Rattle.fuse_serve.proofs.OneOut.{IsOwedOne, later, later-one, out_of}
 

@@ -1,6 +1,5 @@
 pub mod Form
 pub mod Status
-pub mod Tree
 pub mod Program
 pub mod Generated
 pub mod Load

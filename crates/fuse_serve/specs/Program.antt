@@ -21,8 +21,8 @@ use Rattle.fuse_session.specs.Handshake.HandshakeEnd.{Accepted}
 use Rattle.fuse_workers.specs.Progress.{replies, is_notice, NoticeOrReply}
 use Rattle.fuse_session.specs.declared.error.SessionError.TheVariants.{Init, Receive}
 use Rattle.fuse_serve.specs.Status.{status}
-use Rattle.fuse_serve.specs.Tree.{tree_promise}
-use Rattle.fuse_serve.specs.declared.hello.Hello.{Hello}
+use Rattle.fuse_tree.specs.Tree.{tree_promise}
+use Rattle.fuse_tree.specs.declared.hello.Hello.{Hello}
 use Rattle.fuse_serve.specs.declared.arguments.ServeForm.{ServeForm}
 
 -- what a form sets a session up with: the tree, and what its words say

@@ -2,7 +2,6 @@
 use crate::asserts::expect_same;
 use crate::runs::{Run, form, joined, run_over};
 use fuse_wire::{MemoryBytes, MemoryOut};
-use std::alloc::AllocError;
 use std::process::Abort;
 use std::sync::Wait;
 use std::thread::Threads;
@@ -43,15 +42,15 @@ const REPLIES: &[&[u8]] = &[
 const NO_ENTRY: &[u8; 16] = b"\x10\0\0\0\xfe\xff\xff\xff\x02\0\0\0\0\0\0\0";
 
 /// Runs the program over streams that fail at these calls.
-fn run_failing<R: Threads + Wait + AllocGlobal + Sync>(
+fn run_failing<R: Threads + Wait + AllocGlobal + Abort + Sync>(
     rt: &R,
     reads: &[u64],
     writes: &[u64],
-) -> Result<Run, AllocError> {
+) -> Run {
     let alloc = rt.alloc();
-    let bytes = joined(alloc, STREAM)?;
-    let reads = reads.to_vec(alloc)?;
-    let writes = writes.to_vec(alloc)?;
+    let bytes = joined(rt, STREAM);
+    let reads = reads.to_vec(alloc).expect(rt, "there is memory");
+    let writes = writes.to_vec(alloc).expect(rt, "there is memory");
     let input = MemoryBytes::new(bytes, 1000, reads);
     run_over(rt, form(), input, MemoryOut::new(alloc, 1000, writes))
 }
@@ -64,23 +63,22 @@ fn ends_so<R: Threads + Wait + AllocGlobal + Abort + Sync>(
     status: u8,
     count: usize,
     left: usize,
-) -> Result<(), AllocError> {
-    let run = run_failing(rt, reads, writes)?;
-    let replies = joined(rt.alloc(), REPLIES)?;
+) {
+    let run = run_failing(rt, reads, writes);
+    let replies = joined(rt, REPLIES);
     let found = (run.status, Some(run.written.as_slice()), run.unread.len());
     let expected = (status, replies.get(..count), left);
     expect_same(rt, &(reads, writes, found), &(reads, writes, expected));
-    Ok(())
 }
 
 #[test]
-fn each_read_may_fail(rt: HostRuntime) -> Result<(), AllocError> {
+fn each_read_may_fail(rt: HostRuntime) {
     // Two reads for each message but the last, which has no body.
     let mut written: usize = 0;
     let mut left: usize = 504;
     for message in 0..10u64 {
         let first = message.saturating_mul(2).saturating_add(1);
-        ends_so(&rt, &[first], &[], 7, written, left)?;
+        ends_so(&rt, &[first], &[], 7, written, left);
         if message < 9 {
             let header_read = left.saturating_sub(40);
             ends_so(
@@ -90,24 +88,24 @@ fn each_read_may_fail(rt: HostRuntime) -> Result<(), AllocError> {
                 7,
                 written,
                 header_read,
-            )?;
+            );
         }
         let (reply, taken) = if message == 0 { (40, 104) } else { (16, 45) };
         written = written.saturating_add(reply);
         left = left.saturating_sub(taken);
     }
-    ends_so(&rt, &[20], &[], 0, 184, 0)
+    ends_so(&rt, &[20], &[], 0, 184, 0);
 }
 
 #[test]
-fn each_write_may_fail(rt: HostRuntime) -> Result<(), AllocError> {
+fn each_write_may_fail(rt: HostRuntime) {
     // Two writes for the reply to INIT, and one for each frame without a payload.
-    ends_so(&rt, &[], &[1], 8, 0, 0)?;
-    ends_so(&rt, &[], &[2], 8, 16, 0)?;
+    ends_so(&rt, &[], &[1], 8, 0, 0);
+    ends_so(&rt, &[], &[2], 8, 16, 0);
     let mut written: usize = 40;
     for write in 3..12u64 {
-        ends_so(&rt, &[], &[write], 8, written, 0)?;
+        ends_so(&rt, &[], &[write], 8, written, 0);
         written = written.saturating_add(16);
     }
-    ends_so(&rt, &[], &[12], 0, 184, 0)
+    ends_so(&rt, &[], &[12], 0, 184, 0);
 }

@@ -2,7 +2,6 @@
 use crate::asserts::expect_same;
 use crate::runs::{Run, form, joined, run_over, status_over};
 use fuse_wire::{MemoryBytes, MemoryOut};
-use std::alloc::{AllocError, Global};
 use std::process::Abort;
 use std::sync::Wait;
 use std::thread::Threads;
@@ -77,10 +76,10 @@ fn destroy(id: u8) -> [u8; 40] {
 }
 
 /// The bytes of INIT, of these requests in parts, and of DESTROY with this id.
-fn stream_of(alloc: Global, requests: &[&[u8]], id: u8) -> Result<Vec<u8>, AllocError> {
-    let init = joined(alloc, INIT)?;
-    let requests = joined(alloc, requests)?;
-    joined(alloc, &[&init, &requests, &destroy(id)])
+fn stream_of<R: AllocGlobal + Abort>(rt: &R, requests: &[&[u8]], id: u8) -> Vec<u8> {
+    let init = joined(rt, INIT);
+    let requests = joined(rt, requests);
+    joined(rt, &[&init, &requests, &destroy(id)])
 }
 
 /// The words `gen 1 5`.
@@ -91,33 +90,33 @@ fn five_words() -> &'static [&'static [u8]] {
 const FIVE_WORDS: &[&[u8]] = &[b"gen", b"1", b"5"];
 
 /// The bytes that `gen 1 5` writes.
-fn five_requests_in_a_stream(alloc: Global) -> Result<Vec<u8>, AllocError> {
-    stream_of(alloc, FIVE, 7)
+fn five_requests_in_a_stream<R: AllocGlobal + Abort>(rt: &R) -> Vec<u8> {
+    stream_of(rt, FIVE, 7)
 }
 
 /// The bytes of the replies to them.
-fn answers(alloc: Global) -> Result<Vec<u8>, AllocError> {
-    let mut bytes = Vec::new(alloc);
+fn answers<R: AllocGlobal + Abort>(rt: &R) -> Vec<u8> {
+    let mut bytes = Vec::new(rt.alloc());
     for (piece, (first, after)) in ANSWERS {
-        bytes.extend_from_slice(piece)?;
+        bytes.extend_from_slice(piece).expect(rt, "there is memory");
         for number in *first..*after {
-            bytes.push(number)?;
+            bytes.push(number).expect(rt, "there is memory");
         }
     }
-    Ok(bytes)
+    bytes
 }
 
 /// Runs the program on these words over an input of five bytes, and over an output that takes so many bytes at a time and
 /// fails at these writes.
-fn run_failing<R: Threads + Wait + AllocGlobal + Sync>(
+fn run_failing<R: Threads + Wait + AllocGlobal + Abort + Sync>(
     rt: &R,
     words: &[&[u8]],
     step: usize,
     faults: &[u64],
-) -> Result<Run, AllocError> {
+) -> Run {
     let alloc = rt.alloc();
-    let faults = faults.to_vec(alloc)?;
-    let bytes = b"input".to_vec(alloc)?;
+    let faults = faults.to_vec(alloc).expect(rt, "there is memory");
+    let bytes = b"input".to_vec(alloc).expect(rt, "there is memory");
     let input = MemoryBytes::new(bytes, 1000, Vec::new(alloc));
     run_over(rt, words, input, MemoryOut::new(alloc, step.max(1), faults))
 }
@@ -130,39 +129,33 @@ pub fn ends_so<R: Threads + Wait + AllocGlobal + Abort + Sync>(
     faults: &[u64],
     status: u8,
     written: &[u8],
-) -> Result<(), AllocError> {
-    let run = run_failing(rt, words, step, faults)?;
+) {
+    let run = run_failing(rt, words, step, faults);
     let found = (run.status, run.written.as_slice(), run.unread.as_slice());
     let expected = (status, written, b"input".as_slice());
     expect_same(rt, &(words, faults, found), &(words, faults, expected));
-    Ok(())
 }
 
 /// The program run on these words writes this stream, in steps of each length.
-fn writes<R: Threads + Wait + AllocGlobal + Abort + Sync>(
-    rt: &R,
-    words: &[&[u8]],
-    stream: &[u8],
-) -> Result<(), AllocError> {
+fn writes<R: Threads + Wait + AllocGlobal + Abort + Sync>(rt: &R, words: &[&[u8]], stream: &[u8]) {
     for step in [1, 7, 1000] {
-        ends_so(rt, words, step, &[], 0, stream)?;
+        ends_so(rt, words, step, &[], 0, stream);
     }
-    Ok(())
 }
 
 #[test]
-fn nothing_is_asked_between_init_and_destroy(rt: HostRuntime) -> Result<(), AllocError> {
-    let stream = stream_of(rt.alloc(), &[], 2)?;
+fn nothing_is_asked_between_init_and_destroy(rt: HostRuntime) {
+    let stream = stream_of(&rt, &[], 2);
     expect_same(&rt, &stream.len(), &144);
-    writes(&rt, &[b"gen", b"1", b"0"], &stream)?;
-    writes(&rt, &[b"gen", b"2147483647", b"0000000000"], &stream)
+    writes(&rt, &[b"gen", b"1", b"0"], &stream);
+    writes(&rt, &[b"gen", b"2147483647", b"0000000000"], &stream);
 }
 
 #[test]
-fn five_requests(rt: HostRuntime) -> Result<(), AllocError> {
-    let stream = five_requests_in_a_stream(rt.alloc())?;
+fn five_requests(rt: HostRuntime) {
+    let stream = five_requests_in_a_stream(&rt);
     expect_same(&rt, &stream.len(), &519);
-    writes(&rt, five_words(), &stream)
+    writes(&rt, five_words(), &stream);
 }
 
 /// A seed, and the request that it gives, in parts.
@@ -245,21 +238,16 @@ fn kinds() -> &'static [Kind] {
 }
 
 /// The seed gives just this request.
-fn gives<R: Threads + Wait + AllocGlobal + Abort + Sync>(
-    rt: &R,
-    seed: &[u8],
-    request: &[&[u8]],
-) -> Result<(), AllocError> {
-    let stream = stream_of(rt.alloc(), request, 3)?;
-    ends_so(rt, &[b"gen", seed, b"1"], 1000, &[], 0, &stream)
+fn gives<R: Threads + Wait + AllocGlobal + Abort + Sync>(rt: &R, seed: &[u8], request: &[&[u8]]) {
+    let stream = stream_of(rt, request, 3);
+    ends_so(rt, &[b"gen", seed, b"1"], 1000, &[], 0, &stream);
 }
 
 #[test]
-fn each_kind_of_request(rt: HostRuntime) -> Result<(), AllocError> {
+fn each_kind_of_request(rt: HostRuntime) {
     for (seed, request) in kinds() {
-        gives(&rt, seed, request)?;
+        gives(&rt, seed, request);
     }
-    Ok(())
 }
 
 /// The words of a run, how many bytes its output takes at a time, the writes that fail, and its status and its bytes.
@@ -272,14 +260,10 @@ pub(crate) type Ending = (
 );
 
 /// Each of these runs ends so.
-pub(crate) fn end_so<R: Threads + Wait + AllocGlobal + Abort + Sync>(
-    rt: &R,
-    endings: &[Ending],
-) -> Result<(), AllocError> {
+pub(crate) fn end_so<R: Threads + Wait + AllocGlobal + Abort + Sync>(rt: &R, endings: &[Ending]) {
     for (words, step, faults, status, written) in endings {
-        ends_so(rt, words, *step, faults, *status, written)?;
+        ends_so(rt, words, *step, faults, *status, written);
     }
-    Ok(())
 }
 
 /// Words that are no form.
@@ -301,8 +285,8 @@ const NO_FORMS: &[Ending] = &[
 ];
 
 #[test]
-fn numbers_out_of_range_are_no_form(rt: HostRuntime) -> Result<(), AllocError> {
-    end_so(&rt, NO_FORMS)
+fn numbers_out_of_range_are_no_form(rt: HostRuntime) {
+    end_so(&rt, NO_FORMS);
 }
 
 /// How many bytes are written at a time, a write that fails, the status, and how many bytes stand before it. At 1000 there is
@@ -320,21 +304,20 @@ const FAULTS: &[(usize, u64, u8, usize)] = &[
 ];
 
 #[test]
-fn each_write_of_the_stream_may_fail(rt: HostRuntime) -> Result<(), AllocError> {
-    let stream = five_requests_in_a_stream(rt.alloc())?;
+fn each_write_of_the_stream_may_fail(rt: HostRuntime) {
+    let stream = five_requests_in_a_stream(&rt);
     for &(step, write, status, count) in FAULTS {
         let front = stream.get(..count).unwrap_or(b"not so many bytes");
-        ends_so(&rt, five_words(), step, &[write], status, front)?;
+        ends_so(&rt, five_words(), step, &[write], status, front);
     }
-    Ok(())
 }
 
 /// Runs the program on these words over these bytes.
-fn run_of<R: Threads + Wait + AllocGlobal + Sync>(
+fn run_of<R: Threads + Wait + AllocGlobal + Abort + Sync>(
     rt: &R,
     words: &[&[u8]],
     bytes: Vec<u8>,
-) -> Result<Run, AllocError> {
+) -> Run {
     let alloc = rt.alloc();
     let input = MemoryBytes::new(bytes, 1000, Vec::new(alloc));
     run_over(
@@ -346,32 +329,29 @@ fn run_of<R: Threads + Wait + AllocGlobal + Sync>(
 }
 
 /// The status of `gen 1 5`, and what a session makes of what it writes.
-fn answered<R: Threads + Wait + AllocGlobal + Sync>(rt: &R) -> Result<(u8, Run), AllocError> {
+fn answered<R: Threads + Wait + AllocGlobal + Abort + Sync>(rt: &R) -> (u8, Run) {
     let Run {
         status,
         written,
         unread,
-    } = run_of(rt, five_words(), Vec::new(rt.alloc()))?;
+    } = run_of(rt, five_words(), Vec::new(rt.alloc()));
     drop(unread);
-    let served = run_of(rt, form(), written)?;
-    Ok((status, served))
+    (status, run_of(rt, form(), written))
 }
 
 #[test]
-fn a_session_answers_the_stream(rt: HostRuntime) -> Result<(), AllocError> {
-    let expected = answers(rt.alloc())?;
-    let (generated, served) = answered(&rt)?;
+fn a_session_answers_the_stream(rt: HostRuntime) {
+    let expected = answers(&rt);
+    let (generated, served) = answered(&rt);
     let found = (generated, served.status, expected.len());
     expect_same(&rt, &found, &(0, 0, 335));
     expect_same(&rt, &served.written.as_slice(), &expected.as_slice());
-    Ok(())
 }
 
 #[test]
-fn devices_that_tell_nothing_get_the_stream(rt: HostRuntime) -> Result<(), AllocError> {
-    let stream = five_requests_in_a_stream(rt.alloc())?;
+fn devices_that_tell_nothing_get_the_stream(rt: HostRuntime) {
+    let stream = five_requests_in_a_stream(&rt);
     let mut written = Vec::new(rt.alloc());
     let status = status_over(&rt, five_words(), b"input", &mut written);
     expect_same(&rt, &(status, written.as_slice()), &(0, stream.as_slice()));
-    Ok(())
 }

@@ -1,15 +1,13 @@
 // The generated messages, served from memory.
 ghost use Rattle.std.specs.Prelude.{◌≡◌, ◌<◌, IfOk, IfErr};
 ghost use Rattle.std.specs.String.{string_bytes};
-ghost use Rattle.fuse_serve.specs.Load.{IsNoLine, Summarizes, line};
+ghost use Rattle.fuse_tree.specs.Store.{line};
+ghost use Rattle.fuse_serve.specs.Load.{IsNoLine, Summarizes};
 
 use crate::arguments::LoadForm;
-use crate::frame_store::FrameStore;
-use crate::hello::Hello;
-use crate::stored_messages::StoredMessages;
-use crate::summary::Summary;
 use fuse_config::{Config, SessionACL};
 use fuse_session::{Ended, SessionError, mount};
+use fuse_tree::{FrameStore, Hello, StoredMessages, Summary};
 use std::sync::Wait;
 use std::thread::Threads;
 

@@ -1,10 +1,8 @@
 // What `load` writes. The lines were computed from the tables that the tree and the generator were made by.
 use crate::asserts::expect_same;
-use crate::frame_store::FrameStore;
 use crate::generator_tests::{Ending, end_so};
-use crate::summary::Summary;
+use fuse_tree::{FrameStore, Summary};
 use fuse_wire::{Noting, RequestId, Sending, Sink};
-use std::alloc::AllocError;
 
 /// The line of five requests.
 const FIVE: &[u8] = b"messages 7 frames 7 notes 0 errors 3 bytes 335\n";
@@ -53,15 +51,15 @@ const LINES: &[Ending] = &[
 ];
 
 #[test]
-fn a_line_says_what_the_stream_comes_to(rt: HostRuntime) -> Result<(), AllocError> {
-    end_so(&rt, LINES)
+fn a_line_says_what_the_stream_comes_to(rt: HostRuntime) {
+    end_so(&rt, LINES);
 }
 
 const NO_THREAD: &[Ending] = &[(&[b"load", b"1", b"5", b"0"], 1000, &[], 10, b"")];
 
 #[test]
-fn without_a_thread_there_is_no_line(rt: HostRuntime) -> Result<(), AllocError> {
-    end_so(&rt, NO_THREAD)
+fn without_a_thread_there_is_no_line(rt: HostRuntime) {
+    end_so(&rt, NO_THREAD);
 }
 
 const FAULTS: &[Ending] = &[
@@ -71,8 +69,8 @@ const FAULTS: &[Ending] = &[
 ];
 
 #[test]
-fn a_write_of_the_line_may_fail(rt: HostRuntime) -> Result<(), AllocError> {
-    end_so(&rt, FAULTS)
+fn a_write_of_the_line_may_fail(rt: HostRuntime) {
+    end_so(&rt, FAULTS);
 }
 
 /// Words that are no form.
@@ -88,8 +86,8 @@ const NO_FORMS: &[Ending] = &[
 ];
 
 #[test]
-fn numbers_out_of_range_load_nothing(rt: HostRuntime) -> Result<(), AllocError> {
-    end_so(&rt, NO_FORMS)
+fn numbers_out_of_range_load_nothing(rt: HostRuntime) {
+    end_so(&rt, NO_FORMS);
 }
 
 #[test]

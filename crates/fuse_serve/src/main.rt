@@ -11,11 +11,8 @@ mod arguments;
 mod asserts;
 #[cfg(test)]
 mod fault_tests;
-mod frame_store;
-mod generator;
 #[cfg(test)]
 mod generator_tests;
-mod hello;
 mod laws;
 mod load;
 #[cfg(test)]
@@ -24,8 +21,6 @@ mod program;
 #[cfg(test)]
 mod runs;
 mod status;
-mod stored_messages;
-mod summary;
 #[cfg(test)]
 mod tests;
 #[cfg(test)]

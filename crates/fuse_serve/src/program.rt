@@ -7,12 +7,11 @@ ghost use Rattle.fuse_serve.specs.Program.{ByteExchange, EachAnswered, InputWell
 ghost use Rattle.fuse_serve.specs.Status.{IsExit, IsSessionStatus};
 
 use crate::arguments::{GenForm, LoadForm, ServeForm, gen_form, load_form, serve_form};
-use crate::generator::{write_all, write_stream};
-use crate::hello::Hello;
 use crate::load::summary_line;
 use crate::status::{failure_status, status_of};
 use fuse_config::Config;
 use fuse_session::{Ended, mount};
+use fuse_tree::{Hello, write_all, write_stream};
 use fuse_wire::{ByteSink, ByteSource, StreamSink, StreamSource};
 use std::sync::Wait;
 use std::thread::Threads;

@@ -1,11 +1,11 @@
 // Runs of the program and of its tree over memory, and what they come to.
-use crate::hello::Hello;
 use crate::program::{Served, serve};
 use crate::run;
 use fuse_config::{Config, SessionACL};
 use fuse_session::{Ended, mount};
+use fuse_tree::Hello;
 use fuse_wire::{ByteRead, ByteSink, ByteSource, MemoryBytes, MemoryOut, Sink, Source};
-use std::alloc::{AllocError, Global};
+use std::process::Abort;
 use std::sync::Wait;
 use std::thread::Threads;
 
@@ -18,12 +18,12 @@ pub(crate) fn form() -> &'static [&'static [u8]] {
 }
 
 /// These parts joined.
-pub(crate) fn joined(alloc: Global, parts: &[&[u8]]) -> Result<Vec<u8>, AllocError> {
-    let mut bytes = Vec::new(alloc);
+pub(crate) fn joined<R: AllocGlobal + Abort>(rt: &R, parts: &[&[u8]]) -> Vec<u8> {
+    let mut bytes = Vec::new(rt.alloc());
     for part in parts {
-        bytes.extend_from_slice(part)?;
+        bytes.extend_from_slice(part).expect(rt, "there is memory");
     }
-    Ok(bytes)
+    bytes
 }
 
 /// What the program came to: its status, what it wrote, and what it left unread.
@@ -35,33 +35,27 @@ pub(crate) struct Run {
 }
 
 /// What is left of the input.
-fn rest_of(alloc: Global, input: &mut MemoryBytes) -> Result<Vec<u8>, AllocError> {
-    let mut rest = Vec::new(alloc);
+fn rest_of<R: AllocGlobal + Abort>(rt: &R, input: &mut MemoryBytes) -> Vec<u8> {
+    let mut rest = Vec::new(rt.alloc());
     for _ in 0..1000 {
         let mut piece = [0];
         if let ByteRead::Got(_) = input.read(&mut piece) {
-            rest.push(piece[0])?;
+            rest.push(piece[0]).expect(rt, "there is memory");
         }
     }
-    Ok(rest)
+    rest
 }
 
 /// What is left of a run over memory.
-fn left_of(alloc: Global, served: Served<MemoryBytes, MemoryOut>) -> Result<Run, AllocError> {
-    let Served {
-        status,
-        mut input,
-        output,
-    } = served;
-    let unread = rest_of(alloc, &mut input);
-    drop(input);
-    let written = output.bytes().to_vec(alloc);
-    drop(output);
-    Ok(Run {
-        status,
-        written: written?,
-        unread: unread?,
-    })
+fn left_of<R: AllocGlobal + Abort>(rt: &R, mut served: Served<MemoryBytes, MemoryOut>) -> Run {
+    let written = served.output.bytes().to_vec(rt.alloc());
+    let run = Run {
+        status: served.status,
+        written: written.expect(rt, "there is memory"),
+        unread: rest_of(rt, &mut served.input),
+    };
+    drop(served);
+    run
 }
 
 /// Runs the program over these devices. Nothing is said of what comes of it: a test is to see that.
@@ -75,25 +69,25 @@ pub(crate) fn served<R: Threads + Wait + AllocGlobal + Sync, I: ByteSource, O: B
 }
 
 /// The same over devices in memory.
-pub(crate) fn run_over<R: Threads + Wait + AllocGlobal + Sync>(
+pub(crate) fn run_over<R: Threads + Wait + AllocGlobal + Abort + Sync>(
     rt: &R,
     words: &[&[u8]],
     input: MemoryBytes,
     output: MemoryOut,
-) -> Result<Run, AllocError> {
-    left_of(rt.alloc(), served(rt, words, input, output))
+) -> Run {
+    left_of(rt, served(rt, words, input, output))
 }
 
 /// The same over these bytes, so many of which are read or written at a time.
-pub(crate) fn run_in_steps<R: Threads + Wait + AllocGlobal + Sync>(
+pub(crate) fn run_in_steps<R: Threads + Wait + AllocGlobal + Abort + Sync>(
     rt: &R,
     words: &[&[u8]],
     parts: &[&[u8]],
     step: usize,
-) -> Result<Run, AllocError> {
+) -> Run {
     let alloc = rt.alloc();
     let step = step.max(1);
-    let input = MemoryBytes::new(joined(alloc, parts)?, step, Vec::new(alloc));
+    let input = MemoryBytes::new(joined(rt, parts), step, Vec::new(alloc));
     run_over(
         rt,
         words,

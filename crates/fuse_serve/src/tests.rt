@@ -10,7 +10,6 @@ use fuse_session::Ended;
 use fuse_wire::{
     ByteRead, ByteSink, ByteSource, ByteWrite, MemoryBytes, MemoryOut, StreamSink, StreamSource,
 };
-use std::alloc::{AllocError, Global};
 use std::process::Abort;
 use std::sync::Wait;
 use std::thread::Threads;
@@ -98,25 +97,20 @@ fn expect_ending<R: Threads + Wait + AllocGlobal + Abort + Sync>(
     rt: &R,
     at: usize,
     ending: &Ending,
-) -> Result<(), AllocError> {
+) {
     let (words, parts, status, written, unread) = *ending;
-    let expected = joined(rt.alloc(), written)?;
+    let expected = joined(rt, written);
     for step in [1, 7] {
-        let run = run_in_steps(rt, words, parts, step)?;
+        let run = run_in_steps(rt, words, parts, step);
         expect_run(rt, at, &run, status, &expected, unread);
     }
-    Ok(())
 }
 
 /// The program ends so over each input.
-fn expect_endings<R: Threads + Wait + AllocGlobal + Abort + Sync>(
-    rt: &R,
-    endings: &[Ending],
-) -> Result<(), AllocError> {
+fn expect_endings<R: Threads + Wait + AllocGlobal + Abort + Sync>(rt: &R, endings: &[Ending]) {
     for (at, ending) in endings.iter().enumerate() {
-        expect_ending(rt, at, ending)?;
+        expect_ending(rt, at, ending);
     }
-    Ok(())
 }
 
 const INPUTS: &[Ending] = &[
@@ -170,8 +164,8 @@ fn inputs() -> &'static [Ending] {
 }
 
 #[test]
-fn inputs_have_their_status_and_frames(rt: HostRuntime) -> Result<(), AllocError> {
-    expect_endings(&rt, inputs())
+fn inputs_have_their_status_and_frames(rt: HostRuntime) {
+    expect_endings(&rt, inputs());
 }
 
 const REQUESTS: &[Ending] = &[
@@ -194,8 +188,8 @@ fn requests() -> &'static [Ending] {
 }
 
 #[test]
-fn requests_have_their_frames(rt: HostRuntime) -> Result<(), AllocError> {
-    expect_endings(&rt, requests())
+fn requests_have_their_frames(rt: HostRuntime) {
+    expect_endings(&rt, requests());
 }
 
 /// DESTROY, a length below the header's, and a short header.
@@ -222,8 +216,8 @@ fn last_messages() -> &'static [Ending] {
 }
 
 #[test]
-fn what_comes_after_the_last_message_is_unread(rt: HostRuntime) -> Result<(), AllocError> {
-    expect_endings(&rt, last_messages())
+fn what_comes_after_the_last_message_is_unread(rt: HostRuntime) {
+    expect_endings(&rt, last_messages());
 }
 
 /// The words of a form without a thread.
@@ -244,8 +238,8 @@ fn words() -> &'static [Ending] {
 }
 
 #[test]
-fn words_say_the_status(rt: HostRuntime) -> Result<(), AllocError> {
-    expect_endings(&rt, words())
+fn words_say_the_status(rt: HostRuntime) {
+    expect_endings(&rt, words());
 }
 
 /// An input that fails after its bytes, and tells none of them.
@@ -293,12 +287,12 @@ impl ByteSink for FailingOutput {
 }
 
 /// INIT, and these parts after it.
-fn after_init(alloc: Global, parts: &[&[u8]]) -> Result<Vec<u8>, AllocError> {
-    let mut bytes = joined(alloc, &[INIT, ZEROS])?;
+fn after_init<R: AllocGlobal + Abort>(rt: &R, parts: &[&[u8]]) -> Vec<u8> {
+    let mut bytes = joined(rt, &[INIT, ZEROS]);
     for part in parts {
-        bytes.extend_from_slice(part)?;
+        bytes.extend_from_slice(part).expect(rt, "there is memory");
     }
-    Ok(bytes)
+    bytes
 }
 
 /// Its reply.
@@ -307,9 +301,9 @@ fn reply() -> &'static [u8] {
 }
 
 #[test]
-fn an_input_that_fails_has_its_status(rt: HostRuntime) -> Result<(), AllocError> {
+fn an_input_that_fails_has_its_status(rt: HostRuntime) {
     let alloc = rt.alloc();
-    let bytes = after_init(alloc, &[])?;
+    let bytes = after_init(&rt, &[]);
     let input = FailingInput {
         inner: MemoryBytes::new(bytes, 1000, Vec::new(alloc)),
         faults: 0,
@@ -317,13 +311,12 @@ fn an_input_that_fails_has_its_status(rt: HostRuntime) -> Result<(), AllocError>
     let output = MemoryOut::new(alloc, 1000, Vec::new(alloc));
     let served = served(&rt, form(), input, output);
     expect_same(&rt, &(served.status, served.output.bytes()), &(7, reply()));
-    Ok(())
 }
 
 #[test]
-fn an_output_that_fails_has_its_status(rt: HostRuntime) -> Result<(), AllocError> {
+fn an_output_that_fails_has_its_status(rt: HostRuntime) {
     let alloc = rt.alloc();
-    let bytes = after_init(alloc, &[DESTROY])?;
+    let bytes = after_init(&rt, &[DESTROY]);
     let input = MemoryBytes::new(bytes, 1000, Vec::new(alloc));
     let output = FailingOutput {
         inner: MemoryOut::new(alloc, 1000, Vec::new(alloc)),
@@ -336,30 +329,29 @@ fn an_output_that_fails_has_its_status(rt: HostRuntime) -> Result<(), AllocError
         &(served.status, served.output.inner.bytes()),
         &(8, reply()),
     );
-    Ok(())
 }
 
 /// INIT and two LOOKUPs, and an output that fails at its third write, which is the first after those of the reply to INIT.
-fn two_lookups(alloc: Global) -> Result<(MemoryBytes, MemoryOut), AllocError> {
-    let bytes = after_init(alloc, &[LOOKUP, NEXT_LOOKUP])?;
-    let faults = [3].to_vec(alloc)?;
-    Ok((
+fn two_lookups<R: AllocGlobal + Abort>(rt: &R) -> (MemoryBytes, MemoryOut) {
+    let alloc = rt.alloc();
+    let bytes = after_init(rt, &[LOOKUP, NEXT_LOOKUP]);
+    let faults = [3].to_vec(alloc).expect(rt, "there is memory");
+    (
         MemoryBytes::new(bytes, 1000, Vec::new(alloc)),
         MemoryOut::new(alloc, 1000, faults),
-    ))
+    )
 }
 
 #[test]
-fn all_after_a_failed_write_is_lost(rt: HostRuntime) -> Result<(), AllocError> {
-    let (input, output) = two_lookups(rt.alloc())?;
-    let run = run_over(&rt, form(), input, output)?;
+fn all_after_a_failed_write_is_lost(rt: HostRuntime) {
+    let (input, output) = two_lookups(&rt);
+    let run = run_over(&rt, form(), input, output);
     expect_same(&rt, &(run.status, run.written.as_slice()), &(8, reply()));
-    Ok(())
 }
 
 #[test]
-fn all_after_a_failed_write_counts_as_lost(rt: HostRuntime) -> Result<(), AllocError> {
-    let (input, output) = two_lookups(rt.alloc())?;
+fn all_after_a_failed_write_counts_as_lost(rt: HostRuntime) {
+    let (input, output) = two_lookups(&rt);
     let (source, sink) = (StreamSource::new(input), StreamSink::new(output));
     let Ended {
         filesystem: _,
@@ -374,7 +366,6 @@ fn all_after_a_failed_write_counts_as_lost(rt: HostRuntime) -> Result<(), AllocE
     let counts = (transcript.received, transcript.frames, transcript.lost);
     expect_same(&rt, &(outcome, counts, broken), &(Ok(()), (3, 1, 2), true));
     expect_same(&rt, &output.bytes(), &reply());
-    Ok(())
 }
 
 /// Over devices that tell nothing the program ends with this status, and writes these bytes.
@@ -404,11 +395,10 @@ fn front() -> &'static [u8] {
 }
 
 #[test]
-fn devices_that_tell_nothing_are_served(rt: HostRuntime) -> Result<(), AllocError> {
-    let bytes = after_init(rt.alloc(), &[])?;
+fn devices_that_tell_nothing_are_served(rt: HostRuntime) {
+    let bytes = after_init(&rt, &[]);
     expect_untold(&rt, form(), &bytes, 0, reply());
     expect_untold(&rt, idle(), &bytes, 10, reply());
     expect_untold(&rt, form(), front(), 4, b"");
     expect_untold(&rt, no_form(), &bytes, 2, b"");
-    Ok(())
 }

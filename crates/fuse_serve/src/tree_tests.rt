@@ -2,9 +2,7 @@
 use crate::asserts::expect_same;
 use crate::runs::{joined, mount_tree};
 use fuse_config::SessionACL;
-use fuse_session::Ended;
 use fuse_wire::{Items, MemorySink, MemorySource, RequestId, Turn};
-use std::alloc::{AllocError, Global};
 use std::process::Abort;
 use std::sync::Wait;
 use std::thread::Threads;
@@ -40,15 +38,9 @@ fn header(opcode: u16, node: u8, uid: u8, length: usize) -> [u8; 40] {
 }
 
 /// A message with the id 2, gid and pid 0, and this body.
-fn message(
-    alloc: Global,
-    opcode: u16,
-    node: u8,
-    uid: u8,
-    body: Parts,
-) -> Result<Vec<u8>, AllocError> {
-    let body = joined(alloc, body)?;
-    joined(alloc, &[&header(opcode, node, uid, body.len()), &body])
+fn message<R: AllocGlobal + Abort>(rt: &R, opcode: u16, node: u8, uid: u8, body: Parts) -> Vec<u8> {
+    let body = joined(rt, body);
+    joined(rt, &[&header(opcode, node, uid, body.len()), &body])
 }
 
 /// The header of a frame for the id 2: this status, whose lowest byte is given, and the length of its payload.
@@ -61,9 +53,9 @@ fn frame_header(status: u8, length: usize) -> [u8; 16] {
 }
 
 /// A frame for the id 2: this status, whose lowest byte is given, and this payload.
-fn frame(alloc: Global, status: u8, payload: Parts) -> Result<Vec<u8>, AllocError> {
-    let payload = joined(alloc, payload)?;
-    joined(alloc, &[&frame_header(status, payload.len()), &payload])
+fn frame<R: AllocGlobal + Abort>(rt: &R, status: u8, payload: Parts) -> Vec<u8> {
+    let payload = joined(rt, payload);
+    joined(rt, &[&frame_header(status, payload.len()), &payload])
 }
 
 /// INIT of version 7.8, with the id 1.
@@ -74,38 +66,44 @@ const INIT: Parts = &[
     &[0; 52],
 ];
 
+/// Puts these bytes at the end.
+fn put(rt: &impl Abort, all: &mut Vec<Vec<u8>>, bytes: Vec<u8>) {
+    all.push(bytes).expect(rt, "there is memory");
+}
+
 /// These requests.
-fn messages_of(alloc: Global, requests: &[Asked]) -> Result<Vec<Vec<u8>>, AllocError> {
-    let mut messages = Vec::new(alloc);
+fn messages_of<R: AllocGlobal + Abort>(rt: &R, requests: &[Asked]) -> Vec<Vec<u8>> {
+    let mut messages = Vec::new(rt.alloc());
     for (opcode, node, uid, body) in requests {
-        messages.push(message(alloc, *opcode, *node, *uid, body)?)?;
+        put(rt, &mut messages, message(rt, *opcode, *node, *uid, body));
     }
-    Ok(messages)
+    messages
 }
 
 /// These frames.
-fn frames_of(alloc: Global, replies: &[Sent]) -> Result<Vec<Vec<u8>>, AllocError> {
-    let mut frames = Vec::new(alloc);
+fn frames_of<R: AllocGlobal + Abort>(rt: &R, replies: &[Sent]) -> Vec<Vec<u8>> {
+    let mut frames = Vec::new(rt.alloc());
     for (status, payload) in replies {
-        frames.push(frame(alloc, *status, payload)?)?;
+        put(rt, &mut frames, frame(rt, *status, payload));
     }
-    Ok(frames)
+    frames
 }
 
-/// A turn of this message.
-fn turn(alloc: Global, message: &[u8]) -> Result<Turn, AllocError> {
-    Ok(Turn::Message(Items::from_vec(message.to_vec(alloc)?)))
+/// Puts a turn of this message at the end.
+fn put_turn<R: AllocGlobal + Abort>(rt: &R, turns: &mut Vec<Turn>, message: &[u8]) {
+    let bytes = message.to_vec(rt.alloc()).expect(rt, "there is memory");
+    let turn = Turn::Message(Items::from_vec(bytes));
+    turns.push(turn).expect(rt, "there is memory");
 }
 
 /// A source of an INIT and these requests.
-fn after_init(alloc: Global, requests: &[Vec<u8>]) -> Result<MemorySource, AllocError> {
-    let init = joined(alloc, INIT)?;
-    let mut turns = Vec::new(alloc);
-    turns.push(turn(alloc, &init)?)?;
+fn after_init<R: AllocGlobal + Abort>(rt: &R, requests: &[Vec<u8>]) -> MemorySource {
+    let mut turns = Vec::new(rt.alloc());
+    put_turn(rt, &mut turns, &joined(rt, INIT));
     for request in requests {
-        turns.push(turn(alloc, request)?)?;
+        put_turn(rt, &mut turns, request);
     }
-    Ok(MemorySource::new(turns))
+    MemorySource::new(turns)
 }
 
 /// How often this frame stands among these.
@@ -201,23 +199,17 @@ fn serves_on<R: Threads + Wait + AllocGlobal + Abort + Sync>(
     requests: &[Vec<u8>],
     frames: &[Vec<u8>],
     notes: &[(RequestId, u64)],
-) -> Result<(), AllocError> {
+) {
     let alloc = rt.alloc();
-    let source = after_init(alloc, requests)?;
+    let source = after_init(rt, requests);
     let sink = MemorySink::new(alloc, Vec::new(alloc));
-    let Ended {
-        filesystem: _,
-        source,
-        sink,
-        outcome,
-        transcript,
-    } = mount_tree(rt, n_threads, acl, 7, source, sink);
-    drop(source);
+    let ended = mount_tree(rt, n_threads, acl, 7, source, sink);
     let expected = (requests.len() as u64).saturating_add(1);
-    let counts = (transcript.received, transcript.lost);
-    expect_same(rt, &(outcome, counts), &(Ok(()), (expected, 0)));
-    took(rt, n_threads, &sink, frames, notes);
-    Ok(())
+    let counts = (ended.transcript.received, ended.transcript.lost);
+    expect_same(rt, &ended.outcome, &Ok(()));
+    expect_same(rt, &counts, &(expected, 0));
+    took(rt, n_threads, &ended.sink, frames, notes);
+    drop(ended);
 }
 
 /// The same on one thread, and once more on two.
@@ -227,9 +219,9 @@ fn serves<R: Threads + Wait + AllocGlobal + Abort + Sync>(
     requests: &[Vec<u8>],
     frames: &[Vec<u8>],
     notes: &[(RequestId, u64)],
-) -> Result<(), AllocError> {
-    serves_on(rt, None, acl, requests, frames, notes)?;
-    serves_on(rt, Some(2), acl, requests, frames, notes)
+) {
+    serves_on(rt, None, acl, requests, frames, notes);
+    serves_on(rt, Some(2), acl, requests, frames, notes);
 }
 
 /// Whether a request passes whoever sends it: INIT, DESTROY, forgets, and those that go by an open file.
@@ -241,35 +233,35 @@ fn passes(opcode: u16) -> bool {
 }
 
 /// The requests of these cases, of this user.
-fn asked_by(alloc: Global, uid: u8, cases: &[&[Case]]) -> Result<Vec<Vec<u8>>, AllocError> {
-    let mut messages = Vec::new(alloc);
+fn asked_by<R: AllocGlobal + Abort>(rt: &R, uid: u8, cases: &[&[Case]]) -> Vec<Vec<u8>> {
+    let mut messages = Vec::new(rt.alloc());
     for some in cases {
         for (opcode, node, body, _, _) in *some {
-            messages.push(message(alloc, *opcode, *node, uid, body)?)?;
+            put(rt, &mut messages, message(rt, *opcode, *node, uid, body));
         }
     }
-    Ok(messages)
+    messages
 }
 
 /// The frame of this case: its own where the user is served, and EACCES where not.
-fn answer(alloc: Global, is_served: bool, case: &Case) -> Result<Vec<u8>, AllocError> {
+fn answer<R: AllocGlobal + Abort>(rt: &R, is_served: bool, case: &Case) -> Vec<u8> {
     let (opcode, _, _, status, payload) = *case;
     if is_served || passes(opcode) {
-        frame(alloc, status, payload)
+        frame(rt, status, payload)
     } else {
-        frame(alloc, 0xf3, &[])
+        frame(rt, 0xf3, &[])
     }
 }
 
 /// The frames of these cases.
-fn answers(alloc: Global, is_served: bool, cases: &[&[Case]]) -> Result<Vec<Vec<u8>>, AllocError> {
-    let mut frames = Vec::new(alloc);
+fn answers<R: AllocGlobal + Abort>(rt: &R, is_served: bool, cases: &[&[Case]]) -> Vec<Vec<u8>> {
+    let mut frames = Vec::new(rt.alloc());
     for some in cases {
         for case in *some {
-            frames.push(answer(alloc, is_served, case)?)?;
+            put(rt, &mut frames, answer(rt, is_served, case));
         }
     }
-    Ok(frames)
+    frames
 }
 
 /// Serves requests of this user, in one session, each with its one frame: its own where the user is served, and EACCES
@@ -280,18 +272,15 @@ fn serve_user<R: Threads + Wait + AllocGlobal + Abort + Sync>(
     uid: u8,
     is_served: bool,
     cases: &[&[Case]],
-) -> Result<(), AllocError> {
-    let messages = asked_by(rt.alloc(), uid, cases)?;
-    let frames = answers(rt.alloc(), is_served, cases)?;
-    serves(rt, acl, &messages, &frames, &[])
+) {
+    let messages = asked_by(rt, uid, cases);
+    let frames = answers(rt, is_served, cases);
+    serves(rt, acl, &messages, &frames, &[]);
 }
 
 /// Serves requests of anybody, in one session, each with its one frame.
-fn serve_all<R: Threads + Wait + AllocGlobal + Abort + Sync>(
-    rt: &R,
-    cases: &[&[Case]],
-) -> Result<(), AllocError> {
-    serve_user(rt, SessionACL::All, 0, true, cases)
+fn serve_all<R: Threads + Wait + AllocGlobal + Abort + Sync>(rt: &R, cases: &[&[Case]]) {
+    serve_user(rt, SessionACL::All, 0, true, cases);
 }
 
 /// The attributes of `hello.txt`: node, size, blocks, four times, mode, names, owner, and the size of a block.
@@ -374,8 +363,8 @@ fn names() -> &'static [Case] {
 }
 
 #[test]
-fn names_and_attributes(rt: HostRuntime) -> Result<(), AllocError> {
-    serve_all(&rt, &[names()])
+fn names_and_attributes(rt: HostRuntime) {
+    serve_all(&rt, &[names()]);
 }
 
 const CONTENTS: &[Case] = &[
@@ -430,8 +419,8 @@ fn readings() -> &'static [Case] {
 }
 
 #[test]
-fn contents(rt: HostRuntime) -> Result<(), AllocError> {
-    serve_all(&rt, &[readings()])
+fn contents(rt: HostRuntime) {
+    serve_all(&rt, &[readings()]);
 }
 
 /// Two rows of BATCH_FORGET but for the last byte: one lookup of node 2, and four of node 3.
@@ -461,10 +450,10 @@ const AFTER_FORGETS: &[Sent] = &[
 const NOTES: &[(RequestId, u64)] = &[(RequestId(2), 1), (RequestId(2), 2), (RequestId(2), 0)];
 
 #[test]
-fn forgets_and_whom_it_serves(rt: HostRuntime) -> Result<(), AllocError> {
-    let messages = messages_of(rt.alloc(), FORGETS)?;
-    let frames = frames_of(rt.alloc(), AFTER_FORGETS)?;
-    serves(&rt, SessionACL::Owner, &messages, &frames, NOTES)
+fn forgets_and_whom_it_serves(rt: HostRuntime) {
+    let messages = messages_of(&rt, FORGETS);
+    let frames = frames_of(&rt, AFTER_FORGETS);
+    serves(&rt, SessionACL::Owner, &messages, &frames, NOTES);
 }
 
 /// A LOOKUP of a name that is not there, of root and of the owner, one of a file of another, and again the first.
@@ -484,16 +473,16 @@ fn serve_users<R: Threads + Wait + AllocGlobal + Abort + Sync>(
     rt: &R,
     acl: SessionACL,
     replies: &[Sent],
-) -> Result<(), AllocError> {
-    let messages = messages_of(rt.alloc(), USERS)?;
-    let frames = frames_of(rt.alloc(), replies)?;
-    serves(rt, acl, &messages, &frames, &[])
+) {
+    let messages = messages_of(rt, USERS);
+    let frames = frames_of(rt, replies);
+    serves(rt, acl, &messages, &frames, &[]);
 }
 
 #[test]
-fn root_is_served_where_the_rule_says_so(rt: HostRuntime) -> Result<(), AllocError> {
-    serve_users(&rt, SessionACL::RootAndOwner, ROOT_AND_OWNER)?;
-    serve_users(&rt, SessionACL::Owner, OWNER)
+fn root_is_served_where_the_rule_says_so(rt: HostRuntime) {
+    serve_users(&rt, SessionACL::RootAndOwner, ROOT_AND_OWNER);
+    serve_users(&rt, SessionACL::Owner, OWNER);
 }
 
 const LISTINGS: &[Case] = &[
@@ -544,8 +533,8 @@ fn listings() -> &'static [Case] {
 }
 
 #[test]
-fn the_directory(rt: HostRuntime) -> Result<(), AllocError> {
-    serve_all(&rt, &[listings()])
+fn the_directory(rt: HostRuntime) {
+    serve_all(&rt, &[listings()]);
 }
 
 /// No blocks and no inodes, a block of 512 bytes, and names of 255.
@@ -637,8 +626,8 @@ fn last_operations() -> &'static [Case] {
 
 /// Each has the reply of the tree, and no other from whom it does not serve.
 #[test]
-fn each_operation(rt: HostRuntime) -> Result<(), AllocError> {
+fn each_operation(rt: HostRuntime) {
     let operations = [first_operations(), last_operations()];
-    serve_all(&rt, &operations)?;
-    serve_user(&rt, SessionACL::Owner, 5, false, &operations)
+    serve_all(&rt, &operations);
+    serve_user(&rt, SessionACL::Owner, 5, false, &operations);
 }

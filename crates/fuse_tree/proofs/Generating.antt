@@ -8,7 +8,7 @@ use Rattle.std.proofs.lemmas.List.FromFn.{map-range_with_len_more, take-map-rang
 use Rattle.fuse_wire.specs.ByteSink.{ByteSinkState, PutsBytes}
 use Rattle.fuse_wire.specs.StreamSink.{WritesAll}
 use Rattle.fuse_wire.proofs.StreamLaws.{PutsBytes-append, WritesAll-append, WritesAll-front}
-use Rattle.fuse_serve.specs.Generated.{stream, init, destroy, requests, request_at, request_of, x_after}
+use Rattle.fuse_tree.specs.Generated.{stream, init, destroy, requests, request_at, request_of, x_after}
 
 -- x begins as the seed
 pub x-none : (seed : ℕ) → seed ≡ x_after seed 0

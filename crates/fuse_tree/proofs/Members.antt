@@ -13,7 +13,7 @@ use Rattle.fuse_wire.specs.declared.file_attr.FileType.TheVariants.{Directory, R
 use Rattle.fuse_reply.specs.Listing.{DirEntry, Fits, dirent, listing}
 use Rattle.fuse_reply.specs.Sizes.{max_payload}
 use Rattle.fuse_reply.proofs.ListingLaws.{length-dirent}
-use Rattle.fuse_serve.specs.Tree.{fitting, member, members}
+use Rattle.fuse_tree.specs.Tree.{fitting, member, members}
 
 -- an entry that fits is added
 fitting-next : (size held : ℕ) (e : DirEntry) (entries : List DirEntry) → Fits size held (length (dirent e))

@@ -1,12 +1,9 @@
 -- The messages that the program generates from a seed: an INIT, as many requests as are asked for, and a DESTROY.
-use Rattle.std.specs.Prelude.{◌≡◌, ◌⊎◌, ℕ, zero, suc, ◌+◌, ◌*◌, ◌/◌, ◌%◌, ◌^◌, ◌==◌, ◌++◌, true, false, List, [], ◌∷◌, codes, length, map}
+use Rattle.std.specs.Prelude.{ℕ, zero, suc, ◌+◌, ◌*◌, ◌/◌, ◌%◌, ◌^◌, ◌==◌, ◌++◌, List, [], ◌∷◌, codes, length, map}
 use Rattle.std.specs.Prelude.{replicate, if◌then◌else◌}
 use Rattle.std.specs.Int.{w32, w64, to_le_bytes}
-use Rattle.std.specs.List.{concat, range_with_len}
-use Rattle.fuse_wire.specs.ByteSink.{ByteSinkState}
-use Rattle.fuse_wire.specs.StreamSink.{WritesAll}
+use Rattle.std.specs.List.{range_with_len}
 use Rattle.fuse_request.specs.Opcode.{FUSE_LOOKUP, FUSE_FORGET, FUSE_GETATTR, FUSE_READ, FUSE_WRITE, FUSE_INIT, FUSE_READDIR, FUSE_DESTROY}
-use Rattle.fuse_serve.specs.declared.arguments.GenForm.{GenForm}
 
 -- a message: len4 opcode4 unique8 nodeid8 uid4 gid4 pid4 _4 (`struct fuse_in_header`), where the length counts the header too and
 -- whoever asks is 0, and its body
@@ -68,9 +65,3 @@ destroy id = message FUSE_DESTROY id 0 []
 -- all messages
 abbrev pub stream : (seed count : ℕ) → List (List ℕ)
 stream seed count = init ∷ (requests seed count ++ destroy (count + 2) ∷ [])
-
--- With the status 0 all bytes of the stream were written, and with 8 those up to a write that failed, which the output counted.
-abbrev pub Generates : GenForm → (exit : ℕ) → (output output' : ByteSinkState) → Type 0
-Generates form exit output output' =
-    ((exit ≡ 0) × WritesAll true (concat (stream form.seed form.count)) output output')
-    ⊎ ((exit ≡ 8) × WritesAll false (concat (stream form.seed form.count)) output output')

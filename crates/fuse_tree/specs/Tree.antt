@@ -14,7 +14,7 @@ use Rattle.fuse_reply.specs.Listing.{DirEntry, dirent}
 use Rattle.fuse_reply.specs.Sizes.{max_payload}
 use Rattle.fuse_dispatch.specs.Defaults.{default_answer}
 use Rattle.fuse_dispatch.specs.Promise.{Promise, MayInit, MayAnswer, MayNote, MayDestroy}
-use Rattle.fuse_serve.specs.declared.hello.Hello.{Hello}
+use Rattle.fuse_tree.specs.declared.hello.Hello.{Hello}
 
 -- attributes of a node, whose owner and whose times are 0
 abbrev pub attr : (ino : ℕ) → FileType → (perm nlink size blocks : ℕ) → FileAttr

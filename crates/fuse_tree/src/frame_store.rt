@@ -3,7 +3,7 @@ ghost use Rattle.std.specs.Prelude.{◌≡◌, ◌+◌, ◌++◌, ◌∷◌, ◌
 ghost use Rattle.fuse_wire.specs.Numbers.{number};
 ghost use Rattle.fuse_wire.specs.Sink.{Notes, Sends};
 ghost use Rattle.fuse_workers.specs.Progress.{replies};
-ghost use Rattle.fuse_serve.specs.Load.{NotesStored, SendsStored, stored_told, summary_of};
+ghost use Rattle.fuse_tree.specs.Store.{NotesStored, SendsStored, stored_told, summary_of};
 
 use crate::summary::Summary;
 use fuse_wire::{Noting, RequestId, Sending, Sink, u32_at};
@@ -24,7 +24,7 @@ pub struct FrameStore {
 impl std::marker::Model for FrameStore {
     ghost use Rattle.fuse_wire.specs.Frames.{frames};
     ghost use Rattle.fuse_wire.specs.MemorySink.{notes_of};
-    ghost use Rattle.fuse_serve.specs.Load.{IsStored, Stored};
+    ghost use Rattle.fuse_tree.specs.Store.{IsStored, Stored};
 
     ghost Value = { Stored };
 

@@ -3,8 +3,8 @@ ghost use Rattle.std.specs.Prelude.{◌≡◌, ◌+◌, ◌*◌, ◌%◌, ◌^�
 ghost use Rattle.std.specs.Int.{w32, w64, to_le_bytes};
 ghost use Rattle.std.specs.List.{concat};
 ghost use Rattle.fuse_wire.specs.StreamSink.{WritesAll};
-ghost use Rattle.fuse_serve.specs.Generated.{destroy, init, init_body, message, read_body, write_body};
-ghost use Rattle.fuse_serve.specs.Generated.{request_of, stream};
+ghost use Rattle.fuse_tree.specs.Generated.{destroy, init, init_body, message, read_body, write_body};
+ghost use Rattle.fuse_tree.specs.Generated.{request_of, stream};
 
 use fuse_request::opcode::{
     FUSE_DESTROY, FUSE_FORGET, FUSE_GETATTR, FUSE_INIT, FUSE_LOOKUP, FUSE_READ, FUSE_READDIR,
@@ -28,14 +28,14 @@ const NO_OPERATION: u32 = 7;
 
 /// A message, in a piece of memory of fixed size. A contract sees its bytes.
 #[derive(Drop)]
-pub struct Message {
+pub(crate) struct Message {
     bytes: [u8; LONGEST],
     size: usize,
 }
 
 impl Model for Message {
     ghost use Rattle.std.specs.Prelude.{◌≤◌, ℕ, List, take};
-    ghost use Rattle.fuse_serve.specs.declared.generator.TheConstants.{LONGEST};
+    ghost use Rattle.fuse_tree.specs.declared.generator.TheConstants.{LONGEST};
 
     ghost Value = { List ℕ };
 
@@ -60,7 +60,7 @@ impl Message {
 
     /// Copies the message to the front of a receive buffer, and says how long it is. The bytes that no message fills are
     /// copied too: a copy of fixed size costs less than one of just the message.
-    pub fn put(&self, buffer: &mut [u8]) -> usize
+    pub(crate) fn put(&self, buffer: &mut [u8]) -> usize
         requires { length buffer.old ≡ BUFFER_SIZE }
         ensures whole { result ≡ length self.now }
         ensures short { result ≤ LONGEST }
@@ -196,7 +196,11 @@ fn next(x: u32) -> u32
 }
 
 /// The same messages in memory, all of which is taken at once.
-pub fn stored_stream(alloc: Global, seed: u32, count: u32) -> Result<Vec<Message>, AllocError>
+pub(crate) fn stored_stream(
+    alloc: Global,
+    seed: u32,
+    count: u32,
+) -> Result<Vec<Message>, AllocError>
     ensures { IfOk result (λ messages. messages.items ≡ stream seed count) }
 {
     let mut messages = Vec::with_capacity(alloc, count as usize + 2)?;

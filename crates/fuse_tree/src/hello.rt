@@ -1,9 +1,10 @@
 // The tree that the program serves.
 ghost use Rattle.std.specs.Prelude.{◌≡◌, ◌<◌, ◌+◌, [], Some, false, refl, take, drop, option_map, slice_get};
 ghost use Rattle.fuse_reply.specs.Listing.{listing};
-ghost use Rattle.fuse_serve.specs.Tree.{attr, contents, fitting, member, members, named, node_attr, tree_promise};
+ghost use Rattle.fuse_tree.specs.Tree.{attr, contents, fitting, member, members, named, node_attr, tree_promise};
 
 use fuse_config::KernelConfig;
+use fuse_dispatch::{Filesystem, defaults};
 use fuse_notify::PollNotifier;
 use fuse_reply::{
     Replied, ReplyAttr, ReplyBmap, ReplyCreate, ReplyData, ReplyDirectory, ReplyDirectoryPlus,
@@ -11,7 +12,6 @@ use fuse_reply::{
     ReplyWrite, ReplyXattr,
 };
 use fuse_request::{ForgetList, Request};
-use fuse_session::{Filesystem, defaults};
 use fuse_wire::{
     AccessFlags, BsdFileFlags, CopyFileRangeFlags, Duration, Errno, FileAttr, FileHandle, FileType,
     Generation, INodeNo, IoctlFlags, LockOwner, OpenFlags, PollEvents, PollFlags, RenameFlags,

@@ -1,8 +1,8 @@
 // Generated messages, kept in memory and given one after the other.
 ghost use Rattle.std.specs.Prelude.{◌≡◌, IfOk, length};
 ghost use Rattle.fuse_wire.specs.Source.{Receives};
-ghost use Rattle.fuse_serve.specs.Generated.{stream};
-ghost use Rattle.fuse_serve.specs.Load.{GivesFirst, messages_told};
+ghost use Rattle.fuse_tree.specs.Generated.{stream};
+ghost use Rattle.fuse_tree.specs.Store.{GivesFirst, messages_told};
 
 use crate::generator::{Message, stored_stream};
 use fuse_wire::consts::BUFFER_SIZE;
@@ -28,7 +28,7 @@ impl Model for StoredMessages {
 }
 
 impl StoredMessages {
-    /// The messages that the seed gives, all of them in one piece of memory.
+    /// The messages that the seed gives, all of them in one piece of memory. The error comes where there is none for it.
     pub fn generated(alloc: Global, seed: u32, count: u32) -> Result<StoredMessages, NoMemory>
         ensures { IfOk result (λ messages. messages ≡ stream seed count) }
     {

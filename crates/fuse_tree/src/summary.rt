@@ -1,6 +1,6 @@
 // What serving a stream came to, in one line.
 ghost use Rattle.std.specs.Prelude.{◌≡◌, length};
-ghost use Rattle.fuse_serve.specs.Load.{line};
+ghost use Rattle.fuse_tree.specs.Store.{line};
 
 use std::fmt;
 
@@ -22,7 +22,7 @@ pub struct Summary {
 /// The line, with its line feed.
 impl fmt::Display for Summary {
     ghost use Rattle.std.specs.Prelude.{Some};
-    ghost use Rattle.fuse_serve.specs.Load.{line};
+    ghost use Rattle.fuse_tree.specs.Store.{line};
 
     ghost output = { λ summary. Some (line summary) };
 

@@ -4,8 +4,8 @@ use Rattle.fuse_session.specs.Exchange.{Mounted, Outcome, setup_of}
 use Rattle.fuse_session.specs.Headline.{Headline, Lossless}
 use Rattle.fuse_session.specs.Refused.{Untouched}
 use Rattle.fuse_session.proofs.Refusing.{OptionsWell-none_listed}
-use Rattle.fuse_serve.specs.Load.{Stored, messages_told, stored_told}
-use Rattle.fuse_serve.specs.Tree.{tree_promise}
+use Rattle.fuse_tree.specs.Store.{Stored, messages_told, stored_told}
+use Rattle.fuse_tree.specs.Tree.{tree_promise}
 use Rattle.fuse_serve.proofs.Loading.{Summarizes-ok, empty, failure-causes}
 use Rattle.fuse_serve.proofs.Messages.{HandshakeWell-stream, SessionWell-stream}
 use Rattle.fuse_serve.proofs.load.serve_generated.Goals as goal

@@ -1,6 +1,6 @@
 use Rattle.std.proofs.Common.{◌∙◌, ◌∷◌, ◌++◌, [], List, ℕ, ap, sym}
-use Rattle.fuse_serve.proofs.Generating.{x-none, x-next, request-is, front, front-one_more}
-use Rattle.fuse_serve.proofs.generator.stored_stream.Goals as goal
+use Rattle.fuse_tree.proofs.Generating.{x-none, x-next, request-is, front, front-one_more}
+use Rattle.fuse_tree.proofs.generator.stored_stream.Goals as goal
 
 pub loop-place-init : goal.loop-place-init
 loop-place-init c = record {

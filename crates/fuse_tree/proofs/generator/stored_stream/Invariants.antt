@@ -1,7 +1,7 @@
 use Rattle.std.proofs.Common.{◌≡◌}
-use Rattle.fuse_serve.specs.Generated.{x_after}
-use Rattle.fuse_serve.proofs.Generating.{front}
-use Rattle.fuse_serve.proofs.generator.stored_stream.Given as goal
+use Rattle.fuse_tree.specs.Generated.{x_after}
+use Rattle.fuse_tree.proofs.Generating.{front}
+use Rattle.fuse_tree.proofs.generator.stored_stream.Given as goal
 
 abbrev pub invariant-loop-place : goal.invariant-loop-place
 invariant-loop-place l = record {

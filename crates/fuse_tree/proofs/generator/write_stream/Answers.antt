@@ -2,8 +2,8 @@
 use Rattle.std.proofs.Common.{◌≡◌, ◌∙◌, List, ℕ, subst, sym, arith}
 use Rattle.std.specs.List.{concat}
 use Rattle.fuse_wire.specs.ByteSink.{PutsBytes}
-use Rattle.fuse_serve.proofs.Generating.{x-none, x-next, request-is, front, front-none, request-written, request-lost, stream-ends}
-use Rattle.fuse_serve.proofs.generator.write_stream.Goals as goal
+use Rattle.fuse_tree.proofs.Generating.{x-none, x-next, request-is, front, front-none, request-written, request-lost, stream-ends}
+use Rattle.fuse_tree.proofs.generator.write_stream.Goals as goal
 
 pub loop-place-init : goal.loop-place-init
 loop-place-init g c = record {

@@ -1,9 +1,9 @@
 use Rattle.std.proofs.Common.{◌≡◌}
 use Rattle.std.specs.List.{concat}
 use Rattle.fuse_wire.specs.ByteSink.{PutsBytes}
-use Rattle.fuse_serve.specs.Generated.{x_after}
-use Rattle.fuse_serve.proofs.Generating.{front}
-use Rattle.fuse_serve.proofs.generator.write_stream.Given as goal
+use Rattle.fuse_tree.specs.Generated.{x_after}
+use Rattle.fuse_tree.proofs.Generating.{front}
+use Rattle.fuse_tree.proofs.generator.write_stream.Given as goal
 
 abbrev pub invariant-loop-place : goal.invariant-loop-place
 invariant-loop-place g l = record {

@@ -2,9 +2,9 @@ use Rattle.std.proofs.Common.{◌≡◌, ◌+◌, ◌≤◌, ◌++◌, ◌∙◌
 use Rattle.fuse_wire.specs.declared.no_memory.NoMemory.{NoMemory}
 use Rattle.fuse_reply.specs.Adding.{Adds, Listing}
 use Rattle.fuse_reply.specs.Listing.{Fits, dirent, listing}
-use Rattle.fuse_serve.specs.Tree.{fitting, member, members}
-use Rattle.fuse_serve.proofs.Members.{joined-full, joined-next, joined-start, short-from, short-next}
-use Rattle.fuse_serve.proofs.hello.add_members.Goals as goal
+use Rattle.fuse_tree.specs.Tree.{fitting, member, members}
+use Rattle.fuse_tree.proofs.Members.{joined-full, joined-next, joined-start, short-from, short-next}
+use Rattle.fuse_tree.proofs.hello.add_members.Goals as goal
 
 pub loop-place-init : goal.loop-place-init
 loop-place-init c = record {

@@ -1,7 +1,7 @@
 use Rattle.std.proofs.Common.{◌≡◌, ◌+◌, ◌≤◌, ◌++◌, drop, length}
 use Rattle.fuse_reply.specs.Listing.{listing}
-use Rattle.fuse_serve.specs.Tree.{fitting, members}
-use Rattle.fuse_serve.proofs.hello.add_members.Given as goal
+use Rattle.fuse_tree.specs.Tree.{fitting, members}
+use Rattle.fuse_tree.proofs.hello.add_members.Given as goal
 
 -- what is held, joined with what of the rest will fit, is the whole; and all of the rest would be held without memory
 abbrev pub invariant-loop-place : goal.invariant-loop-place

@@ -1,8 +1,8 @@
 use Rattle.std.proofs.Common.{◌≡◌, ◌∙◌, ◌-◌, ◌++◌, ◌≤◌, ℕ, List, Bool, true, false, leb, subst, sym, ap, length, arith, length-append, if◌then◌else◌}
 use mir.Val.{bool_byte}
-use Rattle.fuse_serve.specs.Load.{IsStored}
-use Rattle.fuse_serve.proofs.Storing.{IsFrame-parts, IsStored-aside, IsStored-reply, IsStored-small, Puts-frame, SendsStored-frame, aside-status, error-status}
-use Rattle.fuse_serve.proofs.frame_store.FrameStoreSink.send.Goals as goal
+use Rattle.fuse_tree.specs.Store.{IsStored}
+use Rattle.fuse_tree.proofs.Storing.{IsFrame-parts, IsStored-aside, IsStored-reply, IsStored-small, Puts-frame, SendsStored-frame, aside-status, error-status}
+use Rattle.fuse_tree.proofs.frame_store.FrameStoreSink.send.Goals as goal
 
 pub invariant_of-self-then-is_notice : goal.invariant_of-self-then-is_notice
 invariant_of-self-then-is_notice c =

@@ -4,8 +4,8 @@ use Rattle.fuse_reply.specs.Answer.Answer.{Attr}
 use Rattle.fuse_reply.specs.Frame.{reply}
 use Rattle.fuse_reply.specs.declared.out.Out.TheVariants.{Frame}
 use Rattle.fuse_dispatch.proofs.Answering.{Answered-frame, Answered-error}
-use Rattle.fuse_serve.specs.Tree.{attributes}
-use Rattle.fuse_serve.proofs.hello.HelloFilesystem.getattr.Goals as goal
+use Rattle.fuse_tree.specs.Tree.{attributes}
+use Rattle.fuse_tree.proofs.hello.HelloFilesystem.getattr.Goals as goal
 
 pub returns : goal.returns
 returns c =

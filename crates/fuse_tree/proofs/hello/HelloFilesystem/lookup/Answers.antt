@@ -5,8 +5,8 @@ use Rattle.fuse_reply.specs.Answer.Answer.{Entry}
 use Rattle.fuse_reply.specs.Frame.{reply}
 use Rattle.fuse_reply.specs.declared.out.Out.TheVariants.{Frame}
 use Rattle.fuse_dispatch.proofs.Answering.{Answered-frame, Answered-error}
-use Rattle.fuse_serve.specs.Tree.{entry, named}
-use Rattle.fuse_serve.proofs.hello.HelloFilesystem.lookup.Goals as goal
+use Rattle.fuse_tree.specs.Tree.{entry, named}
+use Rattle.fuse_tree.proofs.hello.HelloFilesystem.lookup.Goals as goal
 
 is-false : (b : Bool) → true ≡ not b → b ≡ false
 is-false true h = absurd (let no : ⊥ = cc in no)

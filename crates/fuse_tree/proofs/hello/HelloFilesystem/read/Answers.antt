@@ -2,8 +2,8 @@ use Rattle.std.proofs.Common.{◌∙◌, ℕ, List, sym, ap, lit<, Option}
 use Rattle.std.specs.Prelude.{option_map}
 use Rattle.fuse_reply.specs.Answer.Answer.{Data}
 use Rattle.fuse_dispatch.proofs.Answering.{Answered-replies, Answered-error}
-use Rattle.fuse_serve.specs.Tree.{bytes}
-use Rattle.fuse_serve.proofs.hello.HelloFilesystem.read.Goals as goal
+use Rattle.fuse_tree.specs.Tree.{bytes}
+use Rattle.fuse_tree.proofs.hello.HelloFilesystem.read.Goals as goal
 
 pub returns : goal.returns
 returns c =

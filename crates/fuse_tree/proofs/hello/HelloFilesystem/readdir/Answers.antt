@@ -7,9 +7,9 @@ use Rattle.fuse_reply.specs.Adding.{Listing}
 use Rattle.fuse_reply.specs.Listing.{DirEntry, listing}
 use Rattle.fuse_reply.specs.declared.out.Out.TheVariants.{Frame}
 use Rattle.fuse_dispatch.proofs.Answering.{Answered-frame}
-use Rattle.fuse_serve.specs.Tree.{fitting, members}
-use Rattle.fuse_serve.proofs.Members.{in_range-listed}
-use Rattle.fuse_serve.proofs.hello.HelloFilesystem.readdir.Goals as goal
+use Rattle.fuse_tree.specs.Tree.{fitting, members}
+use Rattle.fuse_tree.proofs.Members.{in_range-listed}
+use Rattle.fuse_tree.proofs.hello.HelloFilesystem.readdir.Goals as goal
 
 is-true : (b : Bool) → false ≡ not b → b ≡ true
 is-true true h = refl

@@ -1,7 +1,7 @@
 use Rattle.std.proofs.Common.{◌≡◌, ◌<◌, ◌+◌, ℕ, List, ◌∷◌, length, get_or, drop, ap, sym, ◌∙◌, arith}
 use Rattle.std.proofs.lemmas.List.{drop_more}
-use Rattle.fuse_serve.proofs.Messages.{TakesMessage-stored}
-use Rattle.fuse_serve.proofs.stored_messages.StoredMessagesSource.receive.Goals as goal
+use Rattle.fuse_tree.proofs.Giving.{TakesMessage-stored}
+use Rattle.fuse_tree.proofs.stored_messages.StoredMessagesSource.receive.Goals as goal
 
 pub returns : goal.returns
 returns c =

@@ -1,0 +1,4 @@
+mod Members
+mod Generating
+mod Giving
+mod Storing
