@@ -1,8 +1,10 @@
 // What directory replies carry, as bytes.
+ghost use Rattle.std.specs.Prelude.{◌<◌, ◌^◌, length};
+
 use crate::asserts::expect_same;
 use crate::tests::{ATTRIBUTES, ID, attributes, carries, sends_frame, sent, told};
 use fuse_reply::laws::{listings_give_their_entries_back, plus_listings_split_in_one_way};
-use fuse_reply::{OutEnd, ReplyDirectory, ReplyDirectoryPlus};
+use fuse_reply::{Out, OutEnd, ReplyDirectory, ReplyDirectoryPlus};
 use fuse_wire::{Duration, Errno, FileType, Generation, INodeNo, NoMemory};
 use std::alloc::Global;
 use std::process::Abort;
@@ -67,34 +69,50 @@ fn a_directory_without_entries_is_a_status(rt: HostRuntime) {
     sends_frame(&rt, alloc, error.into_out(), &failed);
 }
 
+/// Whether an entry with this name was left out of a listing of so many bytes, and the listing.
+fn list_one(alloc: Global, size: usize, name: &[u8]) -> (Result<bool, NoMemory>, Out)
+    requires { length name.now < 2 ^ 32 }
+{
+    let mut reply = ReplyDirectory::new(alloc, ID, size);
+    let full = reply.add(INodeNo(u64::MAX), u64::MAX, FileType::Socket, name);
+    (full, reply.ok().into_out())
+}
+
+/// An entry with so many sevens as its name, and zeros behind it.
+fn entry_of_sevens(count: u8) -> [u8; 280] {
+    let mut entry = [0; 280];
+    entry[..16].copy_from_slice(&[0xff; 16]);
+    entry[16] = count;
+    entry[20] = 12;
+    for byte in entry.iter_mut().skip(24).take(usize::from(count)) {
+        *byte = 7;
+    }
+    entry
+}
+
+/// An entry with this name, so many sevens, takes just the bytes of its front and so many more.
+fn is_padded_to(rt: &impl Abort, alloc: Global, name: &[u8], count: u8, padded: usize)
+    requires { length name.now < 2 ^ 32 }
+{
+    let size = padded.saturating_add(24);
+    let (full, out) = list_one(alloc, size, name);
+    expect_same(rt, &full, &Ok(false));
+    let entry = entry_of_sevens(count);
+    carries(rt, alloc, out, entry.get(..size).unwrap_or(&[]));
+    let (full, out) = list_one(alloc, size.saturating_sub(1), name);
+    expect_same(rt, &full, &Ok(true));
+    carries(rt, alloc, out, &[]);
+}
+
 #[test]
 fn pads_each_name_to_a_multiple_of_eight(rt: HostRuntime) {
     let alloc = rt.alloc();
-    for (count, padded) in [(0, 0), (1, 8), (7, 8), (8, 8), (9, 16), (255, 256)] {
-        let mut reply = ReplyDirectory::new(alloc, ID, 24 + padded);
-        let taken = reply.add(
-            INodeNo(u64::MAX),
-            u64::MAX,
-            FileType::Socket,
-            &[7; 255][..count],
-        );
-        expect_same(&rt, &taken, &Ok(false));
-        let mut payload = [0; 280];
-        payload[..16].copy_from_slice(&[0xff; 16]);
-        payload[16] = count as u8;
-        payload[20] = 12;
-        payload[24..24 + count].copy_from_slice(&[7; 255][..count]);
-        carries(&rt, alloc, reply.ok().into_out(), &payload[..24 + padded]);
-        let mut short = ReplyDirectory::new(alloc, ID, 23 + padded);
-        let full = short.add(
-            INodeNo(u64::MAX),
-            u64::MAX,
-            FileType::Socket,
-            &[7; 255][..count],
-        );
-        expect_same(&rt, &full, &Ok(true));
-        carries(&rt, alloc, short.ok().into_out(), &[]);
-    }
+    is_padded_to(&rt, alloc, &[], 0, 0);
+    is_padded_to(&rt, alloc, &[7], 1, 8);
+    is_padded_to(&rt, alloc, &[7; 7], 7, 8);
+    is_padded_to(&rt, alloc, &[7; 8], 8, 8);
+    is_padded_to(&rt, alloc, &[7; 9], 9, 16);
+    is_padded_to(&rt, alloc, &[7; 255], 255, 256);
 }
 
 #[test]

@@ -109,25 +109,39 @@ fn is_place(place: FilenameInDir<'_>, dir: u64, name: &[u8]) -> bool {
     place.dir.0 == dir && place.name == name
 }
 
+/// Whether these are the same bytes.
+fn is_same(found: &[u8], expected: &[u8]) -> bool {
+    found == expected
+}
+
 /// The opcode of an operation on a name, and whether its accessors say what stands in the message.
 fn told(operation: &Operation<'_>) -> (u16, bool) {
     match operation {
-        Operation::Lookup(asked) => (1, asked.name() == NAME),
-        Operation::SymLink(asked) => (6, asked.link_name() == NAME && asked.target() == OTHER),
+        Operation::Lookup(asked) => (1, is_same(asked.name(), NAME)),
+        Operation::SymLink(asked) => (
+            6,
+            is_same(asked.link_name(), NAME) && is_same(asked.target(), OTHER),
+        ),
         Operation::MkNod(asked) => {
             let numbers = (asked.mode(), asked.rdev(), asked.umask());
-            (8, asked.name() == NAME && matches!(numbers, (1, 2, 3)))
+            (
+                8,
+                is_same(asked.name(), NAME) && matches!(numbers, (1, 2, 3)),
+            )
         }
         Operation::MkDir(asked) => {
             let numbers = (asked.mode(), asked.umask());
-            (9, asked.name() == NAME && matches!(numbers, (1, 2)))
+            (9, is_same(asked.name(), NAME) && matches!(numbers, (1, 2)))
         }
-        Operation::Unlink(asked) => (10, asked.name() == NAME),
-        Operation::RmDir(asked) => (11, asked.name() == NAME),
-        Operation::RemoveXAttr(asked) => (24, asked.name() == NAME),
+        Operation::Unlink(asked) => (10, is_same(asked.name(), NAME)),
+        Operation::RmDir(asked) => (11, is_same(asked.name(), NAME)),
+        Operation::RemoveXAttr(asked) => (24, is_same(asked.name(), NAME)),
         Operation::Create(asked) => {
             let numbers = (asked.flags(), asked.mode(), asked.umask());
-            (35, asked.name() == NAME && matches!(numbers, (1, 2, 3)))
+            (
+                35,
+                is_same(asked.name(), NAME) && matches!(numbers, (1, 2, 3)),
+            )
         }
         operation => told_of_places(operation),
     }
@@ -149,7 +163,7 @@ fn told_of_places(operation: &Operation<'_>) -> (u16, bool) {
             (13, links && asked.inode_no().0 == FIRST)
         }
         Operation::SetXAttr(asked) => {
-            let sets = asked.name() == NAME && asked.value() == VALUE;
+            let sets = is_same(asked.name(), NAME) && is_same(asked.value(), VALUE);
             (
                 21,
                 sets && matches!((asked.flags(), asked.position()), (2, 0)),
@@ -162,7 +176,7 @@ fn told_of_places(operation: &Operation<'_>) -> (u16, bool) {
             };
             (
                 22,
-                asked.name() == NAME && matches!((asked.size_u32(), wanted), (1, 1)),
+                is_same(asked.name(), NAME) && matches!((asked.size_u32(), wanted), (1, 1)),
             )
         }
         Operation::ListXAttr(asked) => (23, asked.size() == 1),
@@ -234,7 +248,7 @@ fn told_of_files(operation: &Operation<'_>) -> (u16, bool) {
             let flags = (asked.write_flags().bits(), asked.flags().0);
             let rest = (flags, owner(asked.lock_owner()));
             let numbers = matches!((place, rest), ((FIRST, SECOND), ((6, 9), FOURTH)));
-            (16, numbers && asked.data() == WRITTEN)
+            (16, numbers && is_same(asked.data(), WRITTEN))
         }
         Operation::Release(asked) => {
             let flags = (asked.flags().0, asked.release_flags().bits());
@@ -348,7 +362,7 @@ fn told_of_devices(operation: &Operation<'_>) -> (u16, bool) {
             let flags = (asked.flags().bits(), asked.unrestricted());
             let numbers = (asked.file_handle().0, asked.command(), asked.out_size());
             let all = matches!((flags, numbers), ((3, true), (FIRST, 4, 8)));
-            (39, all && asked.in_data() == HANDED_IN)
+            (39, all && is_same(asked.in_data(), HANDED_IN))
         }
         Operation::Poll(asked) => {
             let handles = (asked.file_handle().0, asked.kernel_handle().0);
@@ -368,9 +382,13 @@ const HANDED_IN: &[u8] = b"abcdefg";
 
 /// The header of a message, the opcode of what it asks, and whether the accessors say what stands in it.
 fn asked(message: &[u8]) -> Option<([u64; 6], (u16, bool))> {
-    let request = AnyRequest::try_from(message).ok()?;
-    let operation = request.operation().ok()?;
-    Some((header(&request), told(&operation)))
+    let Ok(request) = AnyRequest::try_from(message) else {
+        return None;
+    };
+    match request.operation() {
+        Ok(operation) => Some((header(&request), told(&operation))),
+        Err(_) => None,
+    }
 }
 
 /// Opcode, bytes of the fixed part, the tail, and how many bytes of all this are needed.

@@ -223,14 +223,35 @@ fn events_of<R: Wait + AllocGlobal + Abort>(rt: &R, letters: &str) -> Vec<Event>
     events
 }
 
-/// Whether after these events there is what the text says, or the last of them can't happen where there is no text.
-fn comes_to<R: Wait + AllocGlobal + Abort>(rt: &R, letters: &str, wanted: &str) -> bool {
-    let start = State::new(rt.alloc(), 1).expect(rt, "there is memory");
-    let events = events_of(rt, letters);
-    match run(rt.alloc(), &start, &events).expect(rt, "there is memory") {
-        Some(state) => is_counted(&state, wanted),
+/// The state in which nothing has happened yet, with one worker.
+fn start<R: AllocGlobal + Abort>(rt: &R) -> State {
+    State::new(rt.alloc(), 1).expect(rt, "there is memory")
+}
+
+/// What these events come to from there, which is not there where the last of them can't happen.
+fn reached<R: AllocGlobal + Abort>(rt: &R, events: &[Event]) -> Option<State> {
+    let start = start(rt);
+    let reached = run(rt.alloc(), &start, events).expect(rt, "there is memory");
+    drop(start);
+    reached
+}
+
+/// Whether there is what the text says, or nothing where there is no text.
+fn is_as_wanted(reached: &Option<State>, wanted: &str) -> bool {
+    match reached {
+        Some(state) => is_counted(state, wanted),
         None => wanted.is_empty(),
     }
+}
+
+/// Whether after these events there is what the text says, or the last of them can't happen where there is no text.
+fn comes_to<R: Wait + AllocGlobal + Abort>(rt: &R, letters: &str, wanted: &str) -> bool {
+    let events = events_of(rt, letters);
+    let reached = reached(rt, &events);
+    drop(events);
+    let is_as_wanted = is_as_wanted(&reached, wanted);
+    drop(reached);
+    is_as_wanted
 }
 
 #[test]
@@ -241,26 +262,35 @@ fn events_happen_where_they_may(rt: HostRuntime) {
 }
 
 /// Lets the event happen to the state, where it can, and says whether it did.
-fn happens(alloc: Global, state: &mut State, event: &Event) -> Result<bool, NoMemory> {
-    match step(alloc, state, event)? {
+fn happens<R: AllocGlobal + Abort>(rt: &R, state: &mut State, event: &Event) -> bool {
+    match step(rt.alloc(), state, event).expect(rt, "there is memory") {
         Some(next) => {
             *state = next;
-            Ok(true)
+            true
         }
-        None => Ok(false),
+        None => false,
     }
+}
+
+/// How often the event happens to the state, of 65 times.
+fn times<R: AllocGlobal + Abort>(rt: &R, state: &mut State, event: &Event) -> u64 {
+    for times in 0..65 {
+        if !happens(rt, state, event) {
+            return times;
+        }
+    }
+    65
 }
 
 /// How often the event of this letter happens, of 65 times, and the counts after it.
 fn filled<R: Wait + AllocGlobal + Abort>(rt: &R, letter: u8) -> (u64, [usize; 7]) {
     let event = event(rt, letter);
-    let mut state = State::new(rt.alloc(), 1).expect(rt, "there is memory");
-    for times in 0..65 {
-        if !happens(rt.alloc(), &mut state, &event).expect(rt, "there is memory") {
-            return (times, counts(&state));
-        }
-    }
-    (65, counts(&state))
+    let mut state = start(rt);
+    let times = times(rt, &mut state, &event);
+    drop(event);
+    let counts = counts(&state);
+    drop(state);
+    (times, counts)
 }
 
 #[test]
@@ -279,30 +309,47 @@ fn is_one_job(state: &State) -> bool {
 }
 
 /// Whether there is one job after an event. None: it can't happen.
-fn one_job_after(after: Option<State>) -> Option<bool> {
-    after.as_ref().map(is_one_job)
+fn one_job_after(after: &Option<State>) -> Option<bool> {
+    match after {
+        Some(state) => Some(is_one_job(state)),
+        None => None,
+    }
+}
+
+/// Whether the event makes one job by a step.
+fn once_stepped<R: AllocGlobal + Abort>(rt: &R, event: &Event) -> Option<bool> {
+    let start = start(rt);
+    let stepped = step(rt.alloc(), &start, event).expect(rt, "there is memory");
+    drop(start);
+    let made = one_job_after(&stepped);
+    drop(stepped);
+    made
+}
+
+/// Whether these events make one job by a run.
+fn once_run<R: AllocGlobal + Abort>(rt: &R, events: &[Event]) -> Option<bool> {
+    let reached = reached(rt, events);
+    let made = one_job_after(&reached);
+    drop(reached);
+    made
 }
 
 /// Whether one event makes one job, by a step and by a run.
-fn once(alloc: Global, event: Event) -> Result<[Option<bool>; 2], NoMemory> {
-    let start = State::new(alloc, 1)?;
-    let stepped = one_job_after(step(alloc, &start, &event)?);
-    let ran = one_job_after(run(alloc, &start, &[event])?);
-    Ok([stepped, ran])
+fn once<R: AllocGlobal + Abort>(rt: &R, event: Event) -> [Option<bool>; 2] {
+    let mut events = Vec::new(rt.alloc());
+    events.push(event).expect(rt, "there is memory");
+    let run = once_run(rt, &events);
+    let stepped = match events.first() {
+        Some(event) => once_stepped(rt, event),
+        None => None,
+    };
+    drop(events);
+    [stepped, run]
 }
 
 #[test]
 fn a_message_received_is_the_one_job(rt: HostRuntime) {
-    let alloc = rt.alloc();
-    let made = once(
-        alloc,
-        Event::Receive(message(alloc).expect(&rt, "there is memory")),
-    )
-    .expect(&rt, "there is memory");
-    expect_same(&rt, &made, &[Some(true); 2]);
-    expect_same(
-        &rt,
-        &once(alloc, Event::Take(0)).expect(&rt, "there is memory"),
-        &[None; 2],
-    );
+    let message = message(rt.alloc()).expect(&rt, "there is memory");
+    expect_same(&rt, &once(&rt, Event::Receive(message)), &[Some(true); 2]);
+    expect_same(&rt, &once(&rt, Event::Take(0)), &[None; 2]);
 }
