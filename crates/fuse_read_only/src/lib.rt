@@ -3,6 +3,8 @@
 //! `specs/ReadOnly.antt` gives for that tree, and nothing is ever changed.
 #![tactic(auto)]
 
+#[cfg(test)]
+mod asserts;
 mod files;
 mod listing;
 mod read_only;

@@ -4,6 +4,7 @@ ghost use Rattle.std.specs.Str.{bytes_eq};
 ghost use Rattle.fuse_wire.specs.declared.file_attr.FileType.TheVariants.{Directory, RegularFile};
 ghost use Rattle.fuse_read_only.specs.Tree.{root_attr};
 
+use crate::asserts::expect_same;
 use crate::{Entry, Files, ReadOnly, root_attr};
 use fuse_config::{Config, SessionACL};
 use fuse_session::{Ended, mount};
@@ -148,14 +149,22 @@ fn put_turn<R: AllocGlobal + Abort>(rt: &R, turns: &mut Vec<Turn>, message: &[u8
     turns.push(turn).expect(rt, "there is memory");
 }
 
+/// The frame at this place.
+fn frame_at(sent: &[Items<u8>], place: usize) -> &[u8] {
+    match sent.get(place) {
+        Some(frame) => frame.as_slice(),
+        None => &[],
+    }
+}
+
 /// Behind its first frame the sink took these, and these notes, and no other.
-fn took<R: Abort>(rt: &R, sink: &MemorySink, frames: &[Vec<u8>], notes: &[(RequestId, u64)]) {
-    assert_eq!(rt;
-        (sink.frames().len(), sink.notes()),
-        (frames.len().saturating_add(1), notes)
-    );
-    for (at, (sent, expected)) in sink.frames().iter().skip(1).zip(frames).enumerate() {
-        assert_eq!(rt; sent.as_slice(), expected.as_slice(), "frame {at}");
+fn took(rt: &impl Abort, sink: &MemorySink, frames: &[Vec<u8>], notes: &[(RequestId, u64)]) {
+    let sent = sink.frames();
+    expect_same(rt, &sent.len(), &frames.len().saturating_add(1));
+    expect_same(rt, &sink.notes(), &notes);
+    for (at, frame) in frames.iter().enumerate() {
+        let found = frame_at(sent, at.saturating_add(1));
+        expect_same(rt, &(at, found), &(at, frame.as_slice()));
     }
 }
 
@@ -173,17 +182,17 @@ fn serves<R: Threads + Wait + AllocGlobal + Abort + Sync>(
     let sink = MemorySink::new(alloc, Vec::new(alloc));
     let Ended {
         filesystem,
-        source: _,
+        source,
         sink,
         outcome,
         transcript,
     } = mount(rt, ReadOnly::new(Pair), source, sink, 0, 4096, &config);
+    drop(source);
     took(rt, &sink, frames, notes);
-    let held = *filesystem.files();
-    assert_eq!(rt;
-        (outcome, transcript.lost, held, filesystem.into_files()),
-        (Ok(()), 0, Pair, Pair)
-    );
+    drop(sink);
+    expect_same(rt, &(outcome, transcript.lost), &(Ok(()), 0));
+    expect_same(rt, filesystem.files(), &Pair);
+    expect_same(rt, &filesystem.into_files(), &Pair);
 }
 
 /// Serves these requests, each with its one frame.
@@ -275,26 +284,26 @@ fn looks_up_and_reads(rt: HostRuntime) {
     serves_each(&rt, &cases);
 }
 
-/// An entry of the directory: `struct fuse_dirent` with a name, whose type is that of `dirent.h`.
-fn dirent<const N: usize>(ino: u8, offset: u8, kind: u8, name: &[u8]) -> [u8; N] {
-    let mut bytes = [0; N];
-    for (place, byte) in [(0, ino), (8, offset), (16, short(name.len())), (20, kind)] {
-        if let Some(slot) = bytes.get_mut(place) {
-            *slot = byte;
-        }
-    }
-    for (slot, byte) in bytes.iter_mut().skip(24).zip(name) {
-        *slot = *byte;
+/// An entry of the directory: `struct fuse_dirent` with a name, whose type is that of `dirent.h`, filled to 8 bytes.
+fn dirent<R: AllocGlobal + Abort>(rt: &R, ino: u8, offset: u8, kind: u8, name: &[u8]) -> Vec<u8> {
+    let mut bytes = vec![in rt.alloc(); 0; 24].expect(rt, "there is memory");
+    bytes[0] = ino;
+    bytes[8] = offset;
+    bytes[16] = short(name.len());
+    bytes[20] = kind;
+    put(rt, &mut bytes, name);
+    for _ in 0..name.len().wrapping_neg() % 8 {
+        put(rt, &mut bytes, &[0]);
     }
     bytes
 }
 
 #[test]
 fn lists_what_fits(rt: HostRuntime) {
-    let here: [u8; 32] = dirent(1, 1, 4, b".");
-    let above: [u8; 32] = dirent(1, 2, 4, b"..");
-    let one: [u8; 32] = dirent(2, 3, 8, b"one");
-    let long: [u8; 64] = dirent(3, 4, 8, LONG);
+    let here = dirent(&rt, 1, 1, 4, b".");
+    let above = dirent(&rt, 1, 2, 4, b"..");
+    let one = dirent(&rt, 2, 3, 8, b"one");
+    let long = dirent(&rt, 3, 4, 8, LONG);
     let mut all = Vec::new(rt.alloc());
     put(&rt, &mut all, &here);
     put(&rt, &mut all, &above);

@@ -1,10 +1,13 @@
 // Sessions of the one lock, from memory to memory.
 use crate::OneLock;
-use crate::tests::{ACCEPTED, INIT, source_of};
+use crate::asserts::expect_same;
+use crate::tests::{ACCEPTED, INIT, source_of, took_in_order};
 use fuse_config::{Config, SessionACL};
-use fuse_session::{Ended, mount};
-use fuse_wire::MemorySink;
-use std::test::Fail;
+use fuse_session::{Ended, SessionError, mount};
+use fuse_wire::{Items, MemorySink, MemorySource};
+use std::process::Abort;
+use std::sync::Wait;
+use std::thread::Threads;
 
 // Linux's numbers: `include/uapi/linux/fuse.h`, `fcntl.h`, `errno-base.h` and `errno.h`.
 const SETLK: u8 = 32;
@@ -45,11 +48,62 @@ fn failed(id: u8, errno: u8) -> [u8; 16] {
     ]
 }
 
-#[test]
-fn nobody_waits_on_one_thread(rt: HostRuntime) -> Result<(), Fail> {
-    let alloc = rt.alloc();
-    let mut config = Config::new(alloc);
+/// What is left of a session of the lock, but for the lock.
+#[derive(Drop)]
+struct Rest {
+    outcome: Result<(), SessionError>,
+    /// How many messages were taken, and how many frames sent and lost.
+    counts: (u64, u64, u64),
+    sink: MemorySink,
+}
+
+/// Takes a session apart that has ended.
+fn rest_of<R: Wait>(over: Ended<OneLock<R>, MemorySource, MemorySink>) -> (OneLock<R>, Rest) {
+    let Ended {
+        filesystem,
+        source,
+        sink,
+        outcome,
+        transcript,
+    } = over;
+    drop(source);
+    let counts = (transcript.received, transcript.frames, transcript.lost);
+    let rest = Rest {
+        outcome,
+        counts,
+        sink,
+    };
+    (filesystem, rest)
+}
+
+/// Serves everybody by the lock, over these messages, on so many threads.
+fn serve<R: Threads + Wait + AllocGlobal + Abort + Sync + Send>(
+    rt: &R,
+    lock: OneLock<R>,
+    n_threads: Option<usize>,
+    messages: &[&[u8]],
+) -> (OneLock<R>, Rest) {
+    let mut config = Config::new(rt.alloc());
     config.acl = SessionACL::All;
+    config.n_threads = n_threads;
+    let source = source_of(rt.alloc(), messages).expect(rt, "there is memory");
+    let sink = MemorySink::new(rt.alloc(), Vec::new(rt.alloc()));
+    rest_of(mount(rt, lock, source, sink, 0, 4096, &config))
+}
+
+/// How often this frame was sent.
+fn times_sent(sent: &[Items<u8>], frame: &[u8]) -> usize {
+    sent.iter().filter(|one| one.as_slice() == frame).count()
+}
+
+/// The session ended well, and answered each of so many messages.
+fn ended_well(rt: &impl Abort, rest: &Rest, messages: u64) {
+    let expected = (Ok(()), (messages, messages, 0));
+    expect_same(rt, &(rest.outcome, rest.counts), &expected);
+}
+
+#[test]
+fn nobody_waits_on_one_thread(rt: HostRuntime) {
     let messages: [&[u8]; 6] = [
         &INIT,
         &lock_call(SETLK, 2, F_WRLCK),
@@ -66,64 +120,29 @@ fn nobody_waits_on_one_thread(rt: HostRuntime) -> Result<(), Fail> {
         &done(5),
         &done(6),
     ];
-    let source = source_of(alloc, &messages)?;
-    let sink = MemorySink::new(alloc, Vec::new(alloc));
-    let Ended {
-        filesystem,
-        source: _,
-        sink,
-        outcome,
-        transcript,
-    } = mount(&rt, OneLock::new(rt, alloc), source, sink, 0, 4096, &config);
-    filesystem.close();
-    assert_eq!(rt; outcome, Ok(()));
-    assert_eq!(rt;
-        (transcript.received, transcript.frames, transcript.lost),
-        (6, 6, 0)
-    );
-    assert_eq!(rt; sink.frames().len(), frames.len());
-    for (sent, frame) in sink.frames().iter().zip(&frames) {
-        assert_eq!(rt; sent.as_slice(), *frame);
-    }
-    Ok(())
+    let (lock, rest) = serve(&rt, OneLock::new(rt, rt.alloc()), None, &messages);
+    lock.close();
+    ended_well(&rt, &rest, 6);
+    took_in_order(&rt, rest.sink.frames(), &frames);
 }
 
 /// Of two workers the one waits for the lock that the other gives up. Whichever comes first, both are done.
 #[test]
-fn one_waits_for_the_other(rt: HostRuntime) -> Result<(), Fail> {
-    let alloc = rt.alloc();
-    let mut config = Config::new(alloc);
-    config.acl = SessionACL::All;
-    config.n_threads = Some(2);
+fn one_waits_for_the_other(rt: HostRuntime) {
     let messages: [&[u8]; 3] = [
         &INIT,
         &lock_call(SETLKW, 2, F_WRLCK),
         &lock_call(SETLK, 3, F_UNLCK),
     ];
-    let source = source_of(alloc, &messages)?;
-    let sink = MemorySink::new(alloc, Vec::new(alloc));
-    let filesystem = OneLock::new(rt, alloc);
-    let was_free = filesystem.takes();
-    let Ended {
-        filesystem,
-        source: _,
-        sink,
-        outcome,
-        transcript,
-    } = mount(&rt, filesystem, source, sink, 0, 4096, &config);
-    let is_held = !filesystem.takes();
-    filesystem.close();
-    assert_eq!(rt; outcome, Ok(()));
-    assert_eq!(rt; (was_free, is_held), (true, true));
-    assert_eq!(rt;
-        (transcript.received, transcript.frames, transcript.lost),
-        (3, 3, 0)
-    );
-    let frames = sink.frames();
-    assert_eq!(rt; frames.len(), 3);
-    let is_sent = |frame: &[u8]| frames.iter().any(|one| one.as_slice() == frame);
-    assert_eq!(rt; frames[0].as_slice(), ACCEPTED.as_slice());
-    assert!(rt; is_sent(&done(2)));
-    assert!(rt; is_sent(&done(3)));
-    Ok(())
+    let lock = OneLock::new(rt, rt.alloc());
+    let was_free = lock.takes();
+    let (lock, rest) = serve(&rt, lock, Some(2), &messages);
+    let is_free = lock.takes();
+    lock.close();
+    expect_same(&rt, &(was_free, is_free), &(true, false));
+    ended_well(&rt, &rest, 3);
+    let sent = rest.sink.frames();
+    took_in_order(&rt, sent.get(..1).unwrap_or(&[]), &[&ACCEPTED]);
+    let times = (times_sent(sent, &done(2)), times_sent(sent, &done(3)));
+    expect_same(&rt, &(sent.len(), times), &(3, (1, 1)));
 }

@@ -1,9 +1,9 @@
 // A session of the one file, from memory to memory.
+use crate::asserts::expect_same;
 use crate::{OneFile, serve_one_file};
-use fuse_session::Ended;
 use fuse_wire::{Items, MemorySink, MemorySource, Turn};
 use std::alloc::{AllocError, Global};
-use std::test::Fail;
+use std::process::Abort;
 
 /// INIT of version 7.8 with the id 0xdeadbeefbaadf00d and a readahead of 4096: `struct fuse_in_header`, then
 /// `struct fuse_init_in`.
@@ -110,8 +110,16 @@ pub(crate) fn source_of(alloc: Global, messages: &[&[u8]]) -> Result<MemorySourc
     Ok(MemorySource::new(turns))
 }
 
+/// The sink took these frames, in this order, and no other.
+pub(crate) fn took_in_order(rt: &impl Abort, sent: &[Items<u8>], frames: &[&[u8]]) {
+    expect_same(rt, &sent.len(), &frames.len());
+    for (one, frame) in sent.iter().zip(frames) {
+        expect_same(rt, &one.as_slice(), frame);
+    }
+}
+
 #[test]
-fn serves_the_file(rt: HostRuntime) -> Result<(), Fail> {
+fn serves_the_file(rt: HostRuntime) {
     let alloc = rt.alloc();
     let messages: [&[u8]; 8] = [
         &INIT,
@@ -133,23 +141,11 @@ fn serves_the_file(rt: HostRuntime) -> Result<(), Fail> {
         &NOT_MADE,
         &DONE,
     ];
-    let source = source_of(alloc, &messages)?;
+    let source = source_of(alloc, &messages).expect(&rt, "there is memory");
     let sink = MemorySink::new(alloc, Vec::new(alloc));
-    let Ended {
-        filesystem: _,
-        source: _,
-        sink,
-        outcome,
-        transcript,
-    } = serve_one_file(&rt, OneFile, source, sink);
-    assert_eq!(rt; outcome, Ok(()));
-    assert_eq!(rt;
-        (transcript.received, transcript.frames, transcript.lost),
-        (8, 8, 0)
-    );
-    assert_eq!(rt; sink.frames().len(), frames.len());
-    for (sent, frame) in sink.frames().iter().zip(&frames) {
-        assert_eq!(rt; sent.as_slice(), *frame);
-    }
-    Ok(())
+    let ended = serve_one_file(&rt, OneFile, source, sink);
+    let transcript = ended.transcript;
+    let counts = (transcript.received, transcript.frames, transcript.lost);
+    expect_same(&rt, &(ended.outcome, counts), &(Ok(()), (8, 8, 0)));
+    took_in_order(&rt, ended.sink.frames(), &frames);
 }
