@@ -31,6 +31,7 @@ use fuse_session::SessionError;
 use fuse_wire::{StdSink, StdSource};
 use program::serve;
 use status::failure_status;
+use std::alloc::{AllocError, Global};
 use std::io::{BufReader, Read, Write};
 use std::process::ExitCode;
 use std::rt::Env;
@@ -62,6 +63,24 @@ fn run<R: Threads + Wait + AllocGlobal + Sync, I: Read + Drop, O: Write + Send +
     serve(rt, arguments, StdSource::new(input), StdSink::new(output)).status
 }
 
+/// The arguments of the process, without its own name.
+fn words_of<R: Env + AllocGlobal>(rt: &R) -> io::Result<Vec<String>> {
+    let mut words = Vec::new(rt.alloc());
+    for word in env::args(rt)?.skip(1) {
+        words.push(word)?;
+    }
+    Ok(words)
+}
+
+/// Their bytes.
+fn bytes_of(alloc: Global, words: &[String]) -> Result<Vec<&[u8]>, AllocError> {
+    let mut arguments = Vec::new(alloc);
+    for word in words {
+        arguments.push(word.as_bytes())?;
+    }
+    Ok(arguments)
+}
+
 /// The same on the arguments of the process, with the input read ahead where it is read. The error is that there was no
 /// memory for the arguments or the input's buffer, and then nothing is read, or that the arguments can't be had.
 fn run_process<
@@ -69,17 +88,11 @@ fn run_process<
     I: Read + Drop,
     O: Write + Send + Drop,
 >(rt: &R, input: I, output: O) -> io::Result<u8> {
-    let mut words = Vec::new(rt.alloc());
-    for word in env::args(rt)?.skip(1) {
-        words.push(word)?;
-    }
-    let mut arguments = Vec::new(rt.alloc());
-    for word in &words {
-        arguments.push(word.as_bytes())?;
-    }
-    let ahead = read_ahead(arguments.as_slice());
+    let words = words_of(rt)?;
+    let arguments = bytes_of(rt.alloc(), &words)?;
+    let ahead = read_ahead(&arguments);
     let input = BufReader::with_capacity(rt.alloc(), ahead, input)?;
-    Ok(run(rt, arguments.as_slice(), input, output))
+    Ok(run(rt, &arguments, input, output))
 }
 
 fn main(rt: HostRuntime) -> ExitCode {
