@@ -1,11 +1,10 @@
 // Each part of fixed size, fetched from bytes of which each 4 are their number, from 1.
 use crate::asserts::expect_same_in;
 use fuse_args::{
-    AccessArguments, ArgumentIterator, BMapArguments, BatchForgetArguments, CopyFileRangeArguments,
-    CreateArguments, FAllocateArguments, FSyncArguments, FlushArguments, GetAttrArguments,
-    GetLkArguments, GetXAttrArguments, IoCtlArguments, LseekArguments, MkDirArguments,
-    MkNodArguments, OpenArguments, PollArguments, ReadArguments, ReleaseArguments,
-    Rename2Arguments, SetAttrArguments, SetXAttrArguments, WriteArguments,
+    ArgumentIterator, BMapArguments, CopyFileRangeArguments, CreateArguments, FAllocateArguments,
+    FSyncArguments, FlushArguments, GetAttrArguments, GetLkArguments, IoCtlArguments,
+    LseekArguments, MkDirArguments, MkNodArguments, OpenArguments, PollArguments, ReadArguments,
+    ReleaseArguments, Rename2Arguments, SetAttrArguments, SetXAttrArguments, WriteArguments,
 };
 
 /// Bytes of which each 4 are their number, from 1.

@@ -13,7 +13,6 @@ use fuse_wire::{INodeNo, MemorySink, PollHandle, RequestId, Sending};
 use std::alloc::Global;
 use std::process::Abort;
 use std::sync::{Arc, Wait};
-use std::test::Fail;
 use std::thread;
 
 const INODE: INodeNo = INodeNo(0x42);

@@ -9,7 +9,6 @@ use fuse_wire::{
 };
 use std::alloc::{AllocError, Global};
 use std::process::Abort;
-use std::test::Fail;
 
 /// The length field of each message, and how many bytes of it there are: one is shorter than a header says that it is,
 /// one longer than the others, and the last ends where the stream does.
