@@ -7,7 +7,7 @@ use Rattle.fuse_reply.specs.Door.{DoorSeen}
 use Rattle.fuse_reply.specs.declared.door.NoDoor.{NoDoor}
 use Rattle.fuse_reply.specs.declared.out.Out.{Out}
 use Rattle.fuse_reply.specs.declared.out.Out.TheVariants.{Deferred}
-use Rattle.fuse_workers.specs.Answering.{DoorFits}
+use Rattle.fuse_loop.specs.Answering.{DoorFits}
 use Rattle.fuse_dispatch.specs.Asked.{ComesBy}
 use Rattle.fuse_dispatch.specs.Owed.{IsPutOff, Owes}
 use Rattle.fuse_dispatch.specs.Verdict.{Verdict}

@@ -15,7 +15,7 @@ use Rattle.fuse_reply.specs.declared.out.Out.{Out}
 use Rattle.fuse_reply.specs.declared.out.Out.TheVariants.{Deferred}
 use Rattle.fuse_request.specs.declared.request.Request.{Request}
 use Rattle.fuse_wire.specs.declared.newtypes.RequestId.{RequestId}
-use Rattle.fuse_workers.specs.Incoming.{IsBroken, id_of}
+use Rattle.fuse_loop.specs.Incoming.{IsBroken, id_of}
 use Rattle.fuse_dispatch.specs.Promise.{Promise}
 use Rattle.fuse_dispatch.specs.Verdict.{Verdict, verdict, verdict_by, serving, admitted_operation}
 use Rattle.fuse_dispatch.specs.Verdict.Verdict.{Broken, Ends, Fixed, Forgets, Calls}

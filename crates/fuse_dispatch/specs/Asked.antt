@@ -6,7 +6,7 @@ use Rattle.fuse_request.specs.declared.request.Request.{Request}
 use Rattle.fuse_reply.specs.Door.{DoorSeen}
 use Rattle.fuse_reply.specs.declared.door.NoDoor.{NoDoor}
 use Rattle.fuse_reply.specs.declared.out.Out.{Out}
-use Rattle.fuse_workers.specs.Progress.{IsPrompt}
+use Rattle.fuse_loop.specs.Progress.{IsPrompt}
 use Rattle.fuse_dispatch.specs.Owed.{IsPutOff, Owes}
 use Rattle.fuse_dispatch.specs.Verdict.{Verdict, served}
 use Rattle.fuse_dispatch.specs.Verdict.Verdict.{Calls}

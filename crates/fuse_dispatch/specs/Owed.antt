@@ -21,8 +21,8 @@ use Rattle.fuse_reply.specs.declared.out.Out.TheVariants.{Frame, Note, Deferred}
 use Rattle.fuse_config.specs.declared.session_acl.SessionACL.{SessionACL}
 use Rattle.fuse_dispatch.specs.Kind.{IsOfKind}
 use Rattle.fuse_dispatch.specs.Promise.{Promise, MayAnswer}
-use Rattle.fuse_workers.specs.Incoming.{incoming, incoming_by, id_of}
-use Rattle.fuse_workers.specs.Incoming.Incoming.{Destroy, Request as IsRequest}
+use Rattle.fuse_loop.specs.Incoming.{incoming, incoming_by, id_of}
+use Rattle.fuse_loop.specs.Incoming.Incoming.{Destroy, Request as IsRequest}
 use Rattle.fuse_dispatch.specs.Verdict.{Verdict, verdict, verdict_by, serving, admitted_operation}
 use Rattle.fuse_dispatch.specs.Verdict.Verdict.{Broken, Ends, Fixed, Forgets, Calls}
 

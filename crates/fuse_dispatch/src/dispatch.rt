@@ -4,19 +4,19 @@ ghost use Rattle.fuse_request.specs.Header.{header_fields, request_of};
 ghost use Rattle.fuse_dispatch.specs.Asked.{ComesBy, IsOwed};
 ghost use Rattle.fuse_dispatch.specs.Owed.{Owed-destroy, OwedMessage};
 ghost use Rattle.fuse_dispatch.specs.Verdict.{verdict};
-ghost use Rattle.fuse_workers.specs.Answering.{IsRequest};
-ghost use Rattle.fuse_workers.specs.Incoming.{id_of};
+ghost use Rattle.fuse_loop.specs.Answering.{IsRequest};
+ghost use Rattle.fuse_loop.specs.Incoming.{id_of};
 
 use crate::access::AccessRule;
 use crate::asked::Asked;
 use crate::error_reply::refusal;
 use crate::giving::{AtOnce, ByDoor, Giving};
 use crate::handler::Handler;
+use fuse_loop::Work;
 use fuse_notify::Notifier;
 use fuse_reply::{Door, NoDoor, Out};
 use fuse_request::{AnyRequest, Operation};
 use fuse_wire::Errno;
-use fuse_workers::Work;
 use std::alloc::Global;
 use std::sync::Wait;
 

@@ -8,9 +8,9 @@ ghost use Rattle.fuse_dispatch.specs.Verdict.{fixed_error, is_forget, served, ve
 use crate::Verdict;
 use crate::access::AccessRule;
 use fuse_config::SessionACL;
+use fuse_loop::Incoming;
 use fuse_request::{AnyRequest, Operation};
 use fuse_wire::Errno;
-use fuse_workers::Incoming;
 
 /// The error of an operation that no filesystem is asked.
 fn fixed_error(operation: &Operation<'_>) -> Option<Errno>

@@ -13,14 +13,14 @@ use Rattle.fuse_wire.specs.ByteSink.{ByteSinkState}
 use Rattle.fuse_wire.specs.StreamSource.{stream_told}
 use Rattle.fuse_wire.specs.StreamSink.{Stands, stream_told as sink_told}
 use Rattle.fuse_reply.specs.declared.out.Out.{Out}
-use Rattle.fuse_workers.specs.Incoming.{Incoming, EndsAfter, EndsWell, incoming}
-use Rattle.fuse_workers.specs.Incoming.Incoming.{Broken, Destroy, Request}
+use Rattle.fuse_loop.specs.Incoming.{Incoming, EndsAfter, EndsWell, incoming}
+use Rattle.fuse_loop.specs.Incoming.Incoming.{Broken, Destroy, Request}
 use Rattle.fuse_session.specs.Handshake.{HandshakeEnd}
 use Rattle.fuse_session.specs.Exchange.{Setup, Outcome, EndedBy, Dialogue, Exchange, Mounted}
 use Rattle.fuse_session.specs.Headline.{Headline}
 use Rattle.fuse_session.specs.Complete.{AcceptsAll, OpensWell, SessionWell}
-use Rattle.fuse_workers.specs.Progress.{is_notice, nothing_yet, progress}
-use Rattle.fuse_workers.specs.declared.transcript.Transcript.{Transcript}
+use Rattle.fuse_loop.specs.Progress.{is_notice, nothing_yet, progress}
+use Rattle.fuse_loop.specs.declared.transcript.Transcript.{Transcript}
 use Rattle.fuse_session.specs.declared.error.SessionError.TheVariants as session
 use Rattle.fuse_serve.specs.Status.{status}
 use Rattle.fuse_tree.specs.Tree.{tree_promise, tree_may_init}

@@ -18,8 +18,8 @@ use Rattle.fuse_request.specs.Operation.Op.{Init}
 use Rattle.fuse_request.specs.declared.any_request.Header.{Header}
 use Rattle.fuse_request.specs.declared.error.RequestError.{RequestError}
 use Rattle.fuse_request.specs.declared.error.RequestError.TheVariants.{ShortReadHeader, ShortRead, InsufficientData}
-use Rattle.fuse_workers.specs.Incoming.{incoming, incoming_by}
-use Rattle.fuse_workers.specs.Incoming.Incoming.{Destroy, Request}
+use Rattle.fuse_loop.specs.Incoming.{incoming, incoming_by}
+use Rattle.fuse_loop.specs.Incoming.Incoming.{Destroy, Request}
 use Rattle.fuse_session.specs.Complete.{GoodHeaders, HandshakeWell, IsInit, OpensAtLeast, OpensWell, SessionWell}
 use Rattle.fuse_tree.specs.Generated.{destroy, init, init_body, message, name_body, read_body, request, request_at, requests, stream, write_body, x_after}
 use Rattle.fuse_tree.specs.Store.{messages_told}

@@ -21,7 +21,7 @@ use Rattle.fuse_reply.specs.declared.out.Out.TheVariants.{Frame, Note, Deferred}
 use Rattle.fuse_config.specs.Configuration.{init_payload, start}
 use Rattle.fuse_config.specs.Values.{Configuration}
 use Rattle.fuse_config.specs.declared.session_acl.SessionACL.TheVariants.{All}
-use Rattle.fuse_workers.specs.Incoming.{IsBroken}
+use Rattle.fuse_loop.specs.Incoming.{IsBroken}
 use Rattle.fuse_core.specs.OneEach.{OneEach, Owing}
 use Rattle.fuse_session.specs.Handshake.{Greets, Handshake, HandshakeEnd, NegotiationReply}
 use Rattle.fuse_session.specs.Handshake.{greeting, greeting_by_header, greeting_by_operation, offer_of}

@@ -27,7 +27,7 @@ use Rattle.fuse_reply.specs.Sizes.{inline_size}
 use Rattle.fuse_reply.specs.declared.out.Out.{Out}
 use Rattle.fuse_reply.specs.declared.out.Out.TheVariants.{Frame, Note}
 use Rattle.fuse_config.specs.declared.session_acl.SessionACL.TheVariants.{All}
-use Rattle.fuse_workers.specs.Incoming.{id_of}
+use Rattle.fuse_loop.specs.Incoming.{id_of}
 use Rattle.fuse_dispatch.specs.Owed.{IsPoll, Owed, OwedBy, OwedCall}
 use Rattle.fuse_dispatch.specs.Verdict.{Verdict, admitted, admitted_operation, asking, fixed_error, fixed_or, is_forget, serving, verdict, verdict_by}
 use Rattle.fuse_dispatch.specs.Verdict.Verdict.{Broken, Ends, Fixed, Forgets, Calls}

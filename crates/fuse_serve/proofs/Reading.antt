@@ -8,7 +8,7 @@ use Rattle.fuse_wire.specs.Source.{Takes, message, NothingLeft}
 use Rattle.fuse_wire.specs.ByteSource.{ByteSourceState, TakesBytes, NoByteLeft}
 use Rattle.fuse_wire.specs.StreamSource.{stream_told}
 use Rattle.fuse_wire.proofs.Cut.{concat-cut, IsMessage-cut}
-use Rattle.fuse_workers.specs.Progress.{Begins}
+use Rattle.fuse_loop.specs.Progress.{Begins}
 use Rattle.fuse_serve.specs.Program.{Fronts}
 
 pub same_some : {A : Type 0} (x y : A) → Some x ≡ Some y → x ≡ y

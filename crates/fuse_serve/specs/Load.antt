@@ -6,7 +6,7 @@ use Rattle.fuse_wire.specs.StreamSink.{WritesAll}
 use Rattle.fuse_config.specs.declared.session_acl.SessionACL.TheVariants.{All}
 use Rattle.fuse_session.specs.Handshake.{Handshake}
 use Rattle.fuse_session.specs.Handshake.HandshakeEnd.{Accepted}
-use Rattle.fuse_workers.specs.Incoming.{IsBroken}
+use Rattle.fuse_loop.specs.Incoming.{IsBroken}
 use Rattle.fuse_core.specs.OneEach.{OneEach}
 use Rattle.fuse_dispatch.specs.Owed.{Owed}
 use Rattle.fuse_session.specs.declared.error.SessionError.{SessionError}

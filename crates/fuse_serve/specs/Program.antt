@@ -11,14 +11,14 @@ use Rattle.fuse_wire.specs.ByteSink.{ByteSinkState, PutsBytes}
 use Rattle.fuse_wire.specs.StreamSink.{IsTorn}
 use Rattle.fuse_reply.specs.declared.out.Out.{Out}
 use Rattle.fuse_reply.specs.declared.out.Out.TheVariants.{Frame, Note, Deferred}
-use Rattle.fuse_workers.specs.Incoming.{IsBroken, EndsWell}
+use Rattle.fuse_loop.specs.Incoming.{IsBroken, EndsWell}
 use Rattle.fuse_dispatch.specs.Owed.{Owed}
 use Rattle.fuse_core.specs.OneEach.{OneEach}
 use Rattle.fuse_session.specs.Complete.{OpensWell}
 use Rattle.fuse_session.specs.Exchange.{Setup, Outcome, Dialogue, setup_of}
 use Rattle.fuse_session.specs.Handshake.{Handshake}
 use Rattle.fuse_session.specs.Handshake.HandshakeEnd.{Accepted}
-use Rattle.fuse_workers.specs.Progress.{replies, is_notice, NoticeOrReply}
+use Rattle.fuse_loop.specs.Progress.{replies, is_notice, NoticeOrReply}
 use Rattle.fuse_session.specs.declared.error.SessionError.TheVariants.{Init, Receive}
 use Rattle.fuse_serve.specs.Status.{status}
 use Rattle.fuse_tree.specs.Tree.{tree_promise}

@@ -14,14 +14,14 @@ use Rattle.fuse_request.specs.declared.any_request.Header.{Header}
 use Rattle.fuse_request.specs.declared.request.Request.{Request as Asker}
 use Rattle.fuse_request.specs.declared.error.RequestError.{RequestError}
 use Rattle.fuse_dispatch.specs.Promise.{MayInit}
-use Rattle.fuse_workers.specs.Incoming.{incoming, incoming_by, AllGoOn}
-use Rattle.fuse_workers.specs.Incoming.Incoming.{Broken, Request}
+use Rattle.fuse_loop.specs.Incoming.{incoming, incoming_by, AllGoOn}
+use Rattle.fuse_loop.specs.Incoming.Incoming.{Broken, Request}
 use Rattle.fuse_session.specs.Handshake.{greeting, greeting_by_header, greeting_by_operation, greeting_by_version, offer_of, is_old, Greets}
 use Rattle.fuse_session.specs.Handshake.{NegotiationReply, Handshake, HandshakeEnd}
 use Rattle.fuse_session.specs.Handshake.HandshakeEnd.{Open, Accepted, Failed}
 use Rattle.fuse_session.specs.Exchange.{Setup, Outcome, EndedBy, Dialogue, Exchange, Unopened}
 use Rattle.fuse_session.specs.Complete.{AcceptsAll, GoodHeaders, HandshakeWell, IsInit, Opens, OpensAtLeast, OpensWell, SessionWell}
-use Rattle.fuse_workers.specs.Progress.{Progress}
+use Rattle.fuse_loop.specs.Progress.{Progress}
 use Rattle.fuse_session.specs.Session.{OpensNone}
 use Rattle.fuse_session.specs.declared.error.SessionError.TheVariants as session
 use Rattle.fuse_session.specs.declared.greeting.Greeting.{Greeting}

@@ -5,26 +5,26 @@ use Rattle.std.proofs.lemmas.List.{map-append}
 use Rattle.fuse_wire.specs.Source.{Takes, message, NothingLeft, Failed as SourceFailed}
 use Rattle.fuse_wire.proofs.Devices.{Takes-then}
 use Rattle.fuse_reply.specs.declared.out.Out.TheVariants.{Frame}
-use Rattle.fuse_workers.specs.Incoming.{Incoming, EndsAfter, EndsWell, AllGoOn, incoming}
-use Rattle.fuse_workers.specs.Incoming.Incoming.{Destroy}
+use Rattle.fuse_loop.specs.Incoming.{Incoming, EndsAfter, EndsWell, AllGoOn, incoming}
+use Rattle.fuse_loop.specs.Incoming.Incoming.{Destroy}
 use Rattle.fuse_workers.proofs.Accounts.{OneEachLater-none}
 use Rattle.fuse_session.specs.Accounted.{Accounted}
 use Rattle.fuse_dispatch.specs.Owed.{Owed}
 use Rattle.fuse_session.specs.Handshake.{HandshakeEnd}
 use Rattle.fuse_session.specs.HandshakeStep.{HandshakeRun}
-use Rattle.fuse_workers.specs.EventLoop.{Run, RunEnds}
+use Rattle.fuse_loop.specs.EventLoop.{Run, RunEnds}
 use Rattle.fuse_session.specs.Exchange.{Setup, Outcome, RunFollows, EndedBy, Exchange, Unopened}
 use Rattle.fuse_session.specs.SessionEnd.{handshake_error, run_outcome}
-use Rattle.fuse_workers.specs.Progress.{Progress}
+use Rattle.fuse_loop.specs.Progress.{Progress}
 use Rattle.fuse_session.specs.declared.error.SessionError.TheVariants.{NotConnected, Threads, Receive}
-use Rattle.fuse_workers.specs.declared.end.End.{End}
-use Rattle.fuse_workers.specs.declared.end.End.TheVariants.{Gone, Destroyed, Broken, Failed}
+use Rattle.fuse_loop.specs.declared.end.End.{End}
+use Rattle.fuse_loop.specs.declared.end.End.TheVariants.{Gone, Destroyed, Broken, Failed}
 use Rattle.fuse_session.specs.declared.greeting.HandshakeError.{HandshakeError}
 use Rattle.fuse_session.specs.declared.greeting.HandshakeError.TheVariants as refusal
 use Rattle.fuse_session.specs.declared.handshake.HandshakeOutcome.{HandshakeOutcome}
 use Rattle.fuse_session.specs.declared.handshake.HandshakeOutcome.TheVariants as outcome
-use Rattle.fuse_workers.proofs.Taking.{Begins-after, Failed-after}
-use Rattle.fuse_workers.proofs.Moving.{moves-then}
+use Rattle.fuse_loop.proofs.Taking.{Begins-after, Failed-after}
+use Rattle.fuse_loop.proofs.Moving.{moves-then}
 
 -- messages after which the run goes on, and then others
 pub EndsWell-after : (xs ys : List (List ℕ)) (none_left : Type 0) → AllGoOn xs → EndsWell ys none_left → EndsWell (xs ++ ys) none_left

@@ -15,8 +15,8 @@ use Rattle.fuse_dispatch.specs.Promise.{MayInit}
 use Rattle.fuse_session.specs.Handshake.{greeting, Greets, Negotiates, HandshakeEnd, Handshake}
 use Rattle.fuse_session.specs.Handshake.HandshakeEnd.{Open, Failed}
 use Rattle.fuse_session.specs.HandshakeStep.{HandshakeRun, HandshakeOn, HandshakeEnds, end_of}
-use Rattle.fuse_workers.specs.Progress.{Progress, ChannelState, TakesNext, Moves, DeliversOnce, SinkUntouched, LeavesOut}
-use Rattle.fuse_workers.specs.declared.taken.Taken.TheVariants.{Message, Gone as NoneLeft, Failed as NoneCame}
+use Rattle.fuse_loop.specs.Progress.{Progress, ChannelState, TakesNext, Moves, DeliversOnce, SinkUntouched, LeavesOut}
+use Rattle.fuse_loop.specs.declared.taken.Taken.TheVariants.{Message, Gone as NoneLeft, Failed as NoneCame}
 use Rattle.fuse_session.specs.declared.greeting.Greeting.{Greeting}
 use Rattle.fuse_session.specs.declared.greeting.Greeting.TheVariants.{Silent, Newer, Offered}
 use Rattle.fuse_session.specs.declared.greeting.Offer.{Offer}
@@ -25,8 +25,8 @@ use Rattle.fuse_session.specs.declared.greeting.HandshakeError.TheVariants.{Inva
 use Rattle.fuse_session.specs.declared.error.InvalidData.{InvalidData as Invalid}
 use Rattle.fuse_session.specs.declared.handshake.HandshakeOutcome.{HandshakeOutcome}
 use Rattle.fuse_session.specs.declared.handshake.HandshakeOutcome.TheVariants as outcome
-use Rattle.fuse_workers.proofs.Taking.{Begins-none, Begins-from_takes, Begins-after, Failed-after}
-use Rattle.fuse_workers.proofs.Moving.{LeavesOut-append, Moves-none, Moves-received, Moves-then, moves-then, Handed-frame, took, lost}
+use Rattle.fuse_loop.proofs.Taking.{Begins-none, Begins-from_takes, Begins-after, Failed-after}
+use Rattle.fuse_loop.proofs.Moving.{LeavesOut-append, Moves-none, Moves-received, Moves-then, moves-then, Handed-frame, took, lost}
 
 -- one stretch of a handshake, and then another
 moves-then_frames : {fs gs : List (List ℕ)} {p q r : Progress} (xs ys js ls : List (List ℕ))

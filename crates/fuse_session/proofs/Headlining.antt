@@ -7,7 +7,7 @@ use Rattle.fuse_wire.specs.Source.{Takes, message, NothingLeft, Failed as Source
 use Rattle.fuse_wire.specs.Sink.{Note}
 use Rattle.fuse_reply.specs.declared.out.Out.{Out}
 use Rattle.fuse_reply.specs.declared.out.Out.TheVariants.{Frame}
-use Rattle.fuse_workers.specs.Incoming.{IsBroken, EndsWell}
+use Rattle.fuse_loop.specs.Incoming.{IsBroken, EndsWell}
 use Rattle.fuse_dispatch.specs.Owed.{Owed}
 use Rattle.fuse_core.specs.OneEach.{OneEach, UpToOrder}
 use Rattle.fuse_workers.specs.OneEachLater.{OneEachLater}
@@ -16,10 +16,10 @@ use Rattle.fuse_session.specs.Handshake.HandshakeEnd.{Accepted}
 use Rattle.fuse_session.specs.Accounted.{Accounted, NeverLater}
 use Rattle.fuse_session.specs.Headline.{Account, EndedWell, Headline, LaterHeadline, Lossless}
 use Rattle.fuse_session.specs.Exchange.{Setup, Dialogue, Exchange}
-use Rattle.fuse_workers.specs.Progress.{Progress, Moves, LeavesOut, but_unrecorded, is_notice, nothing_yet}
-use Rattle.fuse_workers.specs.declared.transcript.Transcript.{Transcript}
-use Rattle.fuse_workers.proofs.ItemLists.{Splits, Splits-map, filter-shorter}
-use Rattle.fuse_workers.proofs.Quieting.{LeavesOut-none, refused-none}
+use Rattle.fuse_loop.specs.Progress.{Progress, Moves, LeavesOut, but_unrecorded, is_notice, nothing_yet}
+use Rattle.fuse_loop.specs.declared.transcript.Transcript.{Transcript}
+use Rattle.fuse_loop.proofs.ItemLists.{Splits, Splits-map, filter-shorter}
+use Rattle.fuse_loop.proofs.Quieting.{LeavesOut-none, refused-none}
 
 -- Nothing was lost where the sink's count did not rise, or the transcript says so.
 lossless : {received : ℕ} {sent : List (List ℕ)} {notes : List Note} {lost : List Out} {p q : Progress} → Moves received sent notes lost p q

@@ -5,7 +5,7 @@ use Rattle.fuse_config.specs.declared.config.Config.{Config}
 use Rattle.fuse_config.specs.declared.mount_option.MountOption.{MountOption}
 use Rattle.fuse_config.proofs.ConflictLaws.{FirstConflict-once}
 use Rattle.fuse_session.specs.Exchange.{Outcome, Setup, Exchange}
-use Rattle.fuse_workers.specs.Progress.{Progress}
+use Rattle.fuse_loop.specs.Progress.{Progress}
 use Rattle.fuse_session.specs.Refused.{NotBegun, OfOptions, OptionsWell, RefusedAs, Untouched, is_auto_unmount}
 use Rattle.fuse_session.specs.declared.error.SessionError.{SessionError}
 use Rattle.fuse_session.specs.declared.error.SessionError.TheVariants.{Conflict, AutoUnmount, CloneFd, Memory}

@@ -6,25 +6,25 @@ use Rattle.fuse_wire.specs.Source.{SourceState, message}
 use Rattle.fuse_wire.specs.Sink.{SinkState}
 use Rattle.fuse_session.specs.Accounted.{Accounted, ManyThreads, NeverLater}
 use Rattle.fuse_session.specs.Complete.{GoodHeaders, RunWell, Unfailing}
-use Rattle.fuse_workers.specs.EventLoop.{Run}
+use Rattle.fuse_loop.specs.EventLoop.{Run}
 use Rattle.fuse_session.specs.Exchange.{Closed, Exchange, Mounted, Outcome, Setup, Unopened, setup_of}
 use Rattle.fuse_session.specs.Headline.{Headline, LaterHeadline, Lossless}
 use Rattle.fuse_dispatch.specs.Owed.{Owed}
 use Rattle.fuse_core.specs.OneEach.{Accounting, InOrder, Owing, UpToOrder}
 use Rattle.fuse_workers.specs.OneEachLater.{NoneHeldBack}
-use Rattle.fuse_workers.specs.Progress.{Progress, nothing_yet, progress}
+use Rattle.fuse_loop.specs.Progress.{Progress, nothing_yet, progress}
 use Rattle.fuse_dispatch.specs.Promise.{Promise}
 use Rattle.fuse_session.specs.Session.{Ends, EndsRun, IsOpened, Opened, OpensNone, Ran, setup_for}
 use Rattle.fuse_session.specs.SessionEnd.{handshake_error, run_outcome}
 use Rattle.fuse_session.specs.declared.error.SessionError.TheVariants.{Threads}
-use Rattle.fuse_workers.specs.declared.end.End.{End}
-use Rattle.fuse_workers.specs.declared.end.End.TheVariants.{Gone, Destroyed, Broken, Failed}
+use Rattle.fuse_loop.specs.declared.end.End.{End}
+use Rattle.fuse_loop.specs.declared.end.End.TheVariants.{Gone, Destroyed, Broken, Failed}
 use Rattle.fuse_config.specs.declared.session_acl.SessionACL.{SessionACL}
 use Rattle.fuse_session.specs.declared.greeting.HandshakeError.{HandshakeError}
 use Rattle.fuse_session.specs.declared.greeting.HandshakeError.TheVariants as refusal
-use Rattle.fuse_workers.specs.declared.transcript.Transcript.{Transcript}
-use Rattle.fuse_workers.specs.Incoming.{IsBroken}
-use Rattle.fuse_workers.proofs.Order.{OneEach-from_order}
+use Rattle.fuse_loop.specs.declared.transcript.Transcript.{Transcript}
+use Rattle.fuse_loop.specs.Incoming.{IsBroken}
+use Rattle.fuse_loop.proofs.Order.{OneEach-from_order}
 use Rattle.fuse_reply.specs.declared.out.Out.{Out}
 use Rattle.fuse_reply.specs.declared.out.Out.TheVariants.{Deferred}
 use Rattle.fuse_reply.specs.Late.{LateSeen}

@@ -2,7 +2,7 @@
 use Rattle.std.specs.Prelude.{◌≡◌, ◌<◌, ℕ, Bool, false, List, Option, None, Some}
 use Rattle.fuse_wire.specs.Sink.{Note}
 use Rattle.fuse_reply.specs.declared.out.Out.{Out}
-use Rattle.fuse_workers.specs.Incoming.{IsBroken}
+use Rattle.fuse_loop.specs.Incoming.{IsBroken}
 use Rattle.fuse_core.specs.OneEach.{InOrder, Owing, UpToOrder}
 use Rattle.fuse_workers.specs.OneEachLater.{OneEachLater}
 

@@ -9,8 +9,8 @@ use Rattle.fuse_request.specs.Operation.{operation}
 use Rattle.fuse_request.specs.Operation.Op.{Init}
 use Rattle.fuse_request.specs.declared.any_request.Header.{Header}
 use Rattle.fuse_request.specs.declared.request.Request.{Request}
-use Rattle.fuse_workers.specs.Incoming.{incoming}
-use Rattle.fuse_workers.specs.Incoming.Incoming.{Destroy, Request as IsRequest}
+use Rattle.fuse_loop.specs.Incoming.{incoming}
+use Rattle.fuse_loop.specs.Incoming.Incoming.{Destroy, Request as IsRequest}
 use Rattle.fuse_dispatch.specs.Promise.{MayInit}
 use Rattle.fuse_session.specs.Session.{Opened}
 

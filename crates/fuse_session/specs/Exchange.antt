@@ -9,17 +9,17 @@ use Rattle.fuse_reply.specs.declared.out.Out.{Out}
 use Rattle.fuse_reply.specs.declared.out.Out.TheVariants.{Frame}
 use Rattle.fuse_session.specs.Accounted.{Accounted}
 use Rattle.fuse_dispatch.specs.Promise.{Promise}
-use Rattle.fuse_workers.specs.Incoming.{AllGoOn, EndsWell, HeaderRefused}
+use Rattle.fuse_loop.specs.Incoming.{AllGoOn, EndsWell, HeaderRefused}
 use Rattle.fuse_dispatch.specs.Owed.{Owed}
 use Rattle.fuse_session.specs.Handshake.{HandshakeEnd, Handshake}
 use Rattle.fuse_session.specs.Handshake.HandshakeEnd.{Open, Accepted, Failed}
-use Rattle.fuse_workers.specs.Progress.{Progress, Moves, Begins, LeavesOut, nothing_yet, progress}
+use Rattle.fuse_loop.specs.Progress.{Progress, Moves, Begins, LeavesOut, nothing_yet, progress}
 use Rattle.fuse_session.specs.declared.error.InvalidData.TheVariants.{Header}
 use Rattle.fuse_session.specs.declared.error.SessionError.{SessionError}
 use Rattle.fuse_session.specs.declared.error.SessionError.TheVariants.{Conflict, AutoUnmount, CloneFd, Memory}
 use Rattle.fuse_session.specs.declared.error.SessionError.TheVariants.{NotConnected, InvalidData, Unsupported, Init, Threads, Receive}
 use Rattle.fuse_session.specs.declared.greeting.HandshakeError.TheVariants as refusal
-use Rattle.fuse_workers.specs.declared.transcript.Transcript.{Transcript}
+use Rattle.fuse_loop.specs.declared.transcript.Transcript.{Transcript}
 
 -- what a session is set up with
 pub record Setup (F : Type 0) : Type 1 where

@@ -5,7 +5,7 @@ use Rattle.fuse_reply.specs.declared.out.Out.TheVariants.{Frame}
 use Rattle.fuse_dispatch.specs.Promise.{MayInit}
 use Rattle.fuse_session.specs.Handshake.{HandshakeEnd, Handshake}
 use Rattle.fuse_session.specs.Handshake.HandshakeEnd.{Open, Accepted, Failed as IsFailed}
-use Rattle.fuse_workers.specs.Progress.{Progress, Moves, Begins, LeavesOut}
+use Rattle.fuse_loop.specs.Progress.{Progress, Moves, Begins, LeavesOut}
 use Rattle.fuse_session.specs.declared.greeting.HandshakeError.{HandshakeError}
 use Rattle.fuse_session.specs.declared.handshake.HandshakeOutcome.{HandshakeOutcome}
 use Rattle.fuse_session.specs.declared.handshake.HandshakeOutcome.TheVariants as outcome

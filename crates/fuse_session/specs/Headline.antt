@@ -4,15 +4,15 @@ use Rattle.std.specs.List.{AllByRecursion}
 use Rattle.fuse_wire.specs.Source.{SourceState, Takes, message, NothingLeft}
 use Rattle.fuse_wire.specs.Sink.{SinkState, Note, Appends}
 use Rattle.fuse_config.specs.declared.session_acl.SessionACL.{SessionACL}
-use Rattle.fuse_workers.specs.Incoming.{IsBroken, EndsWell}
+use Rattle.fuse_loop.specs.Incoming.{IsBroken, EndsWell}
 use Rattle.fuse_dispatch.specs.Owed.{Owed}
 use Rattle.fuse_core.specs.OneEach.{OneEach}
 use Rattle.fuse_workers.specs.OneEachLater.{OneEachLater}
 use Rattle.fuse_dispatch.specs.Promise.{Promise}
 use Rattle.fuse_session.specs.Handshake.{Handshake}
 use Rattle.fuse_session.specs.Handshake.HandshakeEnd.{Accepted}
-use Rattle.fuse_workers.specs.Progress.{Quiet, replies, NoticeOrReply}
-use Rattle.fuse_workers.specs.declared.transcript.Transcript.{Transcript}
+use Rattle.fuse_loop.specs.Progress.{Quiet, replies, NoticeOrReply}
+use Rattle.fuse_loop.specs.declared.transcript.Transcript.{Transcript}
 
 -- nothing was lost: the sink shows it, or the transcript
 abbrev pub Lossless : SinkState → SinkState → Transcript → Type 0

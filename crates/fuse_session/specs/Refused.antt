@@ -8,8 +8,8 @@ use Rattle.fuse_config.specs.declared.mount_option.MountOption.TheVariants as op
 use Rattle.fuse_config.specs.declared.session_acl.SessionACL.TheVariants.{Owner}
 use Rattle.fuse_session.specs.Accounted.{ManyThreads}
 use Rattle.fuse_session.specs.Exchange.{Outcome}
-use Rattle.fuse_workers.specs.Progress.{nothing_yet}
-use Rattle.fuse_workers.specs.Lines.{IsUnused}
+use Rattle.fuse_loop.specs.Progress.{nothing_yet}
+use Rattle.fuse_loop.specs.Lines.{IsUnused}
 use Rattle.fuse_notify.specs.Queueing.{fresh_door}
 use Rattle.fuse_session.specs.declared.options.SessionMemory.{SessionMemory}
 use Rattle.fuse_session.specs.declared.ended.Ended.{Ended}

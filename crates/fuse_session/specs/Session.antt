@@ -5,19 +5,19 @@ use Rattle.fuse_wire.specs.Source.{SourceState}
 use Rattle.fuse_wire.specs.Sink.{SinkState}
 use Rattle.fuse_config.specs.declared.session_acl.SessionACL.{SessionACL}
 use Rattle.fuse_request.specs.declared.error.RequestError.{RequestError}
-use Rattle.fuse_workers.specs.EventLoop.{Run}
+use Rattle.fuse_loop.specs.EventLoop.{Run}
 use Rattle.fuse_session.specs.Accounted.{Accounted, NeverLater}
 use Rattle.fuse_session.specs.Exchange.{Outcome, Setup, setup_of}
 use Rattle.fuse_session.specs.HandshakeStep.{HandshakeRun}
 use Rattle.fuse_dispatch.specs.Owed.{Owed}
-use Rattle.fuse_workers.specs.Progress.{Progress, nothing_yet, progress}
+use Rattle.fuse_loop.specs.Progress.{Progress, nothing_yet, progress}
 use Rattle.fuse_dispatch.specs.Promise.{Promise}
 use Rattle.fuse_session.specs.SessionEnd.{run_outcome}
 use Rattle.fuse_session.specs.declared.error.InvalidData.TheVariants.{Header}
 use Rattle.fuse_session.specs.declared.error.SessionError.TheVariants.{NotConnected, InvalidData, Unsupported, Init, Threads, Receive}
-use Rattle.fuse_workers.specs.declared.end.End.{End}
+use Rattle.fuse_loop.specs.declared.end.End.{End}
 use Rattle.fuse_session.specs.declared.handshake.HandshakeOutcome.TheVariants.{Accepted}
-use Rattle.fuse_workers.specs.declared.transcript.Transcript.{Transcript}
+use Rattle.fuse_loop.specs.declared.transcript.Transcript.{Transcript}
 
 -- what a contract sees of a session: the filesystem after the handshake, who is served and by how many threads, how far it is, and
 -- the line of notices that it sends

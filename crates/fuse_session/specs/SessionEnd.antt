@@ -4,8 +4,8 @@ use Rattle.fuse_session.specs.Exchange.{Outcome}
 use Rattle.fuse_session.specs.declared.error.InvalidData.TheVariants.{Header}
 use Rattle.fuse_session.specs.declared.error.SessionError.{SessionError}
 use Rattle.fuse_session.specs.declared.error.SessionError.TheVariants.{InvalidData, Unsupported, Init, Receive}
-use Rattle.fuse_workers.specs.declared.end.End.{End}
-use Rattle.fuse_workers.specs.declared.end.End.TheVariants.{Gone, Destroyed, Broken, Failed}
+use Rattle.fuse_loop.specs.declared.end.End.{End}
+use Rattle.fuse_loop.specs.declared.end.End.TheVariants.{Gone, Destroyed, Broken, Failed}
 use Rattle.fuse_session.specs.declared.greeting.HandshakeError.{HandshakeError}
 use Rattle.fuse_session.specs.declared.greeting.HandshakeError.TheVariants as refusal
 

@@ -1,10 +1,10 @@
 // How a session ended.
 ghost use Rattle.std.specs.Prelude.{◌≡◌};
-ghost use Rattle.fuse_workers.specs.Progress.{nothing_yet};
+ghost use Rattle.fuse_loop.specs.Progress.{nothing_yet};
 ghost use Rattle.fuse_session.specs.SessionEnd.{run_outcome};
 
 use crate::{Filesystem, InvalidData, SessionError, Transcript};
-use fuse_workers::End;
+use fuse_loop::End;
 
 /// How a session ended. It hands back all that the session was given.
 #[derive(Debug, Drop)]

@@ -8,10 +8,10 @@ use crate::greeting::{Greeting, HandshakeError, Offer};
 use crate::{Filesystem, InvalidData};
 use fuse_config::{KernelConfig, version_reply};
 use fuse_dispatch::refusal;
+use fuse_loop::{Channel, Taken};
 use fuse_reply::{Out, ReplyData};
 use fuse_request::Request;
 use fuse_wire::{Errno, RequestId, Sink, Source};
-use fuse_workers::{Channel, Taken};
 use std::alloc::Global;
 use std::sync::Wait;
 

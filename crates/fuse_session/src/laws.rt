@@ -1,7 +1,7 @@
 //! Laws of the definitions. Each function here does nothing, or gives a default: its contract is the law, which holds
 //! of all values.
 ghost use Rattle.std.specs.Prelude.{◌≡◌};
-ghost use Rattle.fuse_workers.specs.Progress.{nothing_yet};
+ghost use Rattle.fuse_loop.specs.Progress.{nothing_yet};
 ghost use Rattle.fuse_wire.specs.Numbered.{SaysSame};
 
 use crate::{InvalidData, SessionError, Transcript};

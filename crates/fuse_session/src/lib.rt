@@ -22,7 +22,7 @@ pub use background::{BackgroundSession, SpawnError, spawn_mount};
 pub use ended::Ended;
 pub use error::{InvalidData, SessionError};
 pub use fuse_dispatch::{Filesystem, Verdict, defaults, verdict};
-pub use fuse_workers::Transcript;
+pub use fuse_loop::Transcript;
 pub use inline_spawner::InlineSpawner;
 pub use running::Running;
 pub use session::{Session, mount};

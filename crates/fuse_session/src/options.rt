@@ -6,9 +6,9 @@ ghost use Rattle.fuse_session.specs.Refused.{ClonesDevice, IsTaken, NotBegun, Op
 
 use crate::SessionError;
 use fuse_config::{Config, Conflict, MountOption, SessionACL, check_option_conflicts};
+use fuse_loop::Buffers;
 use fuse_notify::Notifier;
 use fuse_wire::NoMemory;
-use fuse_workers::Buffers;
 use std::alloc::Global;
 
 /// The memory of a session: that of its run, and what makes its notifiers where it runs in the background.

@@ -3,16 +3,17 @@ ghost use Rattle.std.specs.Prelude.{◌≡◌, ℕ, List, [], Some};
 ghost use Rattle.fuse_session.specs.Accounted.{Accounted, NeverLater};
 ghost use Rattle.fuse_dispatch.specs.Owed.{Owed};
 ghost use Rattle.fuse_session.specs.Session.{Ends, Ran};
-ghost use Rattle.fuse_workers.specs.EventLoop.{Run};
-ghost use Rattle.fuse_workers.specs.Lines.{IsUnused, unasked_of};
-ghost use Rattle.fuse_workers.specs.Progress.{nothing_yet, progress};
+ghost use Rattle.fuse_loop.specs.EventLoop.{Run};
+ghost use Rattle.fuse_loop.specs.Lines.{IsUnused, unasked_of};
+ghost use Rattle.fuse_loop.specs.Progress.{nothing_yet, progress};
 
 use crate::ended::{destroyed, run_outcome};
 use crate::options::several;
 use crate::{Ended, Filesystem, SessionError, Transcript};
 use fuse_dispatch::{Asking, Service, Shared};
+use fuse_loop::{Buffers, Channel, Lines, RunEnd, run_inline};
 use fuse_wire::{Sink, Source};
-use fuse_workers::{Buffers, Channel, Lines, RunEnd, run_inline, run_workers};
+use fuse_workers::run_workers;
 use std::alloc::AllocGlobal;
 use std::marker::Model;
 use std::sync::Wait;
@@ -28,7 +29,7 @@ pub(crate) struct Runnable<FS, S: Source, K: Sink> {
 }
 
 impl<FS, S: Source, K: Sink> Model for Runnable<FS, S, K> {
-    ghost use Rattle.fuse_workers.specs.Lines.{IsUnused};
+    ghost use Rattle.fuse_loop.specs.Lines.{IsUnused};
     ghost use Rattle.fuse_session.specs.Session.{Opened};
 
     ghost Value = { Opened FS };

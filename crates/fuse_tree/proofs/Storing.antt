@@ -11,7 +11,7 @@ use Rattle.fuse_wire.specs.declared.sink.Sending.TheVariants.{Sent}
 use Rattle.fuse_wire.proofs.Frames.{frames-concat}
 use Rattle.fuse_wire.proofs.NumberLaws.{number-append}
 use Rattle.fuse_reply.specs.Frame.{is_set_aside}
-use Rattle.fuse_workers.specs.Progress.{replies}
+use Rattle.fuse_loop.specs.Progress.{replies}
 use Rattle.fuse_tree.specs.Store.{IsStored, SendsStored, Stored, is_error, stored_told}
 
 All-one_more : {A : Type 0} (P : A → Type 0) (xs : List A) (x : A) → AllByRecursion P xs → P x → AllByRecursion P (xs ++ x ∷ [])

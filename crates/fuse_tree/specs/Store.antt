@@ -12,7 +12,7 @@ use Rattle.fuse_wire.specs.declared.sink.Noting.{Noting}
 use Rattle.fuse_wire.specs.declared.sink.Noting.TheVariants.{Sent as Noted, Failed as Unnoted}
 use Rattle.fuse_wire.specs.declared.sink.Sending.{Sending}
 use Rattle.fuse_wire.specs.declared.sink.Sending.TheVariants.{Sent, Absent, Failed as Unsent}
-use Rattle.fuse_workers.specs.Progress.{replies}
+use Rattle.fuse_loop.specs.Progress.{replies}
 use Rattle.fuse_tree.specs.declared.summary.Summary.{Summary}
 
 -- a frame whose status, the 4 bytes after its length, is negative in two's complement

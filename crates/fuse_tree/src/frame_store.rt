@@ -2,7 +2,7 @@
 ghost use Rattle.std.specs.Prelude.{◌≡◌, ◌+◌, ◌++◌, ◌∷◌, ◌&&◌, ◌^◌, [], length, nat_lt, OnOk, OnErr};
 ghost use Rattle.fuse_wire.specs.Numbers.{number};
 ghost use Rattle.fuse_wire.specs.Sink.{Notes, Sends};
-ghost use Rattle.fuse_workers.specs.Progress.{replies};
+ghost use Rattle.fuse_loop.specs.Progress.{replies};
 ghost use Rattle.fuse_tree.specs.Store.{NotesStored, SendsStored, stored_told, summary_of};
 
 use crate::summary::Summary;

@@ -11,9 +11,9 @@ use Rattle.fuse_core.specs.Marks.{late_tag}
 use Rattle.fuse_core.specs.Matched.{Matched, Tag}
 use Rattle.fuse_core.specs.OneEach.{OneEach, Owing, UpToOrder}
 use Rattle.fuse_workers.specs.OneEachLater.{OneEachLater}
-use Rattle.fuse_workers.specs.Progress.{LeavesOut}
+use Rattle.fuse_loop.specs.Progress.{LeavesOut}
 use Rattle.fuse_workers.specs.Relays.{late_out}
-use Rattle.fuse_workers.proofs.Quieting.{LeavesOut-none}
+use Rattle.fuse_loop.proofs.Quieting.{LeavesOut-none}
 
 -- where nothing is left out, all is kept
 LeavesOut-all : {A : Type 0} (xs : List A) → LeavesOut [] xs xs

@@ -8,15 +8,15 @@ use Rattle.fuse_wire.specs.declared.newtypes.RequestId.{RequestId}
 use Rattle.fuse_request.specs.Header.{header}
 use Rattle.fuse_request.specs.declared.error.RequestError.{RequestError}
 use Rattle.fuse_workers.specs.Hearing.{HearsLast, HearsOn, StopsWith}
-use Rattle.fuse_workers.specs.Incoming.{id_of, incoming}
-use Rattle.fuse_workers.specs.Incoming.Incoming.{Destroy as IsDestroy, Request}
+use Rattle.fuse_loop.specs.Incoming.{id_of, incoming}
+use Rattle.fuse_loop.specs.Incoming.Incoming.{Destroy as IsDestroy, Request}
 use Rattle.fuse_core.specs.OneEach.{number_of}
-use Rattle.fuse_workers.specs.Progress.{IntakeState, Receives}
+use Rattle.fuse_loop.specs.Progress.{IntakeState, Receives}
 use Rattle.fuse_workers.specs.declared.caller.Stopped.{Stopped}
 use Rattle.fuse_workers.specs.declared.caller.Stopped.TheVariants.{Gone, Destroy, Broken, Failed}
-use Rattle.fuse_workers.specs.declared.taken.Taken.TheVariants.{Message, Gone as NoneLeft, Failed as NoneCame}
-use Rattle.fuse_workers.proofs.ItemLists.{All-append}
-use Rattle.fuse_workers.proofs.Taking.{Begins-none, Begins-from_takes, Begins-after, Failed-after}
+use Rattle.fuse_loop.specs.declared.taken.Taken.TheVariants.{Message, Gone as NoneLeft, Failed as NoneCame}
+use Rattle.fuse_loop.proofs.ItemLists.{All-append}
+use Rattle.fuse_loop.proofs.Taking.{Begins-none, Begins-from_takes, Begins-after, Failed-after}
 
 -- nothing was taken yet
 pub HearsOn-none : (a : IntakeState) → HearsOn [] a a

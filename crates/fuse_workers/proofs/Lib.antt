@@ -1,12 +1,4 @@
-pub mod ItemLists
-pub mod Taking
-pub mod Moving
-pub mod Quieting
 pub mod Accounts
-mod FrameLines
-pub mod Order
-mod LoopSteps
-pub mod Adding
 mod Places
 mod Pairing
 mod Working

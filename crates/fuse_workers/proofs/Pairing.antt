@@ -16,7 +16,7 @@ use Rattle.fuse_reply.specs.declared.parcel.Parcel.{Parcel}
 use Rattle.fuse_reply.specs.declared.parcel.Parcel.TheVariants.{Prompt, Notice, Late}
 use Rattle.fuse_core.specs.OneEach.{OneEach, Owing, number_of}
 use Rattle.fuse_workers.specs.Pairing.{InTurn, Pairs, Parts, numbered, outs_of}
-use Rattle.fuse_workers.specs.Progress.{IsPrompt}
+use Rattle.fuse_loop.specs.Progress.{IsPrompt}
 use Rattle.fuse_workers.specs.Threads.{Answers}
 use Rattle.fuse_workers.proofs.Places.{Without, Without-at, Without-first, Without-length, Without-under, found}
 

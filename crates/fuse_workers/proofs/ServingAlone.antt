@@ -15,13 +15,13 @@ use Rattle.fuse_reply.specs.declared.parcel.Parcel.TheVariants.{Prompt}
 use Rattle.fuse_workers.specs.Alone.{AnswersLast, ServesAlone, TurnAlone}
 use Rattle.fuse_workers.specs.Conducting.{AnsweredBy, answered_last}
 use Rattle.fuse_workers.specs.Hearing.{HearsLast, HearsOn}
-use Rattle.fuse_workers.specs.Lines.{lates_in, notices_in}
+use Rattle.fuse_loop.specs.Lines.{lates_in, notices_in}
 use Rattle.fuse_core.specs.OneEach.{Owing, number_of}
 use Rattle.fuse_workers.specs.Pairing.{Pairs, numbered, outs_of}
-use Rattle.fuse_workers.specs.Progress.{IntakeState, RelayState}
-use Rattle.fuse_workers.specs.Relays.{Relays}
+use Rattle.fuse_loop.specs.Progress.{IntakeState}
+use Rattle.fuse_workers.specs.Relays.{RelayState, Relays}
 use Rattle.fuse_workers.specs.declared.caller.Stopped.{Stopped}
-use Rattle.fuse_workers.proofs.FrameLines.{notices-append}
+use Rattle.fuse_loop.proofs.FrameLines.{notices-append}
 use Rattle.fuse_workers.proofs.Hearing.{HearsLast-after, HearsOn-none, HearsOn-then}
 use Rattle.fuse_workers.proofs.Pairing.{Pairs-append, Pairs-one, numbered-more, outs_of-append, outs_of-filtered}
 use Rattle.fuse_workers.proofs.Relaying.{Relays-none, Relays-out, Relays-then, lates-append}

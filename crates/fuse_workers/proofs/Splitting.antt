@@ -6,7 +6,7 @@ use Rattle.fuse_reply.specs.declared.out.Out.{Out}
 use Rattle.fuse_reply.specs.declared.out.Out.TheVariants.{Frame, Note, Deferred}
 use Rattle.fuse_core.specs.Matched.{Tag}
 use Rattle.fuse_workers.specs.Pairing.{Parts}
-use Rattle.fuse_workers.specs.Progress.{LeavesOut}
+use Rattle.fuse_loop.specs.Progress.{LeavesOut}
 use Rattle.fuse_workers.specs.Relays.{late_out}
 use Rattle.fuse_workers.proofs.Relaying.{gone_out}
 

@@ -5,10 +5,10 @@ use Rattle.fuse_reply.specs.declared.parcel.Parcel.{Parcel}
 use Rattle.fuse_reply.specs.declared.parcel.Parcel.TheVariants.{Prompt}
 use Rattle.fuse_workers.specs.Conducting.{HandsOn, answered_last}
 use Rattle.fuse_workers.specs.Hearing.{HearsLast, HearsOn}
-use Rattle.fuse_workers.specs.Lines.{lates_in, notices_in}
+use Rattle.fuse_loop.specs.Lines.{lates_in, notices_in}
 use Rattle.fuse_core.specs.OneEach.{Owing, number_of}
-use Rattle.fuse_workers.specs.Progress.{IntakeState, RelayState}
-use Rattle.fuse_workers.specs.Relays.{SendsOut}
+use Rattle.fuse_loop.specs.Progress.{IntakeState}
+use Rattle.fuse_workers.specs.Relays.{RelayState, SendsOut}
 use Rattle.fuse_workers.specs.declared.caller.Stopped.{Stopped}
 
 -- what goes out for the last message, of this number, was handed on, where it is answered; else nothing was

@@ -7,11 +7,11 @@ use Rattle.fuse_reply.specs.Parcel.{is_prompt}
 use Rattle.fuse_reply.specs.declared.out.Out.{Out}
 use Rattle.fuse_reply.specs.declared.parcel.Parcel.{Parcel}
 use Rattle.fuse_workers.specs.Hearing.{Hears}
-use Rattle.fuse_workers.specs.Lines.{lates_in, notices_in}
+use Rattle.fuse_loop.specs.Lines.{lates_in, notices_in}
 use Rattle.fuse_core.specs.OneEach.{Owing}
 use Rattle.fuse_workers.specs.Pairing.{Pairs, numbered, outs_of}
-use Rattle.fuse_workers.specs.Progress.{IntakeState, RelayState}
-use Rattle.fuse_workers.specs.Relays.{Relays}
+use Rattle.fuse_loop.specs.Progress.{IntakeState}
+use Rattle.fuse_workers.specs.Relays.{RelayState, Relays}
 use Rattle.fuse_workers.specs.declared.caller.Stopped.{Stopped}
 use Rattle.fuse_workers.specs.declared.caller.Stopped.TheVariants.{Gone, Destroy, Broken, Failed}
 use Rattle.fuse_core.specs.declared.state.Job.{Job}

@@ -1,16 +1,16 @@
 -- What whoever takes messages for workers has taken, and why no more are.
 use Rattle.std.specs.Prelude.{◌≡◌, ◌≢◌, ◌+◌, ◌++◌, ℕ, List, [], ◌∷◌, Option, None, Some, length, map}
 use Rattle.fuse_wire.specs.Source.{Takes, message, NothingLeft, Failed as SourceFailed}
-use Rattle.fuse_workers.specs.Incoming.{AllGoOn, HeaderRefused, id_of, incoming}
-use Rattle.fuse_workers.specs.Incoming.Incoming.{Destroy as IsDestroy}
+use Rattle.fuse_loop.specs.Incoming.{AllGoOn, HeaderRefused, id_of, incoming}
+use Rattle.fuse_loop.specs.Incoming.Incoming.{Destroy as IsDestroy}
 use Rattle.fuse_core.specs.OneEach.{Owing, number_of}
 use Rattle.fuse_workers.specs.Threads.{IsCaller}
 use Rattle.fuse_core.specs.declared.state.Job.{Job}
-use Rattle.fuse_workers.specs.declared.end.End.{End}
-use Rattle.fuse_workers.specs.declared.end.End.TheVariants as end
+use Rattle.fuse_loop.specs.declared.end.End.{End}
+use Rattle.fuse_loop.specs.declared.end.End.TheVariants as end
 use Rattle.fuse_line.specs.declared.hand.Hand.{Hand}
 use Rattle.fuse_reply.specs.declared.parcel.Parcel.{Parcel}
-use Rattle.fuse_workers.specs.Progress.{Begins, IntakeState}
+use Rattle.fuse_loop.specs.Progress.{Begins, IntakeState}
 use Rattle.fuse_workers.specs.declared.caller.Stopped.{Stopped}
 use Rattle.fuse_workers.specs.declared.caller.Stopped.TheVariants.{Gone, Destroy, Broken, Failed}
 

@@ -1,9 +1,3 @@
-pub mod Incoming
-pub mod Answering
-pub mod Arrives
-pub mod Lines
-pub mod Progress
-pub mod EventLoop
 pub mod Pairing
 pub mod Threads
 pub mod Relays

@@ -2,7 +2,7 @@
 use Rattle.std.specs.Prelude.{◌≡◌}
 use Rattle.atomic_table.specs.Seated.{TableId}
 use Rattle.fuse_reply.specs.EndMark.{MarkSeen}
-use Rattle.fuse_workers.specs.Lines.{LinesState}
+use Rattle.fuse_loop.specs.Lines.{LinesState}
 use Rattle.fuse_workers.specs.declared.caller.Caller.{Caller}
 use Rattle.fuse_workers.specs.declared.threads.Serves.{Serves}
 

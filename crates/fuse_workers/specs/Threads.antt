@@ -1,24 +1,14 @@
 -- What the threads know of the line of jobs and of the line of frames, by what their passes pushed and took: that a worker answered
 -- each job that it took, and that each message was pushed as a job or answered by the caller itself.
-use Rattle.std.specs.Prelude.{◌≡◌, ◌++◌, ℕ, Bool, false, List, [], map}
+use Rattle.std.specs.Prelude.{◌≡◌, ◌++◌, ℕ, List, [], map}
 use Rattle.std.specs.List.Sorted.{IsPermutation}
 use Rattle.fuse_line.specs.declared.hand.Hand.{Hand}
 use Rattle.fuse_line.specs.declared.hand.Kind.TheVariants.{First, Inner}
 use Rattle.fuse_reply.specs.declared.parcel.Parcel.{Parcel}
 use Rattle.fuse_reply.specs.declared.parcel.Parcel.TheVariants.{Prompt, Notice, Late}
 use Rattle.fuse_core.specs.declared.state.Job.{Job}
-use Rattle.fuse_workers.specs.Incoming.{IsBroken}
 use Rattle.fuse_core.specs.OneEach.{Owing}
-use Rattle.fuse_workers.specs.Progress.{IsPrompt}
 use Rattle.fuse_workers.specs.Pairing.{InTurn, Pairs, numbered}
-
--- a message with its number, as a job
-abbrev pub job_of : (seq : ℕ) → (m : List ℕ) → Job
-job_of seq m = record { seq = seq; message = m }
-
--- what is owed, to a message whose header is good, and goes out at once where no reply comes later
-abbrev pub answering : Owing → (defers : Bool) → Owing
-answering owed defers seq m out = owed seq m out × (defers ≡ false → IsPrompt out) × ¬ (IsBroken m)
 
 -- a job's number and message
 abbrev pub pair_of : Job → ℕ × List ℕ

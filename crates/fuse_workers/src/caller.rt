@@ -3,18 +3,15 @@ ghost use Rattle.std.specs.Prelude.{◌≡◌, ◌++◌, ◌∷◌, ℕ, List, [
 ghost use Rattle.fuse_line.specs.Hand.{with_put};
 ghost use Rattle.fuse_line.specs.declared.hand.Kind.TheVariants.{First};
 ghost use Rattle.fuse_line.specs.Tells.{IsSettled};
-ghost use Rattle.fuse_workers.specs.Answering.{IsRequest};
+ghost use Rattle.fuse_loop.specs.Answering.{IsRequest, answering, job_of};
 ghost use Rattle.fuse_workers.specs.Hearing.{Hears, TurnHeard, end_of};
 ghost use Rattle.fuse_core.specs.OneEach.{number_of};
 ghost use Rattle.fuse_workers.specs.Promises.{CallerOn};
-ghost use Rattle.fuse_workers.specs.Threads.{IsCaller, answering, job_of};
+ghost use Rattle.fuse_workers.specs.Threads.{IsCaller};
 
-use crate::answerer::Answerer;
-use crate::intake::Intake;
-use crate::request_job::RequestJob;
 use crate::worker::answer_job;
-use crate::{End, Incoming, Taken, Work};
 use fuse_line::{Line, Pass};
+use fuse_loop::{Answerer, End, Incoming, Intake, RequestJob, Taken, Work};
 use fuse_reply::Parcel;
 use fuse_request::RequestError;
 use fuse_wire::{NoMemory, RequestId, Source};

@@ -2,11 +2,11 @@
 //! contracts are the laws.
 ghost use Rattle.fuse_core.specs.Owing.{SendsOwed};
 
-use crate::Work;
 pub use fuse_core::laws::{
     each_late_frame_is_sent_or_has_no_mark, each_late_frame_that_is_sent_came,
     late_frames_go_to_different_marks, no_frame_is_held_with_an_unused_mark,
 };
+use fuse_loop::Work;
 
 /// From the state in which nothing has happened, events whose answers are owed lead only to states in which what was
 /// sent is owed to different messages, and so are the marks of replies that come later.

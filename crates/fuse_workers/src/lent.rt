@@ -3,10 +3,9 @@
 ghost use Rattle.std.specs.Prelude.{◌≡◌};
 
 use crate::caller::Caller;
-use crate::ending::Ending;
-use crate::intake::Intake;
 use crate::relay::Relay;
 use fuse_line::Pass;
+use fuse_loop::{Ending, Intake};
 use fuse_reply::Parcel;
 use fuse_wire::{Sink, Source};
 

@@ -1,10 +1,9 @@
 // The end that frames go out by, with the book of replies that come later.
 ghost use Rattle.std.specs.Prelude.{◌≡◌};
-ghost use Rattle.fuse_workers.specs.Progress.{relay_of};
-ghost use Rattle.fuse_workers.specs.Relays.{SendsLate, SendsOut, SendsParcel};
+ghost use Rattle.fuse_workers.specs.Relays.{SendsLate, SendsOut, SendsParcel, relay_of};
 
-use crate::outlet::Outlet;
 use fuse_core::Book;
+use fuse_loop::Outlet;
 use fuse_reply::{LateFrame, Out, Parcel};
 use fuse_wire::Sink;
 

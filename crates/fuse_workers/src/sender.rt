@@ -5,8 +5,7 @@ ghost use Rattle.fuse_line.specs.declared.hand.Kind.TheVariants.{First, Inner};
 ghost use Rattle.fuse_line.specs.Tells.{IsSettled};
 ghost use Rattle.fuse_reply.specs.Parcel.{is_prompt};
 ghost use Rattle.fuse_reply.specs.declared.parcel.Parcel.{Parcel as Goes};
-ghost use Rattle.fuse_workers.specs.Progress.{relay_of};
-ghost use Rattle.fuse_workers.specs.Relays.{IsRelayed, Relays};
+ghost use Rattle.fuse_workers.specs.Relays.{IsRelayed, Relays, relay_of};
 
 use crate::lent::LentRelay;
 use crate::relay::Relay;

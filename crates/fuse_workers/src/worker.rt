@@ -4,12 +4,11 @@ ghost use Rattle.fuse_line.specs.Hand.{hand};
 ghost use Rattle.fuse_line.specs.declared.hand.Kind.TheVariants.{Inner};
 ghost use Rattle.fuse_reply.specs.declared.out.Out.{Out as Goes};
 ghost use Rattle.fuse_reply.specs.declared.parcel.Parcel.TheVariants.{Prompt};
-ghost use Rattle.fuse_workers.specs.Threads.{IsServed, answering};
+ghost use Rattle.fuse_workers.specs.Threads.{IsServed};
+ghost use Rattle.fuse_loop.specs.Answering.{answering};
 
-use crate::Work;
-use crate::answerer::Answerer;
-use crate::request_job::RequestJob;
 use fuse_line::{Line, Pass};
+use fuse_loop::{Answerer, RequestJob, Work};
 use fuse_reply::Parcel;
 use std::sync::Wait;
 use std::sync::atomic::AtomicBool;

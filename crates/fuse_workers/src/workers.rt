@@ -10,32 +10,30 @@ ghost use Rattle.fuse_reply.specs.declared.parcel.Parcel.{Parcel as Goes};
 ghost use Rattle.fuse_workers.specs.Alone.{ServesAlone};
 ghost use Rattle.fuse_core.specs.Book.{EachWaiting, IsBookOf};
 ghost use Rattle.fuse_workers.specs.Conducting.{Conducts, answered_last};
-ghost use Rattle.fuse_workers.specs.EventLoop.{Run};
+ghost use Rattle.fuse_loop.specs.EventLoop.{Run};
 ghost use Rattle.fuse_workers.specs.Hearing.{Hears};
-ghost use Rattle.fuse_workers.specs.Incoming.{IsBroken};
-ghost use Rattle.fuse_workers.specs.Lines.{IsAlone, IsDrained, IsOn, IsUnused, ended_by, late_of, unasked_of};
+ghost use Rattle.fuse_loop.specs.Incoming.{IsBroken};
+ghost use Rattle.fuse_loop.specs.Lines.{IsAlone, IsDrained, IsOn, IsUnused, ended_by, late_of, unasked_of};
 ghost use Rattle.fuse_core.specs.OneEach.{UpToOrder};
 ghost use Rattle.fuse_workers.specs.OneEachLater.{NoneHeldBack};
-ghost use Rattle.fuse_workers.specs.Relays.{is_own};
+ghost use Rattle.fuse_workers.specs.Relays.{is_own, relay_of};
 ghost use Rattle.fuse_workers.specs.Promises.{CallerOn, lines_of};
-ghost use Rattle.fuse_workers.specs.Progress.{IntakeState, PassesOnAll, Quiet, nothing_yet, progress, relay_of};
-ghost use Rattle.fuse_workers.specs.Threads.{IsCaller, answering};
+ghost use Rattle.fuse_loop.specs.Progress.{IntakeState, PassesOnAll, Quiet, nothing_yet, progress};
+ghost use Rattle.fuse_workers.specs.Threads.{IsCaller};
+ghost use Rattle.fuse_loop.specs.Answering.{answering};
 
 use crate::alone::answer_in_turn_alone;
 use crate::caller::{Caller, Stopped, answer_rest, take_messages};
-use crate::ending::Ending;
-use crate::event_loop::destroyed;
-use crate::intake::Intake;
 use crate::lent::{LentEnds, LentRelay, take_back};
-use crate::outlet::Outlet;
 use crate::relay::Relay;
-use crate::request_job::RequestJob;
-use crate::run_line::RunLine;
 use crate::sender::send_rest;
 use crate::threads::{Worker, join_workers, start_sender, start_workers};
-use crate::{Buffers, End, Lines, RunEnd, Transcript, Work};
 use fuse_core::Book;
 use fuse_line::Line;
+use fuse_loop::{
+    Buffers, End, Ending, Intake, Lines, Outlet, RequestJob, RunEnd, RunLine, Transcript, Work,
+    destroyed,
+};
 use fuse_reply::Parcel;
 use fuse_wire::{NoMemory, Sink, Source};
 use std::alloc::Global;

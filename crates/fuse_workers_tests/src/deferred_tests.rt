@@ -1,6 +1,6 @@
 // Runs whose replies come later, by threads of the tests' own.
 ghost use Rattle.std.specs.Prelude.{None};
-ghost use Rattle.fuse_workers.specs.Lines.{IsUnused};
+ghost use Rattle.fuse_loop.specs.Lines.{IsUnused};
 
 use crate::asserts::{expect, expect_same, expect_same_in};
 use crate::deferring::{Deferring, Plan, Tally};

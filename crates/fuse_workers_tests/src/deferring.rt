@@ -5,7 +5,7 @@ ghost use Rattle.fuse_reply.specs.Answer.Answer.{Empty};
 ghost use Rattle.fuse_reply.specs.Frame.{reply};
 ghost use Rattle.fuse_reply.specs.Late.{IsFrameFor};
 ghost use Rattle.fuse_reply.specs.declared.out.Out.TheVariants.{Deferred, Frame};
-ghost use Rattle.fuse_workers.specs.Incoming.{id_of as id_in};
+ghost use Rattle.fuse_loop.specs.Incoming.{id_of as id_in};
 
 use crate::works::id_of;
 use fuse_notify::Notifier;

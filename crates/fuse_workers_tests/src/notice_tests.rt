@@ -1,6 +1,6 @@
 // Notices that a work queues while it answers.
 ghost use Rattle.std.specs.Prelude.{IfOk};
-ghost use Rattle.fuse_workers.specs.Lines.{IsUnused};
+ghost use Rattle.fuse_loop.specs.Lines.{IsUnused};
 
 use crate::asserts::{expect_same, expect_same_in};
 use crate::runs::{Said, counts, read_frames, run_on, taking, turns};

@@ -1,6 +1,6 @@
 // Runs over memory, on the thread of their caller and on workers, and what became of them.
 ghost use Rattle.std.specs.Prelude.{◌≡◌, ◌+◌, ◌≤◌, false, length};
-ghost use Rattle.fuse_workers.specs.Lines.{IsUnused};
+ghost use Rattle.fuse_loop.specs.Lines.{IsUnused};
 
 use crate::works::Counting;
 use fuse_request::opcode::FUSE_STATFS;

@@ -3,8 +3,8 @@ ghost use Rattle.std.specs.Prelude.{◌≡◌, false, refl};
 ghost use Rattle.fuse_reply.specs.Answer.Answer.{Empty};
 ghost use Rattle.fuse_reply.specs.Frame.{reply};
 ghost use Rattle.fuse_reply.specs.declared.out.Out.TheVariants.{Frame};
-ghost use Rattle.fuse_workers.specs.Answering.{IsRequest};
-ghost use Rattle.fuse_workers.specs.Incoming.{id_of as id_in};
+ghost use Rattle.fuse_loop.specs.Answering.{IsRequest};
+ghost use Rattle.fuse_loop.specs.Incoming.{id_of as id_in};
 
 use fuse_notify::Notifier;
 use fuse_reply::{Door, NoDoor, Out, ReplyEmpty};

@@ -9,7 +9,7 @@
 //! number or `inline`. COST is `sleep` or `steps`, of so many milliseconds or steps for each message.
 #![tactic(auto)]
 
-ghost use Rattle.fuse_workers.specs.Lines.{IsUnused};
+ghost use Rattle.fuse_loop.specs.Lines.{IsUnused};
 
 mod costly;
 mod devices;

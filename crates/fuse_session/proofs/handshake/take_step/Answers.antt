@@ -5,7 +5,7 @@ use Rattle.fuse_reply.specs.declared.out.Out.{Out}
 use Rattle.fuse_reply.specs.declared.out.Out.TheVariants.{Frame}
 use Rattle.fuse_session.specs.Handshake.{greeting}
 use Rattle.fuse_session.specs.HandshakeStep.{HandshakeRun}
-use Rattle.fuse_workers.specs.Progress.{DeliversOnce}
+use Rattle.fuse_loop.specs.Progress.{DeliversOnce}
 use Rattle.fuse_session.specs.declared.greeting.Greeting.TheVariants.{NotInit, Old}
 use Rattle.fuse_session.specs.declared.greeting.HandshakeError.{HandshakeError}
 use Rattle.fuse_session.specs.declared.greeting.HandshakeError.TheVariants.{InvalidData, Unsupported}

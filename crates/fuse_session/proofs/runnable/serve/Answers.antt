@@ -2,12 +2,12 @@
 use Rattle.std.proofs.Common.{◌≢◌, [], Some, inr, rules, subst, sym}
 use Rattle.fuse_session.specs.Accounted.{Accounted}
 use Rattle.fuse_dispatch.specs.Owed.{Owed}
-use Rattle.fuse_workers.specs.EventLoop.{Run}
-use Rattle.fuse_workers.specs.Lines.{unasked_of}
+use Rattle.fuse_loop.specs.EventLoop.{Run}
+use Rattle.fuse_loop.specs.Lines.{unasked_of}
 use Rattle.fuse_core.specs.OneEach.{Accounting}
-use Rattle.fuse_workers.specs.Progress.{progress}
-use Rattle.fuse_workers.specs.declared.transcript.Transcript.{Transcript}
-use Rattle.fuse_workers.proofs.Adding.{Run-added}
+use Rattle.fuse_loop.specs.Progress.{progress}
+use Rattle.fuse_loop.specs.declared.transcript.Transcript.{Transcript}
+use Rattle.fuse_loop.proofs.Adding.{Run-added}
 use Rattle.fuse_session.proofs.runnable.serve.Goals as goal
 
 pub returns-clause-ends : goal.returns-clause-ends

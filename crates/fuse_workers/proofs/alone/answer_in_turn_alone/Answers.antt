@@ -3,7 +3,7 @@ use Rattle.fuse_line.specs.Hand.{hand}
 use Rattle.fuse_line.specs.declared.hand.Kind.TheVariants.{First}
 use Rattle.fuse_reply.specs.declared.parcel.Parcel.{Parcel}
 use Rattle.fuse_workers.specs.Pairing.{outs_of}
-use Rattle.fuse_workers.specs.Progress.{relay_of}
+use Rattle.fuse_workers.specs.Relays.{relay_of}
 use Rattle.fuse_workers.proofs.ServingAlone.{ServesOn-last, ServesOn-next, ServesOn-none, alone-itself, alone-taken, alone-unprompted, outs-then}
 use Rattle.fuse_workers.proofs.alone.answer_in_turn_alone.Goals as goal
 

@@ -4,8 +4,8 @@ use Rattle.fuse_line.specs.declared.hand.Kind.TheVariants.{First}
 use Rattle.fuse_reply.specs.declared.parcel.Parcel.{Parcel}
 use Rattle.fuse_core.specs.OneEach.{number_of}
 use Rattle.fuse_workers.specs.Pairing.{outs_of}
-use Rattle.fuse_workers.specs.Progress.{relay_of}
-use Rattle.fuse_workers.specs.Threads.{answering}
+use Rattle.fuse_workers.specs.Relays.{relay_of}
+use Rattle.fuse_loop.specs.Answering.{answering}
 use Rattle.fuse_workers.proofs.ServingAlone.{ServesOn}
 use Rattle.fuse_workers.proofs.alone.answer_in_turn_alone.Given as goal
 

@@ -5,15 +5,14 @@ use Rattle.fuse_reply.specs.declared.out.Out.{Out}
 use Rattle.fuse_reply.specs.declared.out.Out.TheVariants.{Frame}
 use Rattle.fuse_request.specs.Header.{header}
 use Rattle.fuse_workers.specs.Alone.{AnswersLast}
-use Rattle.fuse_workers.specs.Answering.{IsRequest}
-use Rattle.fuse_workers.specs.Arrives.{Arrives}
-use Rattle.fuse_workers.specs.Incoming.{id_of}
+use Rattle.fuse_loop.specs.Answering.{IsRequest, answering}
+use Rattle.fuse_loop.specs.Arrives.{Arrives}
+use Rattle.fuse_loop.specs.Incoming.{id_of}
 use Rattle.fuse_core.specs.OneEach.{Owing}
-use Rattle.fuse_workers.specs.Progress.{relay_of}
-use Rattle.fuse_workers.specs.Threads.{answering}
-use Rattle.fuse_workers.specs.declared.incoming.Incoming.TheVariants as found
+use Rattle.fuse_workers.specs.Relays.{relay_of}
+use Rattle.fuse_loop.specs.declared.incoming.Incoming.TheVariants as found
 use Rattle.fuse_workers.proofs.Hearing.{HearsLast-broken, HearsLast-destroy, HearsLast-failed, HearsLast-gone, HearsOn-one}
-use Rattle.fuse_workers.proofs.LoopSteps.{destroy-not-broken, incoming-request}
+use Rattle.fuse_loop.proofs.LoopSteps.{destroy-not-broken, incoming-request}
 use Rattle.fuse_workers.proofs.alone.answer_next.Goals as goal
 
 pub returns-in-Gone-clause-turn : goal.returns-in-Gone-clause-turn

@@ -1,4 +1,4 @@
-use Rattle.fuse_workers.specs.Progress.{relay_of}
+use Rattle.fuse_workers.specs.Relays.{relay_of}
 use Rattle.fuse_workers.proofs.ServingAlone.{alone-hand}
 use Rattle.fuse_workers.proofs.alone.take_turn.Goals as goal
 

@@ -3,7 +3,8 @@ use Rattle.fuse_line.specs.Hand.{with_put, with_taken}
 use Rattle.fuse_line.specs.declared.hand.Hand.{Hand}
 use Rattle.fuse_reply.specs.declared.parcel.Parcel.{Parcel}
 use Rattle.fuse_core.specs.OneEach.{Owing}
-use Rattle.fuse_workers.specs.Threads.{IsCaller, answering}
+use Rattle.fuse_workers.specs.Threads.{IsCaller}
+use Rattle.fuse_loop.specs.Answering.{answering}
 use Rattle.fuse_core.specs.declared.state.Job.{Job}
 use Rattle.fuse_workers.proofs.Working.{Caller-rest}
 use Rattle.fuse_workers.proofs.caller.answer_rest.Goals as goal

@@ -1,6 +1,7 @@
 use Rattle.std.proofs.Common.{◌≡◌, ℕ, List}
 use Rattle.fuse_line.specs.declared.hand.Kind.TheVariants.{First}
-use Rattle.fuse_workers.specs.Threads.{IsCaller, answering}
+use Rattle.fuse_workers.specs.Threads.{IsCaller}
+use Rattle.fuse_loop.specs.Answering.{answering}
 use Rattle.fuse_workers.proofs.caller.answer_rest.Given as goal
 
 -- each job taken so far was answered

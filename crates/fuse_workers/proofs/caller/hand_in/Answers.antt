@@ -4,7 +4,8 @@ use Rattle.fuse_line.specs.declared.hand.Hand.{Hand}
 use Rattle.fuse_reply.specs.declared.parcel.Parcel.{Parcel}
 use Rattle.fuse_reply.specs.declared.parcel.Parcel.TheVariants.{Prompt}
 use Rattle.fuse_core.specs.OneEach.{Owing}
-use Rattle.fuse_workers.specs.Threads.{IsCaller, answering, job_of}
+use Rattle.fuse_workers.specs.Threads.{IsCaller}
+use Rattle.fuse_loop.specs.Answering.{answering, job_of}
 use Rattle.fuse_core.specs.declared.state.Job.{Job}
 use Rattle.fuse_workers.proofs.Working.{Caller-answered, Caller-pushed}
 use Rattle.fuse_workers.proofs.caller.hand_in.Goals as goal

@@ -1,7 +1,8 @@
 use Rattle.std.proofs.Common.{◌≡◌, ℕ, List, length}
 use Rattle.fuse_workers.specs.Hearing.{HearsOn}
 use Rattle.fuse_core.specs.OneEach.{number_of}
-use Rattle.fuse_workers.specs.Threads.{IsCaller, answering}
+use Rattle.fuse_workers.specs.Threads.{IsCaller}
+use Rattle.fuse_loop.specs.Answering.{answering}
 use Rattle.fuse_workers.proofs.caller.take_messages.Given as goal
 
 -- these requests were taken and handed in so far

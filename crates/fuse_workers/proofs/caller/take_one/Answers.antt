@@ -1,10 +1,10 @@
 use Rattle.std.proofs.Common.{◌≡◌, Err, List, ℕ, refl, subst, take}
 use Rattle.fuse_request.specs.Header.{header}
-use Rattle.fuse_workers.specs.Answering.{IsRequest}
-use Rattle.fuse_workers.specs.Arrives.{Arrives}
-use Rattle.fuse_workers.specs.declared.incoming.Incoming.TheVariants as found
+use Rattle.fuse_loop.specs.Answering.{IsRequest}
+use Rattle.fuse_loop.specs.Arrives.{Arrives}
+use Rattle.fuse_loop.specs.declared.incoming.Incoming.TheVariants as found
 use Rattle.fuse_workers.proofs.Hearing.{HearsLast-broken, HearsLast-destroy, HearsLast-failed, HearsLast-gone, HearsOn-one}
-use Rattle.fuse_workers.proofs.LoopSteps.{incoming-request}
+use Rattle.fuse_loop.proofs.LoopSteps.{incoming-request}
 use Rattle.fuse_workers.proofs.caller.take_one.Goals as goal
 
 pub returns-in-Gone-clause-turn : goal.returns-in-Gone-clause-turn

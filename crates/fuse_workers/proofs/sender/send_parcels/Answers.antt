@@ -1,8 +1,7 @@
 use Rattle.std.proofs.Common.{subst, sym}
 use Rattle.fuse_line.specs.declared.hand.Hand.{Hand}
 use Rattle.fuse_reply.specs.declared.parcel.Parcel.{Parcel}
-use Rattle.fuse_workers.specs.Progress.{relay_of}
-use Rattle.fuse_workers.specs.Relays.{IsRelayed}
+use Rattle.fuse_workers.specs.Relays.{IsRelayed, relay_of}
 use Rattle.fuse_workers.proofs.Relaying.{IsRelayed-next, IsRelayed-none}
 use Rattle.fuse_workers.proofs.sender.send_parcels.Goals as goal
 

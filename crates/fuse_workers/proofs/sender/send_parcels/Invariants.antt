@@ -1,6 +1,5 @@
 use Rattle.std.proofs.Common.{◌≡◌}
-use Rattle.fuse_workers.specs.Progress.{relay_of}
-use Rattle.fuse_workers.specs.Relays.{IsRelayed}
+use Rattle.fuse_workers.specs.Relays.{IsRelayed, relay_of}
 use Rattle.fuse_workers.proofs.sender.send_parcels.Given as goal
 
 -- each parcel taken so far went to the sink

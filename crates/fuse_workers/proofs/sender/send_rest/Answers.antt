@@ -4,7 +4,7 @@ use Rattle.fuse_line.specs.declared.hand.Hand.{Hand}
 use Rattle.fuse_line.specs.declared.hand.Kind.{Kind}
 use Rattle.fuse_line.specs.declared.hand.Kind.TheVariants.{First}
 use Rattle.fuse_reply.specs.declared.parcel.Parcel.{Parcel}
-use Rattle.fuse_workers.specs.Progress.{relay_of}
+use Rattle.fuse_workers.specs.Relays.{relay_of}
 use Rattle.fuse_workers.proofs.Relaying.{Relays-none, Relays-one, Relays-then}
 use Rattle.fuse_workers.proofs.sender.send_rest.Goals as goal
 

@@ -2,8 +2,7 @@ use Rattle.std.proofs.Common.{◌≡◌, ◌++◌, List}
 use Rattle.fuse_line.specs.Hand.{hand}
 use Rattle.fuse_line.specs.declared.hand.Kind.TheVariants.{First}
 use Rattle.fuse_reply.specs.declared.parcel.Parcel.{Parcel}
-use Rattle.fuse_workers.specs.Progress.{relay_of}
-use Rattle.fuse_workers.specs.Relays.{Relays}
+use Rattle.fuse_workers.specs.Relays.{Relays, relay_of}
 use Rattle.fuse_workers.proofs.sender.send_rest.Given as goal
 
 -- each parcel taken so far went to the sink

@@ -1,7 +1,7 @@
 use Rattle.std.proofs.Common.{ℕ, List, ap, subst}
 use Rattle.fuse_reply.specs.declared.parcel.Parcel.TheVariants.{Prompt}
 use Rattle.fuse_core.specs.OneEach.{Owing}
-use Rattle.fuse_workers.specs.Threads.{answering}
+use Rattle.fuse_loop.specs.Answering.{answering}
 use Rattle.fuse_workers.proofs.worker.answer_job.Goals as goal
 
 pub returns-clause-answered : goal.returns-clause-answered

@@ -1,5 +1,6 @@
 use Rattle.std.proofs.Common.{◌≡◌}
-use Rattle.fuse_workers.specs.Threads.{IsServed, answering}
+use Rattle.fuse_workers.specs.Threads.{IsServed}
+use Rattle.fuse_loop.specs.Answering.{answering}
 use Rattle.fuse_workers.proofs.worker.answer_jobs.Given as goal
 
 -- each job taken so far was answered

@@ -10,11 +10,12 @@ use Rattle.fuse_reply.specs.declared.parcel.Parcel.TheVariants.{Prompt}
 use Rattle.fuse_wire.specs.Source.{NothingLeft, Failed as SourceFailed}
 use Rattle.fuse_workers.specs.Conducting.{answered_last}
 use Rattle.fuse_workers.specs.Hearing.{StopsWith}
-use Rattle.fuse_workers.specs.Incoming.{id_of}
+use Rattle.fuse_loop.specs.Incoming.{id_of}
 use Rattle.fuse_workers.specs.declared.caller.Stopped.{Stopped}
 use Rattle.fuse_core.specs.OneEach.{Owing, number_of}
-use Rattle.fuse_workers.specs.Threads.{IsCaller, answering}
-use Rattle.fuse_workers.proofs.LoopSteps.{destroy-not-broken}
+use Rattle.fuse_workers.specs.Threads.{IsCaller}
+use Rattle.fuse_loop.specs.Answering.{answering}
+use Rattle.fuse_loop.proofs.LoopSteps.{destroy-not-broken}
 use Rattle.fuse_workers.proofs.Working.{Caller-answered}
 use Rattle.fuse_workers.proofs.workers.answer_last.Goals as goal
 

@@ -1,4 +1,4 @@
-use Rattle.fuse_workers.proofs.Quieting.{PassesOnAll-quiet}
+use Rattle.fuse_loop.proofs.Quieting.{PassesOnAll-quiet}
 use Rattle.fuse_workers.proofs.workers.run_workers.Goals as goal
 
 pub returns-clause-notices : goal.returns-clause-notices

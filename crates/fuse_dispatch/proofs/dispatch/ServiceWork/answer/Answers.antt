@@ -1,7 +1,7 @@
 -- What a request came to without a door is owed.
 use Rattle.fuse_request.specs.Header.{header_fields, request_of}
 use Rattle.fuse_reply.specs.declared.door.NoDoor.TheVariants.{Shut}
-use Rattle.fuse_workers.specs.Incoming.{id_of}
+use Rattle.fuse_loop.specs.Incoming.{id_of}
 use Rattle.fuse_dispatch.specs.Verdict.{verdict}
 use Rattle.fuse_dispatch.proofs.Deferring.{owed-at-once}
 use Rattle.fuse_dispatch.proofs.dispatch.ServiceWork.answer.Goals as goal

@@ -1,7 +1,7 @@
 -- What a request came to by a door is owed, since the handler owes each call a reply that comes later.
 use Rattle.std.proofs.Common.{◌≡◌, true, rules}
 use Rattle.fuse_request.specs.Header.{header_fields, request_of}
-use Rattle.fuse_workers.specs.Incoming.{id_of}
+use Rattle.fuse_loop.specs.Incoming.{id_of}
 use Rattle.fuse_dispatch.specs.Verdict.{verdict}
 use Rattle.fuse_dispatch.proofs.Deferring.{owed-comes}
 use Rattle.fuse_dispatch.proofs.dispatch.SharedWork.answer.Goals as goal

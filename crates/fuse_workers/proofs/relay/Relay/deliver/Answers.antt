@@ -2,8 +2,7 @@ use Rattle.std.proofs.Common.{subst, sym}
 use Rattle.fuse_reply.specs.Late.{LateSeen}
 use Rattle.fuse_reply.specs.declared.out.Out.{Out}
 use Rattle.fuse_core.specs.Matched.{Tag}
-use Rattle.fuse_workers.specs.Progress.{relay_of}
-use Rattle.fuse_workers.specs.Relays.{SendsOut, TakesMark, is_own}
+use Rattle.fuse_workers.specs.Relays.{SendsOut, TakesMark, is_own, relay_of}
 use Rattle.fuse_core.specs.declared.book.Book.{Book}
 use Rattle.fuse_workers.proofs.relay.Relay.deliver.Goals as goal
 

@@ -2,8 +2,7 @@ use Rattle.std.proofs.Common.{◌≡◌, Option, subst, sym}
 use Rattle.fuse_reply.specs.Late.{LateSeen}
 use Rattle.fuse_reply.specs.declared.parcel.Parcel.{Parcel}
 use Rattle.fuse_core.specs.Marks.{late_tag}
-use Rattle.fuse_workers.specs.Progress.{relay_of}
-use Rattle.fuse_workers.specs.Relays.{SendsParcel, TakesLate}
+use Rattle.fuse_workers.specs.Relays.{SendsParcel, TakesLate, relay_of}
 use Rattle.fuse_core.specs.declared.book.Book.{Book}
 use Rattle.fuse_workers.proofs.Relaying.{TakesLate-by}
 use Rattle.fuse_workers.proofs.relay.Relay.deliver_parcel.Goals as goal
