@@ -3,34 +3,29 @@
 #![tactic(auto)]
 
 ghost use Rattle.std.specs.Prelude.{◌≡◌, ◌↔◌, map};
-ghost use Rattle.fuse_serve.specs.Form.{IsNoForm};
-ghost use Rattle.fuse_serve.specs.Status.{IsExit};
+ghost use Rattle.fuse_program.specs.Form.{IsNoForm};
+ghost use Rattle.fuse_program.specs.Status.{IsExit};
 
-mod arguments;
+#[cfg(test)]
+mod arguments_tests;
 #[cfg(test)]
 mod asserts;
 #[cfg(test)]
 mod fault_tests;
 #[cfg(test)]
 mod generator_tests;
-mod laws;
-mod load;
 #[cfg(test)]
 mod load_tests;
-mod program;
 #[cfg(test)]
 mod runs;
-mod status;
 #[cfg(test)]
 mod tests;
 #[cfg(test)]
 mod tree_tests;
 
-use arguments::serve_form;
+use fuse_program::{failure_status, serve, serve_form};
 use fuse_session::SessionError;
 use fuse_wire::{StdSink, StdSource};
-use program::serve;
-use status::failure_status;
 use std::alloc::{AllocError, Global};
 use std::io::{BufReader, Read, Write};
 use std::process::ExitCode;

@@ -1,0 +1,120 @@
+-- What the program reads and writes where its words are a form: a session over the bytes of its input and output.
+use Rattle.std.specs.Prelude.{◌≡◌, ◌≢◌, ◌⊎◌, ◌<◌, ◌++◌, ℕ, Bool, true, false, not, List, [], ◌∷◌, Some, IfSome, Err, length, filter}
+use Rattle.std.specs.List.{concat, AllByRecursion}
+use Rattle.std.specs.Option.{MatchOption}
+use Rattle.fuse_wire.specs.Faults.{last_count, Rose}
+use Rattle.fuse_wire.specs.Cut.{cut}
+use Rattle.fuse_wire.specs.Frames.{frames}
+use Rattle.fuse_wire.specs.Sink.{Note as Noted, IsTornFrom}
+use Rattle.fuse_wire.specs.ByteSource.{ByteSourceState, TakesBytes, NoByteLeft, Failed}
+use Rattle.fuse_wire.specs.ByteSink.{ByteSinkState, PutsBytes}
+use Rattle.fuse_wire.specs.StreamSink.{IsTorn}
+use Rattle.fuse_reply.specs.declared.out.Out.{Out}
+use Rattle.fuse_reply.specs.declared.out.Out.TheVariants.{Frame, Note, Deferred}
+use Rattle.fuse_loop.specs.Incoming.{IsBroken, EndsWell}
+use Rattle.fuse_dispatch.specs.Owed.{Owed}
+use Rattle.fuse_core.specs.OneEach.{OneEach}
+use Rattle.fuse_session.specs.Complete.{OpensWell}
+use Rattle.fuse_session.specs.Exchange.{Setup, Outcome, Dialogue, setup_of}
+use Rattle.fuse_session.specs.Handshake.{Handshake}
+use Rattle.fuse_session.specs.Handshake.HandshakeEnd.{Accepted}
+use Rattle.fuse_loop.specs.Progress.{replies, is_notice, NoticeOrReply}
+use Rattle.fuse_session.specs.declared.error.SessionError.TheVariants.{Init, Receive}
+use Rattle.fuse_program.specs.Status.{status}
+use Rattle.fuse_tree.specs.Tree.{tree_promise}
+use Rattle.fuse_tree.specs.declared.hello.Hello.{Hello}
+use Rattle.fuse_program.specs.declared.arguments.ServeForm.{ServeForm}
+
+-- what a form sets a session up with: the tree, and what its words say
+abbrev pub form_setup : ServeForm → Setup Hello
+form_setup form = setup_of tree_promise form.page (Some form.threads) form.acl form.owner
+
+-- the count did not rise, and does not stand at its last value
+abbrev pub Still : (before after : ℕ) → Type 0
+Still before after = (after ≡ before) × (after < last_count)
+
+-- these messages are the first of those that the bytes at the start are cut into
+abbrev pub Fronts : (messages : List (List ℕ)) → ByteSourceState → Type 0
+Fronts messages input = IfSome input.bytes (λ bytes. (later : List (List ℕ)) × (cut bytes ≡ messages ++ later))
+
+-- The bytes put at the end of the output are these frames, joined, and at most a part of one more. They split into these frames again.
+pub record WritesFrames (written : List (List ℕ)) (torn : List ℕ) (output output' : ByteSinkState) : Type 0 where
+  pub joined : PutsBytes (concat written ++ torn) output output'
+  pub split : IfSome output.bytes (λ held. frames (concat written ++ torn) ≡ written)
+  pub part : ∥ IsTorn torn ∥₁
+
+-- a write failed exactly where a frame was refused, and these bytes are torn from the first such frame
+abbrev pub TornFromFirst : (refused : List Out) → (broken : Bool) → (torn : List ℕ) → Type 0
+TornFromFirst [] broken torn = (broken ≡ false) × (torn ≡ [])
+TornFromFirst (Frame f ∷ refused) broken torn = (broken ≡ true) × IsTornFrom f torn
+TornFromFirst (Note id mark ∷ refused) broken torn = TornFromFirst refused broken torn
+TornFromFirst (Deferred seq id ∷ refused) broken torn = TornFromFirst refused broken torn
+
+-- With status 0 each message read has its one reply.
+pub record EachAnswered (form : ServeForm) (input input' : ByteSourceState) (output output' : ByteSinkState) : Type 0 where
+  pub tree : Hello
+  pub tree1 : Hello
+  -- the messages of the handshake, and the later ones
+  pub hs : List (List ℕ)
+  pub ls : List (List ℕ)
+  -- the handshake's replies, and the later ones
+  pub handshake_replies : List (List ℕ)
+  pub later_replies : List (List ℕ)
+  pub appended : List (List ℕ)
+  pub notes : List Noted
+  -- the messages are the first of the input, and the bytes read are these, joined
+  pub front : Fronts (hs ++ ls) input
+  pub read : TakesBytes (concat (hs ++ ls)) input input'
+  pub handshake : Handshake tree_promise.may_init form.page tree hs handshake_replies tree1 Accepted
+  -- the frames written are the handshake's replies and then the later ones, but for notices
+  pub written : WritesFrames appended [] output output'
+  pub replied : replies appended ≡ handshake_replies ++ later_replies
+  pub set_aside : AllByRecursion NoticeOrReply appended
+  pub one_each : OneEach (Owed tree_promise tree1 form.acl form.owner) IsBroken 0 ls later_replies notes [] 0
+  pub ended : EndsWell ls (NoByteLeft input')
+
+-- A session over the program's bytes, whose outcome gives its status.
+pub record ByteExchange (form : ServeForm) (exit : ℕ) (input input' : ByteSourceState) (output output' : ByteSinkState) : Type 0 where
+  pub tree : Hello
+  pub tree1 : Hello
+  pub tree' : Hello
+  pub outcome : Outcome
+  -- the messages taken, the replies and notes sent, and those lost; all frames written, and what stands after them of one more; and
+  -- all that was refused, with notices among it
+  pub messages : List (List ℕ)
+  pub sent : List (List ℕ)
+  pub notes : List Noted
+  pub lost : List Out
+  pub appended : List (List ℕ)
+  pub torn : List ℕ
+  pub refused : List Out
+  -- whether a write failed
+  pub broken : Bool
+  pub status_is : exit ≡ status outcome (length lost) broken
+  pub dialogue : Dialogue (form_setup form) tree tree1 outcome (NoByteLeft input') (Failed input input') messages sent notes lost
+  pub accepted : (e : ℕ) → outcome ≢ Err (Init e)
+  pub destroyed : tree_promise.may_destroy tree1 tree'
+  -- The messages are the first of the input, and the bytes read are these, joined; but where the input failed nothing is said of what
+  -- else was read.
+  pub front : Fronts messages input
+  pub read : outcome ≢ Err Receive → TakesBytes (concat messages) input input'
+  -- the frames written are the replies sent, and notices
+  pub written : WritesFrames appended torn output output'
+  pub replied : replies appended ≡ sent
+  pub set_aside : AllByRecursion NoticeOrReply appended
+  -- what was lost was refused
+  pub missed : filter (λ out. not (is_notice out)) refused ≡ lost
+  -- where the output tells its bytes, those torn are of the first frame that was refused; no others are
+  pub first_refused : MatchOption output.bytes (torn ≡ []) (λ held. TornFromFirst refused broken torn)
+  -- nothing is torn where no write failed, and what was refused or failed to be written was counted by the output
+  pub whole : broken ≡ false → torn ≡ []
+  pub counted : (0 < length refused) ⊎ (broken ≡ true) → Rose output.faults output'.faults
+
+-- The input tells bytes that are cut into messages that open well, some thread is to serve, and neither the input nor the output failed.
+pub record InputWell (form : ServeForm) (input input' : ByteSourceState) (output output' : ByteSinkState) : Type 0 where
+  pub bytes : List ℕ
+  pub told : input.bytes ≡ Some bytes
+  pub opens_well : OpensWell (cut bytes)
+  pub served : 0 < form.threads
+  pub input_still : Still input.faults input'.faults
+  pub output_still : Still output.faults output'.faults
