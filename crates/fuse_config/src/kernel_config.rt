@@ -13,6 +13,9 @@ use fuse_wire::{Duration, InitFlags, Version};
 use std::marker::Model;
 use std::mem;
 
+/// The bits of all capabilities that are named, but for `FUSE_INIT_EXT`.
+const KNOWN_WITHOUT_EXT: u64 = 0x7ff_bfff_ffff;
+
 /// How many requests the kernel may have waiting in the background, if nothing else is set.
 const DEFAULT_MAX_BACKGROUND: u16 = 16;
 
@@ -97,7 +100,7 @@ impl KernelConfig {
     pub fn capabilities(&self) -> InitFlags
         ensures { result.0 ≡ bit_and self.now.offered known_without_ext }
     {
-        InitFlags::from_bits_retain(self.offered.bits() & 0x7ff_bfff_ffff)
+        InitFlags::from_bits_retain(self.offered.bits() & KNOWN_WITHOUT_EXT)
     }
 
     /// The kernel's version.

@@ -10,7 +10,7 @@ use crate::copied::Copied;
 use crate::lists::{exchange, push, take_at, take_first};
 use crate::marks::{first_held, is_unused, tag_of, tag_of_late};
 use crate::{Event, Hand, Job, LINE_PLACES, Mark, SentOut, State};
-use fuse_reply::{LateFrame, NoticeFrame, Out, Parcel};
+use fuse_reply::{LateFrame, Out, Parcel};
 use fuse_request::AnyRequest;
 use fuse_wire::{Items, NoMemory, RequestId};
 use std::alloc::Global;

@@ -12,7 +12,6 @@ use fuse_wire::{
 use std::alloc::{AllocGlobal, Global};
 use std::process::Abort;
 use std::sync::Wait;
-use std::test::Fail;
 use std::thread::Threads;
 
 /// How many messages a run has before its last turn.

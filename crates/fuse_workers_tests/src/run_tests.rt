@@ -12,7 +12,6 @@ use fuse_workers::Transcript;
 use std::alloc::{AllocGlobal, Global};
 use std::process::Abort;
 use std::sync::Wait;
-use std::test::Fail;
 use std::thread::Threads;
 
 /// What becomes of so many messages and a last turn, and what the frames say of so many ids.

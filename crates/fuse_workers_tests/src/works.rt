@@ -11,7 +11,7 @@ use fuse_reply::{Door, NoDoor, Out, ReplyEmpty};
 use fuse_request::AnyRequest;
 use fuse_wire::{Errno, RequestId};
 use fuse_workers::Work;
-use std::alloc::{AllocGlobal, Global};
+use std::alloc::AllocGlobal;
 use std::sync::Wait;
 use std::sync::atomic::{AtomicU64, Ordering};
 use std::thread;
