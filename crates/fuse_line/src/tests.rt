@@ -1,13 +1,19 @@
-ghost use Rattle.std.specs.Prelude.{◌≡◌};
+ghost use Rattle.std.specs.Prelude.{◌≡◌, ◌<◌};
 ghost use Rattle.fuse_line.specs.declared.hand.Kind.TheVariants.{First, Inner};
 
 use crate::gate::Gate;
 use crate::*;
+use std::fmt::Debug;
+use std::process::Abort;
 use std::sync::Wait;
 use std::sync::atomic::{AtomicBool, Ordering};
-use std::test::*;
 use std::thread;
 use std::time::{Clock, Duration};
+
+/// The two are equal.
+fn expect_same<T: PartialEq + Debug>(rt: &impl Abort, found: &T, expected: &T) {
+    assert_eq!(rt; *found, *expected);
+}
 
 #[derive(Clone, Copy, Debug, PartialEq, Eq)]
 struct Item {
@@ -30,27 +36,35 @@ fn job(number: u64) -> Item {
     }
 }
 
+/// A line of so many places, and its first pass.
+fn line_of<A: AllocGlobal + Abort>(rt: &A, places: usize) -> (Line<Item>, Pass<Item>)
+    requires { 0 < places }
+    ensures { (result.1.line ≡ result.0) × (result.1.hand.kind ≡ First) }
+{
+    Line::new(rt.alloc(), places).expect(rt, "there is memory")
+}
+
 #[test]
-fn keeps_two_in_order_and_gives_back_the_third(rt: HostRuntime) -> Result<(), Fail> {
-    let (line, mut pass) = Line::new(rt.alloc(), 2)?;
+fn keeps_two_in_order_and_gives_back_the_third(rt: HostRuntime) {
+    let (line, mut pass) = line_of(&rt, 2);
     let pushed = [
         line.push(&rt, &mut pass, job(1)),
         line.push(&rt, &mut pass, job(2)),
         line.push(&rt, &mut pass, job(3)),
     ];
-    assert_eq!(rt; pushed, [Ok(()), Ok(()), Err(Full { item: job(3) })]);
+    let third = Full { item: job(3) };
+    expect_same(&rt, &pushed, &[Ok(()), Ok(()), Err(third)]);
     let popped = [
         line.pop(&rt, &mut pass),
         line.pop(&rt, &mut pass),
         line.pop(&rt, &mut pass),
     ];
-    assert_eq!(rt; popped, [Some(job(1)), Some(job(2)), None]);
-    Ok(())
+    expect_same(&rt, &popped, &[Some(job(1)), Some(job(2)), None]);
 }
 
 #[test]
-fn splits_passes_off_and_joins_them(rt: HostRuntime) -> Result<(), Fail> {
-    let (line, mut first) = Line::new(rt.alloc(), 2)?;
+fn splits_passes_off_and_joins_them(rt: HostRuntime) {
+    let (line, mut first) = line_of(&rt, 2);
     let mut inner = line.split(&mut first, false);
     let mut door = line.split(&mut first, true);
     let mut other = line.split(&mut door, true);
@@ -66,23 +80,17 @@ fn splits_passes_off_and_joins_them(rt: HostRuntime) -> Result<(), Fail> {
     let popped = line.pop(&rt, &mut inner);
     line.join(&mut first, inner);
     let left = [line.pop(&rt, &mut first), line.pop(&rt, &mut first)];
-    assert_eq!(rt;
-        (pushed, popped, left),
-        ([Ok(()), Ok(())], Some(note), [Some(job(8)), None])
-    );
-    Ok(())
+    expect_same(&rt, &pushed, &[Ok(()), Ok(())]);
+    expect_same(&rt, &(popped, left), &(Some(note), [Some(job(8)), None]));
 }
 
 #[test]
-fn keeps_two_in_order_and_gives_back_the_third_or_wants_memory(
-    rt: HostRuntime,
-) -> Result<(), Fail> {
+fn keeps_two_in_order_and_gives_back_the_third_or_wants_memory(rt: HostRuntime) {
     let Ok((line, mut pass)) = Line::new(rt.alloc(), 1) else {
-        return Ok(());
+        return;
     };
     let pushed = line.push(&rt, &mut pass, job(1));
-    assert_eq!(rt; pushed, Ok(()));
-    Ok(())
+    expect_same(&rt, &pushed, &Ok(()));
 }
 
 // Pushes the numbers below count, in order.
@@ -118,10 +126,10 @@ fn pop_in_order<R: Wait>(
 }
 
 #[test]
-fn moves_a_million_items_in_order_through_few_places(rt: HostRuntime) -> Result<(), Fail> {
+fn moves_a_million_items_in_order_through_few_places(rt: HostRuntime) {
     let count = 1_000_000;
     for places in [2, 64] {
-        let (line, mut pass) = Line::new(rt.alloc(), places)?;
+        let (line, mut pass) = line_of(&rt, places);
         let taker = line.split(&mut pass, false);
         let stop = AtomicBool::new(false);
         let ((), moved) = thread::join(
@@ -137,9 +145,8 @@ fn moves_a_million_items_in_order_through_few_places(rt: HostRuntime) -> Result<
                 requires { (taker.line ≡ line) × (taker.hand.kind ≡ Inner) }
             { pop_in_order(&rt, &line, taker, &stop) },
         );
-        assert_eq!(rt; moved, (count, count), "through {places} places");
+        expect_same(&rt, &(places, moved), &(places, (count, count)));
     }
-    Ok(())
 }
 
 // Whether a thread comes to wait at the gate within ten seconds.
@@ -168,8 +175,8 @@ fn sleeps_at<R: Clock>(rt: &R, gate: &Gate) -> bool {
 }
 
 #[test]
-fn a_pop_sleeps_until_an_item_comes(rt: HostRuntime) -> Result<(), Fail> {
-    let (line, mut pass) = Line::new(rt.alloc(), 1)?;
+fn a_pop_sleeps_until_an_item_comes(rt: HostRuntime) {
+    let (line, mut pass) = line_of(&rt, 1);
     let mut taker = line.split(&mut pass, false);
     let stop = AtomicBool::new(false);
     let (slept, found) = thread::join(
@@ -184,13 +191,12 @@ fn a_pop_sleeps_until_an_item_comes(rt: HostRuntime) -> Result<(), Fail> {
             requires { (taker.line ≡ line) × (taker.hand.kind ≡ Inner) }
         { line.pop_waiting(&rt, &mut taker, &stop) },
     );
-    assert_eq!(rt; (slept, found), ((true, Ok(())), Some(job(1))));
-    Ok(())
+    expect_same(&rt, &(slept, found), &((true, Ok(())), Some(job(1))));
 }
 
 #[test]
-fn a_push_sleeps_until_a_place_comes(rt: HostRuntime) -> Result<(), Fail> {
-    let (line, mut pass) = Line::new(rt.alloc(), 1)?;
+fn a_push_sleeps_until_a_place_comes(rt: HostRuntime) {
+    let (line, mut pass) = line_of(&rt, 1);
     let mut taker = line.split(&mut pass, false);
     let pushed = line.push(&rt, &mut pass, job(1));
     let (slept, ()) = thread::join(
@@ -205,13 +211,12 @@ fn a_push_sleeps_until_a_place_comes(rt: HostRuntime) -> Result<(), Fail> {
             requires { (pass.line ≡ line) × (pass.hand.kind ≡ First) }
         { line.push_waiting(&rt, &mut pass, job(2)) },
     );
-    assert_eq!(rt; (pushed, slept), (Ok(()), (true, Some(job(1)))));
-    Ok(())
+    expect_same(&rt, &(pushed, slept), &(Ok(()), (true, Some(job(1)))));
 }
 
 #[test]
-fn a_pop_sleeps_until_its_flag_is_up(rt: HostRuntime) -> Result<(), Fail> {
-    let (line, mut pass) = Line::new(rt.alloc(), 1)?;
+fn a_pop_sleeps_until_its_flag_is_up(rt: HostRuntime) {
+    let (line, mut pass) = line_of(&rt, 1);
     let mut taker = line.split(&mut pass, false);
     let stop = AtomicBool::new(false);
     let (slept, found): (bool, Option<Item>) = thread::join(
@@ -226,6 +231,5 @@ fn a_pop_sleeps_until_its_flag_is_up(rt: HostRuntime) -> Result<(), Fail> {
             requires { (taker.line ≡ line) × (taker.hand.kind ≡ Inner) }
         { line.pop_waiting(&rt, &mut taker, &stop) },
     );
-    assert_eq!(rt; (slept, found), (true, None));
-    Ok(())
+    expect_same(&rt, &(slept, found), &(true, None));
 }
