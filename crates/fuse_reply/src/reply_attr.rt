@@ -10,7 +10,6 @@ use crate::{Packed, Replied, Reply};
 use fuse_wire::{Duration, FileAttr};
 
 /// The kind of a reply that carries attributes.
-#[derive(Debug)]
 pub struct Attrs;
 
 /// The reply to a request that is answered by attributes.

@@ -8,7 +8,6 @@ ghost use Rattle.fuse_reply.specs.declared.out.Out.{Out};
 use crate::{Packed, Replied, Reply};
 
 /// The kind of a reply that carries a block of a device.
-#[derive(Debug)]
 pub struct Blocks;
 
 /// The reply to a request that asks where a block of a file lies.

@@ -13,7 +13,6 @@ use bitflags::Flags;
 use fuse_wire::{Duration, FileAttr, FileHandle, FopenFlags, Generation};
 
 /// The kind of a reply that carries a new file, opened.
-#[derive(Debug)]
 pub struct NewFiles;
 
 /// The reply to a request that makes a file and opens it.

@@ -13,7 +13,6 @@ use fuse_wire::Errno;
 use smallvec::SmallVec;
 
 /// The kind of a reply that carries bytes.
-#[derive(Debug)]
 pub struct Bytes;
 
 /// The reply to a request that is answered by bytes.

@@ -16,7 +16,6 @@ use crate::{EntryKind, Packed, Replied, ReplyListing};
 use fuse_wire::{FileType, INodeNo, NoMemory};
 
 /// The kind of a reply that carries entries of a directory.
-#[derive(Debug)]
 pub struct DirEntries;
 
 impl EntryKind for DirEntries {

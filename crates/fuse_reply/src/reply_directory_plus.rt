@@ -16,7 +16,6 @@ use crate::{EntryKind, Packed, Replied, ReplyListing};
 use fuse_wire::{Duration, FileAttr, Generation, INodeNo, NoMemory};
 
 /// The kind of a reply that carries entries of a directory, each with what a lookup answers.
-#[derive(Debug)]
 pub struct PlusEntries;
 
 impl EntryKind for PlusEntries {

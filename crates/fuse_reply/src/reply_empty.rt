@@ -7,7 +7,6 @@ ghost use Rattle.fuse_reply.specs.declared.out.Out.{Out};
 use crate::{Packed, Replied, Reply};
 
 /// The kind of a reply that carries nothing but its status.
-#[derive(Debug)]
 pub struct Nothing;
 
 /// The reply to a request that is answered by a status alone.

@@ -10,7 +10,6 @@ use crate::{Packed, Replied, Reply};
 use fuse_wire::{Duration, FileAttr, Generation};
 
 /// The kind of a reply that carries what a name leads to.
-#[derive(Debug)]
 pub struct Entries;
 
 /// The reply to a request that is answered by an inode under a name.

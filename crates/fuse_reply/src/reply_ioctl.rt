@@ -12,7 +12,6 @@ use crate::{Packed, Replied, Reply};
 use fuse_wire::{Errno, NoMemory};
 
 /// The kind of a reply that carries what an ioctl came to.
-#[derive(Debug)]
 pub struct IoctlResults;
 
 /// The reply to a request that is an ioctl.

@@ -9,7 +9,6 @@ use crate::payloads::lock_bytes;
 use crate::{Packed, Replied, Reply};
 
 /// The kind of a reply that carries a lock.
-#[derive(Debug)]
 pub struct Locks;
 
 /// The reply to a request that asks which lock stands in the way of one.

@@ -8,7 +8,6 @@ ghost use Rattle.fuse_reply.specs.declared.out.Out.{Out};
 use crate::{Packed, Replied, Reply};
 
 /// The kind of a reply that carries a place in a file.
-#[derive(Debug)]
 pub struct Offsets;
 
 /// The reply to a request that looks for contents or a hole of a file.

@@ -12,7 +12,6 @@ use bitflags::Flags;
 use fuse_wire::{FileHandle, FopenFlags};
 
 /// The kind of a reply that carries an open file.
-#[derive(Debug)]
 pub struct OpenFiles;
 
 /// The reply to a request that opens a file or a directory.

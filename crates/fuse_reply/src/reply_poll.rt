@@ -11,7 +11,6 @@ use bitflags::Flags;
 use fuse_wire::PollEvents;
 
 /// The kind of a reply that carries what a file is ready for.
-#[derive(Debug)]
 pub struct Events;
 
 /// The reply to a request that asks what a file is ready for.

@@ -9,7 +9,6 @@ use crate::payloads::{statfs_count_bytes, statfs_size_bytes};
 use crate::{Packed, Replied, Reply};
 
 /// The kind of a reply that carries how full a filesystem is.
-#[derive(Debug)]
 pub struct Fills;
 
 /// The reply to a request that asks how full the filesystem is.

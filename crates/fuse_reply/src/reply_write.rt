@@ -9,7 +9,6 @@ use crate::payloads::word_bytes;
 use crate::{Packed, Replied, Reply};
 
 /// The kind of a reply that carries how many bytes were written.
-#[derive(Debug)]
 pub struct ByteCounts;
 
 /// The reply to a request that writes, or copies from file to file.

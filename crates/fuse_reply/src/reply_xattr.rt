@@ -11,7 +11,6 @@ use crate::payloads::word_bytes;
 use crate::{Packed, Replied, Reply, ReplyData};
 
 /// The kind of a reply that carries an extended attribute, or its size.
-#[derive(Debug)]
 pub struct Xattrs;
 
 /// The reply to a request for an extended attribute, or for the names of all.
