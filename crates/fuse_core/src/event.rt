@@ -3,7 +3,7 @@ use fuse_reply::{LateFrame, NoticeFrame, Out};
 use fuse_wire::{Items, RequestId};
 
 /// One step of a run. A worker is named by the place of its hand, from 0.
-#[derive(Debug, Drop)]
+#[derive(Drop)]
 pub enum Event {
     /// A message is received, and becomes a job.
     Receive(Items<u8>),

@@ -11,7 +11,7 @@ use std::alloc::Global;
 pub const LINE_PLACES: usize = 64;
 
 /// A message that is to be answered.
-#[derive(Debug, Drop)]
+#[derive(Drop)]
 pub struct Job {
     /// The message's number.
     pub seq: u64,
@@ -20,7 +20,7 @@ pub struct Job {
 }
 
 /// What a worker has in hand.
-#[derive(Debug, Drop)]
+#[derive(Drop)]
 pub enum Hand {
     /// Nothing.
     Empty,
@@ -31,7 +31,7 @@ pub enum Hand {
 }
 
 /// What was sent for a message.
-#[derive(Debug, Drop)]
+#[derive(Drop)]
 pub struct SentOut {
     /// The message's number.
     pub seq: u64,
@@ -40,7 +40,7 @@ pub struct SentOut {
 }
 
 /// A message whose reply comes later.
-#[derive(Clone, Copy, Debug, PartialEq, Eq)]
+#[derive(Clone, Copy, PartialEq, Eq)]
 pub struct Mark {
     /// The message's number.
     pub seq: u64,
@@ -49,7 +49,7 @@ pub struct Mark {
 }
 
 /// What the steps of a run have come to, as plain lists.
-#[derive(Debug, Drop)]
+#[derive(Drop)]
 pub struct State {
     /// The messages received, in order. The place of each, from 0, is its number.
     pub received: Items<Items<u8>>,
