@@ -73,6 +73,7 @@ impl Answerer {
         requires { IsRequest message.now }
         ensures answered { answering (W.owed work.now) W.DEFERS seq message.now result }
         ensures line { self.new.notifier.line ≡ self.old.notifier.line }
+        ensures doors { self.new.doors ≡ self.old.doors }
     {
         let door = door_for::<W>(&mut self.doors, seq);
         work.answer(rt, &mut self.notifier, door, seq, message)
@@ -81,7 +82,13 @@ impl Answerer {
     /// What another thread answers with.
     pub fn again(&mut self) -> Result<Answerer, NoMemory>
         ensures same { self.new ≡ self.old }
-        ensures line { IfOk result (λ again. again.notifier.line ≡ self.old.notifier.line) }
+        ensures again { IfOk result (λ again. again ≡ record {
+          notifier = fresh_door self.old.notifier.line;
+          doors = record {
+            pass = fresh_door self.old.doors.pass.line;
+            mark = mark self.old.doors.mark.name self.old.doors.mark.known None;
+          };
+        }) }
     {
         let notifier = self.notifier.again()?;
         let doors = self.doors.again()?;
