@@ -12,7 +12,7 @@ use Rattle.fuse_core.specs.Matched.{Matched, Tag}
 use Rattle.fuse_core.specs.OneEach.{OneEach, Owing, UpToOrder}
 use Rattle.fuse_workers.specs.OneEachLater.{OneEachLater}
 use Rattle.fuse_loop.specs.Progress.{LeavesOut}
-use Rattle.fuse_workers.specs.Relays.{late_out}
+use Rattle.fuse_sender.specs.Relays.{late_out}
 use Rattle.fuse_loop.proofs.Quieting.{LeavesOut-none}
 
 -- where nothing is left out, all is kept

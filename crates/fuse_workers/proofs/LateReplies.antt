@@ -1,14 +1,14 @@
 -- What the book tells of the late frames that were let go, where each came under its own tag.
-use Rattle.std.proofs.Common.{◌≡◌, ◌⊎◌, ◌∙◌, ℕ, true, List, [], ◌∷◌, ap, inl, inr, map, refl, subst, sym, arith}
+use Rattle.std.proofs.Common.{◌≡◌, ◌⊎◌, ◌∙◌, true, List, [], ◌∷◌, ap, inl, inr, map, refl, subst, sym, arith}
 use Rattle.std.specs.List.{All, AllByRecursion, Contains}
 use Rattle.std.proofs.lemmas.List.Elements.{All-cons, All-head, All-tail, All-weaker}
 use Rattle.std.proofs.lemmas.Option.{none-some}
 use Rattle.fuse_reply.specs.Late.{LateSeen}
-use Rattle.fuse_core.specs.Book.{EachSent, IsBookOf, tags_of}
+use Rattle.fuse_core.specs.Book.{IsBookOf, tags_of}
 use Rattle.fuse_core.specs.Marks.{late_tag}
-use Rattle.fuse_core.specs.Matched.{HasUnused, Matched, Tag, times}
+use Rattle.fuse_core.specs.Matched.{HasUnused, Matched, Tag}
 use Rattle.fuse_workers.specs.OneEachLater.{EachLetGo}
-use Rattle.fuse_workers.specs.Relays.{IsLateReply, is_own, with_tag}
+use Rattle.fuse_sender.specs.Relays.{IsLateReply, is_own, with_tag}
 use Rattle.fuse_core.specs.declared.book.Book.{Book}
 use Rattle.fuse_core.proofs.Bookkeeping.{IsBookOf-matches, IsBookOf-sent, first_or_later, Contains-first, Contains-later}
 use Rattle.fuse_core.proofs.Matching.{same_is}

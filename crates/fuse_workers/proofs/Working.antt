@@ -1,6 +1,6 @@
 -- The steps of the workers and of the caller: what each leaves true of what they pushed and took.
 use Rattle.std.proofs.Common.{◌≡◌, ◌+◌, ℕ, true, List, [], ◌∷◌, ◌++◌, filter, length, map}
-use Rattle.std.proofs.Common.{sym, refl, ap, ◌∙◌, subst, append_assoc, append-nil, arith}
+use Rattle.std.proofs.Common.{sym, refl, ap, ◌∙◌, subst, append_assoc, append-nil}
 use Rattle.std.specs.List.Sorted.{IsPermutation}
 use Rattle.std.proofs.lemmas.List.Sorted.{IsPermutation-append_comm, IsPermutation-append_left, IsPermutation-append_right, IsPermutation-map}
 use Rattle.std.proofs.lemmas.List.Sorted.{IsPermutation-refl, IsPermutation-sym, IsPermutation-trans}
@@ -11,13 +11,43 @@ use Rattle.fuse_line.specs.declared.hand.Kind.TheVariants.{First, Inner}
 use Rattle.fuse_reply.specs.Parcel.{is_prompt}
 use Rattle.fuse_reply.specs.declared.out.Out.{Out}
 use Rattle.fuse_reply.specs.declared.parcel.Parcel.{Parcel}
-use Rattle.fuse_reply.specs.declared.parcel.Parcel.TheVariants.{Prompt}
+use Rattle.fuse_reply.specs.declared.parcel.Parcel.TheVariants.{Prompt, Notice, Late}
 use Rattle.fuse_core.specs.declared.state.Job.{Job}
 use Rattle.fuse_core.specs.OneEach.{Owing, number_of}
-use Rattle.fuse_workers.specs.Pairing.{InTurn, Pairs, numbered, outs_of}
+use Rattle.fuse_sender.specs.Pairing.{InTurn, Pairs, numbered, outs_of}
 use Rattle.fuse_workers.specs.Threads.{Answers, IsCaller, IsServed, pair_of}
-use Rattle.fuse_workers.proofs.Pairing.{Answers-prompt, InTurn-append, InTurn-one, Pairs-append, Pairs-in_turn, Pairs-left, Pairs-one, Pairs-outs}
-use Rattle.fuse_workers.proofs.Pairing.{Pairs-passing, Pairs-right, numbered-more, outs_of-filtered}
+use Rattle.fuse_sender.proofs.Pairing.{InTurn-append, InTurn-one, Pairs-append, Pairs-in_turn, Pairs-left, Pairs-one}
+use Rattle.fuse_sender.proofs.Pairing.{Pairs-passing, Pairs-right, numbered-more, outs_of-append, outs_of-filtered}
+
+-- what answers is a prompt
+pub Answers-prompt : (owed : Owing) (asked : ℕ × List ℕ) (parcel : Parcel) → Answers owed asked parcel → is_prompt parcel ≡ true
+Answers-prompt owed asked (Prompt seq out) h = refl
+Answers-prompt owed asked (Notice frame) h = absurd h
+Answers-prompt owed asked (Late frame) h = absurd h
+
+-- what prompts answer is owed what they hold
+module _ (owed : Owing) where
+  abbrev OutOwed : (asked : ℕ × List ℕ) → (b a : List Parcel) → Parcel → Type 0
+  OutOwed asked b a parcel =
+      (out : Out) × (outs_of (b ++ parcel ∷ a) ≡ outs_of b ++ out ∷ outs_of a) × owed asked.0 asked.1 out
+
+  out_owed : (asked : ℕ × List ℕ) (b a : List Parcel) (parcel : Parcel) → Answers owed asked parcel → OutOwed asked b a parcel
+  out_owed asked b a (Prompt seq out) h = (out, outs_of-append b (Prompt seq out ∷ a), h.1)
+  out_owed asked b a (Notice frame) h = absurd h
+  out_owed asked b a (Late frame) h = absurd h
+
+  pub Pairs-outs : (asked : List (ℕ × List ℕ)) (parcels : List Parcel) → Pairs (Answers owed) asked parcels
+      → Pairs (λ (p : ℕ × List ℕ) (o : Out). owed p.0 p.1 o) asked (outs_of parcels)
+  Pairs-outs [] parcels h = ap outs_of h
+  Pairs-outs (x ∷ asked) parcels h =
+      let there = out_owed x h.0 h.2 h.1 h.4 in (
+        outs_of h.0,
+        there.0,
+        outs_of h.2,
+        ap outs_of h.3 ∙ there.1,
+        there.2,
+        subst (Pairs (λ (p : ℕ × List ℕ) (o : Out). owed p.0 p.1 o) asked) (outs_of-append h.0 h.2) (Pairs-outs asked (h.0 ++ h.2) h.5),
+      )
 
 map_more : {X Y : Type 0} (f : X → Y) (xs us : List X) → map f (xs ++ us) ≡ map f xs ++ map f us
 map_more f [] us = refl

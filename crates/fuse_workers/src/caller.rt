@@ -4,46 +4,20 @@ ghost use Rattle.fuse_line.specs.Hand.{with_put};
 ghost use Rattle.fuse_line.specs.declared.hand.Kind.TheVariants.{First};
 ghost use Rattle.fuse_line.specs.Tells.{IsSettled};
 ghost use Rattle.fuse_loop.specs.Answering.{IsRequest, answering, job_of};
-ghost use Rattle.fuse_workers.specs.Hearing.{Hears, TurnHeard, end_of};
+ghost use Rattle.fuse_sender.specs.Hearing.{Hears};
+ghost use Rattle.fuse_workers.specs.Hearing.{TurnHeard};
 ghost use Rattle.fuse_core.specs.OneEach.{number_of};
 ghost use Rattle.fuse_workers.specs.Promises.{CallerOn};
 ghost use Rattle.fuse_workers.specs.Threads.{IsCaller};
 
 use crate::worker::answer_job;
 use fuse_line::{Line, Pass};
-use fuse_loop::{Answerer, End, Incoming, Intake, RequestJob, Taken, Work};
+use fuse_loop::{Answerer, Incoming, Intake, RequestJob, Taken, Work};
 use fuse_reply::Parcel;
-use fuse_request::RequestError;
-use fuse_wire::{NoMemory, RequestId, Source};
+use fuse_sender::Stopped;
+use fuse_wire::{NoMemory, Source};
 use std::alloc::Global;
 use std::sync::Wait;
-
-/// Why no more messages are taken.
-#[derive(Clone, Copy)]
-pub(crate) enum Stopped {
-    /// No message is left.
-    Gone,
-    /// The last message was DESTROY, of this number and id.
-    Destroy(u64, RequestId),
-    /// The last message has no good header.
-    Broken(RequestError),
-    /// The source failed.
-    Failed,
-}
-
-impl Stopped {
-    /// How the run ended.
-    pub(crate) fn end(self) -> End
-        ensures { result ≡ end_of self }
-    {
-        match self {
-            Stopped::Gone => End::Gone,
-            Stopped::Destroy(_, _) => End::Destroyed,
-            Stopped::Broken(error) => End::Broken(error),
-            Stopped::Failed => End::Failed,
-        }
-    }
-}
 
 /// The first passes of both lines, and what the caller answers messages with itself.
 #[derive(Drop)]

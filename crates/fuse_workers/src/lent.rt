@@ -3,10 +3,8 @@
 ghost use Rattle.std.specs.Prelude.{◌≡◌};
 
 use crate::caller::Caller;
-use crate::relay::Relay;
-use fuse_line::Pass;
 use fuse_loop::{Ending, Intake};
-use fuse_reply::Parcel;
+use fuse_sender::Relay;
 use fuse_wire::{Sink, Source};
 
 /// The ends of a run, lent to whoever conducts it, the first passes of its lines, and the mark of its end.
@@ -16,13 +14,6 @@ pub(crate) struct LentEnds<'a, S: Source, K: Sink> {
     pub(crate) relay: &'a mut Relay<K>,
     pub(crate) caller: Caller,
     pub(crate) ending: Ending,
-}
-
-/// The end that frames go out by, with its book, lent to the sender, and its pass.
-#[derive(Drop)]
-pub(crate) struct LentRelay<'a, K: Sink> {
-    pub(crate) relay: &'a mut Relay<K>,
-    pub(crate) pass: Pass<Parcel>,
 }
 
 /// Ends two loans: what was lent is as the references that came back left it.

@@ -1,15 +1,13 @@
-//! Answering messages on several threads: the caller takes them, workers answer them, and a sender has the sink. The run on
-//! one thread, in `fuse_loop`, and the pure core of several workers, in `fuse_core`, are had from here too.
+//! Answering messages on several threads: the caller takes them, workers answer them, and the sender, in `fuse_sender`, has
+//! the sink. The run on one thread, in `fuse_loop`, and the pure core of several workers, in `fuse_core`, are had from here
+//! too.
 //! The layers above rely on this: what was sent for the messages that were taken is what they are owed, one frame or
 //! note each.
 #![tactic(auto)]
 
-mod alone;
 mod caller;
 pub mod laws;
 mod lent;
-mod relay;
-mod sender;
 mod threads;
 mod worker;
 mod workers;

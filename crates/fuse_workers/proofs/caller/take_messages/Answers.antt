@@ -1,12 +1,12 @@
 use Rattle.std.proofs.Common.{◌++◌, ◌∷◌, [], ◌∙◌, ℕ, arith, length, length-append, refl, subst, sym}
 use Rattle.fuse_line.specs.declared.hand.Hand.{Hand}
 use Rattle.fuse_reply.specs.declared.parcel.Parcel.{Parcel}
-use Rattle.fuse_workers.specs.Hearing.{HearsLast}
+use Rattle.fuse_sender.specs.Hearing.{HearsLast}
 use Rattle.fuse_core.specs.OneEach.{Owing, number_of}
 use Rattle.fuse_workers.specs.Threads.{IsCaller}
 use Rattle.fuse_loop.specs.Answering.{answering}
 use Rattle.fuse_core.specs.declared.state.Job.{Job}
-use Rattle.fuse_workers.proofs.Hearing.{HearsLast-then, HearsOn-none, HearsOn-then}
+use Rattle.fuse_sender.proofs.Hearing.{HearsLast-then, HearsOn-none, HearsOn-then}
 use Rattle.fuse_workers.proofs.caller.take_messages.Goals as goal
 
 pub loop-init : goal.loop-init

@@ -1,5 +1,5 @@
 use Rattle.std.proofs.Common.{◌≡◌, ℕ, List, length}
-use Rattle.fuse_workers.specs.Hearing.{HearsOn}
+use Rattle.fuse_sender.specs.Hearing.{HearsOn}
 use Rattle.fuse_core.specs.OneEach.{number_of}
 use Rattle.fuse_workers.specs.Threads.{IsCaller}
 use Rattle.fuse_loop.specs.Answering.{answering}

@@ -3,7 +3,7 @@ use Rattle.fuse_request.specs.Header.{header}
 use Rattle.fuse_loop.specs.Answering.{IsRequest}
 use Rattle.fuse_loop.specs.Arrives.{Arrives}
 use Rattle.fuse_loop.specs.declared.incoming.Incoming.TheVariants as found
-use Rattle.fuse_workers.proofs.Hearing.{HearsLast-broken, HearsLast-destroy, HearsLast-failed, HearsLast-gone, HearsOn-one}
+use Rattle.fuse_sender.proofs.Hearing.{HearsLast-broken, HearsLast-destroy, HearsLast-failed, HearsLast-gone, HearsOn-one}
 use Rattle.fuse_loop.proofs.LoopSteps.{incoming-request}
 use Rattle.fuse_workers.proofs.caller.take_one.Goals as goal
 

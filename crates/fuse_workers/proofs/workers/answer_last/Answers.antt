@@ -8,10 +8,10 @@ use Rattle.fuse_reply.specs.declared.out.Out.TheVariants.{Frame}
 use Rattle.fuse_reply.specs.declared.parcel.Parcel.{Parcel}
 use Rattle.fuse_reply.specs.declared.parcel.Parcel.TheVariants.{Prompt}
 use Rattle.fuse_wire.specs.Source.{NothingLeft, Failed as SourceFailed}
-use Rattle.fuse_workers.specs.Conducting.{answered_last}
-use Rattle.fuse_workers.specs.Hearing.{StopsWith}
+use Rattle.fuse_sender.specs.HandingOn.{answered_last}
+use Rattle.fuse_sender.specs.Hearing.{StopsWith}
 use Rattle.fuse_loop.specs.Incoming.{id_of}
-use Rattle.fuse_workers.specs.declared.caller.Stopped.{Stopped}
+use Rattle.fuse_sender.specs.declared.stopped.Stopped.{Stopped}
 use Rattle.fuse_core.specs.OneEach.{Owing, number_of}
 use Rattle.fuse_workers.specs.Threads.{IsCaller}
 use Rattle.fuse_loop.specs.Answering.{answering}

@@ -4,7 +4,7 @@ use Rattle.fuse_line.specs.Seen.{Seen}
 use Rattle.fuse_line.specs.declared.hand.Hand.{Hand}
 use Rattle.fuse_line.specs.declared.hand.Kind.TheVariants.{First}
 use Rattle.fuse_reply.specs.declared.parcel.Parcel.{Parcel}
-use Rattle.fuse_workers.specs.Relays.{IsRelayed, relay_of}
+use Rattle.fuse_sender.specs.Relays.{IsRelayed, relay_of}
 use Rattle.fuse_loop.specs.Answering.{answering}
 use Rattle.fuse_core.specs.declared.state.Job.{Job}
 use Rattle.fuse_workers.proofs.Conducting.{Conducts-alone, Conducts-answered, joined-sender}

@@ -1,0 +1,5 @@
+mod Places
+pub mod Pairing
+pub mod Relaying
+pub mod Hearing
+pub mod ServingAlone

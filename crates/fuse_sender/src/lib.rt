@@ -1,0 +1,16 @@
+//! Sending what goes out of a run on several threads: the end that frames go out by, with its book of replies that come
+//! later; the sender, which hands on what the line of frames gives; and the caller where there is no sender, which answers
+//! each message in turn, and sends.
+//! The layers above rely on this: what was handed on is in the sink or counted as lost, in order, a late frame as its mark
+//! lets it go, and of each request the one out that it is owed.
+#![tactic(auto)]
+
+mod alone;
+mod relay;
+mod sender;
+mod stopped;
+
+pub use alone::answer_in_turn_alone;
+pub use relay::Relay;
+pub use sender::{LentRelay, send_rest, serve_sink};
+pub use stopped::Stopped;
