@@ -1,6 +1,7 @@
 // A filesystem for tests, which counts its calls, and sessions of it.
 ghost use Rattle.std.specs.Prelude.{◌<◌, false};
 
+use crate::asserts::expect_same;
 use fuse_config::Config;
 use fuse_probing::{Argument, Probe, Probing};
 use fuse_reply::{Replied, ReplyAttr, ReplyData, ReplyEntry};
@@ -8,24 +9,27 @@ use fuse_request::Request;
 use fuse_session::{Ended, SessionError, Transcript, mount};
 use fuse_wire::consts::MAX_WRITE_SIZE;
 use fuse_wire::{Errno, FileHandle, INodeNo, LockOwner, OpenFlags, Sink, Source};
-use std::sync::Wait;
+use std::alloc::Global;
+use std::process::Abort;
 use std::sync::atomic::{AtomicU64, Ordering};
+use std::sync::{Arc, Wait};
 use std::thread::Threads;
 
 /// What a read gives where no other contents are said: more than a frame holds without memory.
-pub(crate) const CONTENTS: [u8; 200] = [0x2a; 200];
+pub(crate) const CONTENTS: &[u8] = &[0x2a; 200];
 
 /// A filesystem that counts its calls, each row of a batch of forgets as one too, and how often it was destroyed. It
 /// knows no name and no attributes, and reads the same contents from every offset.
 #[derive(Drop)]
 pub(crate) struct Counting {
     contents: Option<Vec<u8>>,
+    told: Option<Arc<AtomicU64, Global>>,
     calls: AtomicU64,
     destroyed: u64,
 }
 
 /// How a session ended, what it did, and how often it called and destroyed its filesystem.
-#[derive(Clone, Copy, Debug, PartialEq)]
+#[derive(Clone, Copy)]
 pub(crate) struct Course {
     pub(crate) outcome: Result<(), SessionError>,
     pub(crate) transcript: Transcript,
@@ -56,20 +60,35 @@ pub(crate) fn run_with<R: Threads + Wait + AllocGlobal + Sync, S: Source, K: Sin
     requires { 0 < page_size }
 {
     let filesystem = Probing { probe: counting };
+    let over = mount(rt, filesystem, source, sink, owner, page_size, config);
+    let course = course_of(&over);
     let Ended {
-        filesystem: Probing { probe },
+        filesystem,
         source,
         sink,
-        outcome,
-        transcript,
-    } = mount(rt, filesystem, source, sink, owner, page_size, config);
-    let course = Course {
-        outcome,
-        transcript,
-        calls: probe.calls.load(Ordering::SeqCst),
-        destroyed: probe.destroyed,
-    };
+        ..
+    } = over;
+    drop(filesystem);
     (course, source, sink)
+}
+
+/// How a session went that is over.
+fn course_of<S, K>(over: &Ended<Probing<Counting>, S, K>) -> Course {
+    let counting = &over.filesystem.probe;
+    Course {
+        outcome: over.outcome,
+        transcript: over.transcript,
+        calls: counting.calls.load(Ordering::SeqCst),
+        destroyed: counting.destroyed,
+    }
+}
+
+/// The session that shows this went as was expected.
+pub(crate) fn went(rt: &impl Abort, what: &str, course: &Course, expected: &Course) {
+    let found = (what, course.outcome, course.transcript);
+    expect_same(rt, &found, &(what, expected.outcome, expected.transcript));
+    let found = (what, course.calls, course.destroyed);
+    expect_same(rt, &found, &(what, expected.calls, expected.destroyed));
 }
 
 impl Counting {
@@ -77,6 +96,17 @@ impl Counting {
     pub(crate) fn new(contents: Option<Vec<u8>>) -> Counting {
         Counting {
             contents,
+            told: None,
+            calls: AtomicU64::new(0),
+            destroyed: 0,
+        }
+    }
+
+    /// It was not called yet, and counts its calls here too, for one that looks while it is served.
+    pub(crate) fn telling(told: Arc<AtomicU64, Global>) -> Counting {
+        Counting {
+            contents: None,
+            told: Some(told),
             calls: AtomicU64::new(0),
             destroyed: 0,
         }
@@ -105,6 +135,9 @@ impl Probe for Counting {
         _texts: &[&[u8]],
     ) {
         self.calls.fetch_add(1, Ordering::SeqCst);
+        if let Some(told) = &self.told {
+            told.fetch_add(1, Ordering::SeqCst);
+        }
     }
 
     fn lookup(
@@ -144,7 +177,7 @@ impl Probe for Counting {
     ) -> Replied {
         let contents = match &self.contents {
             Some(contents) => contents.as_slice(),
-            None => CONTENTS.as_slice(),
+            None => CONTENTS,
         };
         let count = contents.len().min(size as usize).min(MAX_WRITE_SIZE);
         reply.data(&contents[..count])

@@ -1,121 +1,16 @@
-// Sessions over sources and sinks that fail.
+// Sessions whose sink refuses a note, and sessions that want memory.
 ghost use Rattle.std.specs.Prelude.{None};
 
-use crate::asserts::{expect, expect_same};
-use crate::counting::{Course, run};
-use crate::tests::{Counts, serves_source};
+use crate::asserts::expect_same;
+use crate::counting::{Counting, Course, run, went};
+use crate::messages::{Given, Request, source_of};
+use crate::rows::serve;
 use fuse_config::Config;
-use fuse_probing::test_messages::{
-    ACCEPTED, ENOENT, INIT_7_8, Next, error_reply, forget, lookup, source_of, turns_of,
-};
 use fuse_session::{SessionError, Transcript};
-use fuse_wire::{
-    MemorySink, MemorySource, Noting, Received, RequestId, Sending, Sink, Source, receive_buffer,
-};
+use fuse_wire::{MemorySink, Noting, RequestId, Sending, Sink};
 use std::process::Abort;
 use std::sync::Wait;
 use std::thread::Threads;
-
-/// Serves these turns, in a session with this outcome, which takes so many messages, of which all but INIT call the
-/// filesystem, sends these frames, and loses so many. The source comes back.
-fn serves<R: Threads + Wait + AllocGlobal + Abort + Sync>(
-    rt: &R,
-    turns: &[Next<'_>],
-    sink: MemorySink,
-    received: u64,
-    frames: &[&[u8]],
-    lost: u64,
-    outcome: Result<(), SessionError>,
-) -> MemorySource {
-    let source = turns_of(rt.alloc(), turns).expect(rt, "there is memory");
-    let counts = Counts {
-        received,
-        lost,
-        calls: received.saturating_sub(1),
-        notes: &[],
-    };
-    serves_source(
-        rt,
-        &Config::new(rt.alloc()),
-        source,
-        sink,
-        frames,
-        outcome,
-        counts,
-    )
-}
-
-/// The source still holds this message, and no other.
-fn still_holds<R: AllocGlobal + Abort>(rt: &R, mut source: MemorySource, message: &[u8]) {
-    let mut buffer = receive_buffer(rt.alloc()).expect(rt, "there is memory");
-    let received = source.receive(&mut buffer);
-    expect_same(rt, &received, &Received::Message(message.len()));
-    expect(
-        rt,
-        "the message stands in the buffer",
-        buffer.as_slice().starts_with(message),
-    );
-    expect_same(rt, &source.receive(&mut buffer), &Received::Gone);
-}
-
-#[test]
-fn a_source_may_fail(rt: HostRuntime) {
-    use Next::{Bytes, Fault, Nothing};
-    let alloc = rt.alloc();
-    let failed = Err(SessionError::Receive);
-    let message = lookup(2, 0);
-    let turns = [Bytes(&INIT_7_8), Nothing, Fault, Bytes(&message)];
-    let sink = MemorySink::new(alloc, Vec::new(alloc));
-    let source = serves(&rt, &turns, sink, 1, &[&ACCEPTED], 0, failed);
-    still_holds(&rt, source, &message)
-}
-
-#[test]
-fn a_source_may_fail_at_once(rt: HostRuntime) {
-    let alloc = rt.alloc();
-    let failed = Err(SessionError::Receive);
-    let turns = [Next::Fault, Next::Bytes(&INIT_7_8)];
-    let sink = MemorySink::new(alloc, Vec::new(alloc));
-    let source = serves(&rt, &turns, sink, 0, &[], 0, failed);
-    still_holds(&rt, source, &INIT_7_8)
-}
-
-#[test]
-fn a_source_may_give_nothing(rt: HostRuntime) {
-    use Next::{Bytes, Nothing};
-    let alloc = rt.alloc();
-    let message = lookup(2, 0);
-    let turns = [
-        Nothing,
-        Bytes(&INIT_7_8),
-        Nothing,
-        Nothing,
-        Bytes(&message),
-        Nothing,
-    ];
-    let answer = error_reply(2, ENOENT);
-    let sink = MemorySink::new(alloc, Vec::new(alloc));
-    let _source = serves(&rt, &turns, sink, 2, &[&ACCEPTED, &answer], 0, Ok(()));
-}
-
-#[test]
-fn a_sink_may_refuse(rt: HostRuntime) {
-    let alloc = rt.alloc();
-    let first = lookup(2, 0);
-    let second = lookup(3, 0);
-    let turns = [
-        Next::Bytes(&INIT_7_8),
-        Next::Bytes(&first),
-        Next::Bytes(&second),
-    ];
-    let answer = error_reply(3, ENOENT);
-    for fault in [Sending::Failed, Sending::Absent] {
-        let mut faults = Vec::new(alloc);
-        faults.push((2, fault)).expect(&rt, "there is memory");
-        let sink = MemorySink::new(alloc, faults);
-        let _source = serves(&rt, &turns, sink, 3, &[&ACCEPTED, &answer], 1, Ok(()));
-    }
-}
 
 /// A sink that refuses its first note, and tells nothing.
 #[derive(Drop)]
@@ -154,60 +49,67 @@ impl Sink for RefusingOnce {
     }
 }
 
-#[test]
-fn a_note_that_is_refused_is_lost(rt: HostRuntime) {
+/// How a session goes that loses the first of two notes.
+const LOST: Course = Course {
+    outcome: Ok(()),
+    transcript: Transcript {
+        received: 3,
+        frames: 1,
+        notes: 1,
+        lost: 1,
+        unrecorded: 0,
+    },
+    calls: 2,
+    destroyed: 1,
+};
+
+/// Serves an INIT and two FORGETs over a sink that refuses its first note. How the session went, and the sink.
+fn forgets<R: Threads + Wait + AllocGlobal + Abort + Sync>(rt: &R) -> (Course, RefusingOnce) {
     let alloc = rt.alloc();
-    let source = source_of(alloc, &[&INIT_7_8, &forget(2, 0), &forget(3, 0)]).expect(
-        &rt,
-        "there is memory",
-    );
+    let given = [
+        Given::Opening,
+        Given::Asked(Request::Forget(2, 0)),
+        Given::Asked(Request::Forget(3, 0)),
+    ];
     let sink = RefusingOnce {
         inner: MemorySink::new(alloc, Vec::new(alloc)),
         faults: 0,
     };
-    let (course, _, sink) = run(&rt, source, sink, &Config::new(rt.alloc()));
-    let expected = Course {
-        outcome: Ok(()),
-        transcript: Transcript {
-            received: 3,
-            frames: 1,
-            notes: 1,
-            lost: 1,
-            unrecorded: 0,
-        },
-        calls: 2,
-        destroyed: 1,
-    };
-    expect_same(&rt, &course, &expected);
+    let (course, source, sink) = run(rt, source_of(rt, &given), sink, &Config::new(alloc));
+    drop(source);
+    (course, sink)
+}
+
+#[test]
+fn a_note_that_is_refused_is_lost(rt: HostRuntime) {
+    let (course, sink) = forgets(&rt);
+    went(&rt, "a note that is refused is lost", &course, &LOST);
     expect_same(&rt, &sink.inner.notes(), &[(RequestId(3), 3)].as_slice());
+    drop(sink);
 }
 
 /// A session without a message: its outcome, and how often its filesystem was destroyed.
-fn serves_nothing<R: Threads + Wait + AllocGlobal + Sync>(
+fn serves_nothing<R: Threads + Wait + AllocGlobal + Abort + Sync>(
     rt: &R,
 ) -> (Result<(), SessionError>, u64) {
-    let alloc = rt.alloc();
-    let source = MemorySource::new(Vec::new(alloc));
-    let sink = MemorySink::new(alloc, Vec::new(alloc));
-    let (course, _, _) = run(rt, source, sink, &Config::new(rt.alloc()));
+    let config = Config::new(rt.alloc());
+    let (course, sink) = serve(rt, Counting::new(None), &[], 0, 4096, &config);
+    drop(sink);
     (course.outcome, course.destroyed)
 }
 
 #[test]
 fn without_a_message_is_not_connected(rt: HostRuntime) {
-    expect_same(
-        &rt,
-        &serves_nothing(&rt),
-        &(Err(SessionError::NotConnected), 1),
-    );
+    let found = serves_nothing(&rt);
+    expect_same(&rt, &found, &(Err(SessionError::NotConnected), 1));
 }
 
 #[test]
 fn without_a_message_is_not_connected_or_wants_memory(rt: HostRuntime) {
     let (outcome, destroyed) = serves_nothing(&rt);
     let expected = match destroyed {
-        0 => Err(SessionError::Memory),
-        _ => Err(SessionError::NotConnected),
+        0 => SessionError::Memory,
+        _ => SessionError::NotConnected,
     };
-    expect_same(&rt, &outcome, &expected);
+    expect_same(&rt, &outcome, &Err(expected));
 }

@@ -8,13 +8,19 @@ mod asserts;
 #[cfg(test)]
 mod counting;
 #[cfg(test)]
+mod ends;
+#[cfg(test)]
 mod fault_tests;
+#[cfg(test)]
+mod messages;
 #[cfg(test)]
 mod option_tests;
 #[cfg(test)]
 mod order_tests;
 #[cfg(test)]
-mod refusal_tests;
+mod refusals;
+#[cfg(test)]
+mod rows;
 #[cfg(test)]
 mod session_tests;
 #[cfg(test)]

@@ -1,39 +1,42 @@
 // Options that are refused before anything is taken, and options that are not.
 use crate::asserts::expect_same;
-use crate::counting::{Course, run};
+use crate::counting::{Course, run, went};
+use crate::ends::{End, outcome_of};
+use crate::messages::{Given, source_of};
 use crate::session_tests::config_of;
 use fuse_config::{Config, SessionACL};
-use fuse_probing::test_messages::{INIT_7_8, source_of};
-use fuse_session::{SessionError, Transcript};
+use fuse_session::Transcript;
 use fuse_wire::MemorySink;
 use std::process::Abort;
 use std::sync::Wait;
 use std::thread::Threads;
 
-const OWNER: SessionACL = SessionACL::Owner;
+/// A session of an INIT, with these options and threads, of which each has a device of its own or not.
+struct Row {
+    /// What it shows.
+    what: &'static str,
+    options: &'static [&'static str],
+    acl: SessionACL,
+    n_threads: Option<usize>,
+    clone_fd: bool,
+    /// How many messages it takes.
+    taken: u64,
+    end: End,
+}
 
-/// The texts of the options, the access rule, the threads, whether each has a device of its own, and the outcome.
-type Row = (
-    &'static [&'static str],
-    SessionACL,
-    Option<usize>,
-    bool,
-    Result<(), SessionError>,
-);
-
-/// How a session of an INIT ends, of which so many messages were taken.
-fn course_of(outcome: Result<(), SessionError>, taken: u64) -> Course {
+/// How a session of this row goes.
+fn course_of(row: &Row) -> Course {
     Course {
-        outcome,
+        outcome: outcome_of(row.end),
         transcript: Transcript {
-            received: taken,
-            frames: taken,
+            received: row.taken,
+            frames: row.taken,
             notes: 0,
             lost: 0,
             unrecorded: 0,
         },
         calls: 0,
-        destroyed: taken,
+        destroyed: row.taken,
     }
 }
 
@@ -44,7 +47,7 @@ fn serves_twice<R: Threads + Wait + AllocGlobal + Abort + Sync>(
     config: &Config,
 ) -> (Course, u64, u64) {
     let alloc = rt.alloc();
-    let source = source_of(alloc, &[&INIT_7_8]).expect(rt, "there is memory");
+    let source = source_of(rt, &[Given::Opening]);
     let sink = MemorySink::new(alloc, Vec::new(alloc));
     let (course, source, sink) = run(rt, source, sink, config);
     let frames = sink.frames().len() as u64;
@@ -54,95 +57,141 @@ fn serves_twice<R: Threads + Wait + AllocGlobal + Abort + Sync>(
     (course, frames, later.transcript.received)
 }
 
-/// Serves a session of an INIT, which is taken or not. Where it was not, it is there for a session without options.
-fn ends<R: Threads + Wait + AllocGlobal + Abort + Sync>(rt: &R, row: &Row, taken: u64) {
-    let (texts, acl, n_threads, clone_fd, outcome) = row;
-    let config = config_of(rt, texts, *acl, *n_threads, *clone_fd);
-    let served = serves_twice(rt, &config);
+/// Serves a session of this row. Where its message was not taken, it is there for a session without options.
+fn goes<R: Threads + Wait + AllocGlobal + Abort + Sync>(rt: &R, row: &Row) {
+    let config = config_of(rt, row.options, row.acl, row.n_threads, row.clone_fd);
+    let (course, frames, later) = serves_twice(rt, &config);
     drop(config);
-    let expected = (
-        course_of(*outcome, taken),
-        taken,
-        1u64.saturating_sub(taken),
-    );
-    expect_same(rt, &served, &expected);
+    went(rt, row.what, &course, &course_of(row));
+    let left = 1u64.saturating_sub(row.taken);
+    expect_same(rt, &(row.what, frames, later), &(row.what, row.taken, left));
 }
 
-const CONFLICT: Result<(), SessionError> = Err(SessionError::Conflict {
-    first: 0,
-    second: 3,
-});
-
-const REFUSED: [Row; 6] = [
-    (
-        &["ro", "dev", "nodev", "rw"],
-        SessionACL::All,
-        None,
-        false,
-        CONFLICT,
-    ),
-    (
-        &["ro", "auto_unmount", "dev", "rw"],
-        OWNER,
-        Some(2),
-        true,
-        CONFLICT,
-    ),
-    (
-        &["sync", "auto_unmount"],
-        OWNER,
-        None,
-        false,
-        Err(SessionError::AutoUnmount),
-    ),
-    (
-        &["auto_unmount"],
-        OWNER,
-        Some(2),
-        true,
-        Err(SessionError::AutoUnmount),
-    ),
-    (&[], OWNER, Some(2), true, Err(SessionError::CloneFd)),
-    (
-        &["auto_unmount"],
-        SessionACL::All,
-        Some(usize::MAX),
-        true,
-        Err(SessionError::CloneFd),
-    ),
+/// Options that are refused.
+const REFUSED: &[Row] = &[
+    Row {
+        what: "two options conflict",
+        options: &["ro", "dev", "nodev", "rw"],
+        acl: SessionACL::All,
+        n_threads: None,
+        clone_fd: false,
+        taken: 0,
+        end: End::Conflict(0, 3),
+    },
+    Row {
+        what: "a conflict comes before all else",
+        options: &["ro", "auto_unmount", "dev", "rw"],
+        acl: SessionACL::Owner,
+        n_threads: Some(2),
+        clone_fd: true,
+        taken: 0,
+        end: End::Conflict(0, 3),
+    },
+    Row {
+        what: "the unmount is not for an owner",
+        options: &["sync", "auto_unmount"],
+        acl: SessionACL::Owner,
+        n_threads: None,
+        clone_fd: false,
+        taken: 0,
+        end: End::AutoUnmount,
+    },
+    Row {
+        what: "nor where a device is asked for",
+        options: &["auto_unmount"],
+        acl: SessionACL::Owner,
+        n_threads: Some(2),
+        clone_fd: true,
+        taken: 0,
+        end: End::AutoUnmount,
+    },
+    Row {
+        what: "no device is opened here",
+        options: &[],
+        acl: SessionACL::Owner,
+        n_threads: Some(2),
+        clone_fd: true,
+        taken: 0,
+        end: End::CloneFd,
+    },
+    Row {
+        what: "nor where all are served",
+        options: &["auto_unmount"],
+        acl: SessionACL::All,
+        n_threads: Some(usize::MAX),
+        clone_fd: true,
+        taken: 0,
+        end: End::CloneFd,
+    },
 ];
 
-const FINE: [Row; 6] = [
-    (&["suid", "noexec"], OWNER, None, false, Ok(())),
-    (
-        &["auto_unmount"],
-        SessionACL::RootAndOwner,
-        Some(2),
-        false,
-        Ok(()),
-    ),
-    (
-        &["auto_unmount", "fsname=x"],
-        SessionACL::All,
-        None,
-        false,
-        Ok(()),
-    ),
-    (&["dirsync"], OWNER, Some(1), true, Ok(())),
-    (&[], OWNER, None, true, Ok(())),
-    (&["ro"], OWNER, Some(0), true, Err(SessionError::Threads)),
+/// Options that are fine.
+const FINE: &[Row] = &[
+    Row {
+        what: "options of files",
+        options: &["suid", "noexec"],
+        acl: SessionACL::Owner,
+        n_threads: None,
+        clone_fd: false,
+        taken: 1,
+        end: End::Fine,
+    },
+    Row {
+        what: "the unmount, where others are served",
+        options: &["auto_unmount"],
+        acl: SessionACL::RootAndOwner,
+        n_threads: Some(2),
+        clone_fd: false,
+        taken: 1,
+        end: End::Fine,
+    },
+    Row {
+        what: "the unmount and a name",
+        options: &["auto_unmount", "fsname=x"],
+        acl: SessionACL::All,
+        n_threads: None,
+        clone_fd: false,
+        taken: 1,
+        end: End::Fine,
+    },
+    Row {
+        what: "one thread may have a device",
+        options: &["dirsync"],
+        acl: SessionACL::Owner,
+        n_threads: Some(1),
+        clone_fd: true,
+        taken: 1,
+        end: End::Fine,
+    },
+    Row {
+        what: "one thread as by default may too",
+        options: &[],
+        acl: SessionACL::Owner,
+        n_threads: None,
+        clone_fd: true,
+        taken: 1,
+        end: End::Fine,
+    },
+    Row {
+        what: "no thread is to serve",
+        options: &["ro"],
+        acl: SessionACL::Owner,
+        n_threads: Some(0),
+        clone_fd: true,
+        taken: 1,
+        end: End::Threads,
+    },
 ];
 
-#[test]
-fn refuses_options_and_takes_nothing(rt: HostRuntime) {
-    for row in &REFUSED {
-        ends(&rt, row, 0);
+/// Serves the sessions of these rows.
+fn go<R: Threads + Wait + AllocGlobal + Abort + Sync>(rt: &R, rows: &[Row]) {
+    for row in rows {
+        goes(rt, row);
     }
 }
 
 #[test]
-fn serves_with_options_that_are_fine(rt: HostRuntime) {
-    for row in &FINE {
-        ends(&rt, row, 1);
-    }
+fn takes_nothing_with_options_that_are_refused_and_serves_with_others(rt: HostRuntime) {
+    go(&rt, REFUSED);
+    go(&rt, FINE);
 }

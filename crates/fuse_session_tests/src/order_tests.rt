@@ -2,12 +2,13 @@
 ghost use Rattle.std.specs.Prelude.{None};
 
 use crate::asserts::expect_same;
-use crate::counting::{Course, run};
+use crate::counting::run;
+use crate::messages::{Given, Request, source_of};
 use fuse_config::Config;
-use fuse_probing::test_messages::{INIT_7_8, NO_OPCODE, forget, lookup, message, source_of};
+use fuse_probing::test_messages::NO_OPCODE;
 use fuse_request::opcode::{FUSE_DESTROY, FUSE_STATFS};
 use fuse_wire::{MemorySource, Noting, Received, RequestId, Sending, Sink, Source};
-use std::alloc::AllocError;
+use std::process::Abort;
 use std::sync::Wait;
 use std::sync::atomic::{AtomicU64, Ordering};
 use std::thread::Threads;
@@ -67,14 +68,11 @@ impl Sink for Answering<'_> {
     }
 }
 
-/// Serves these messages. How the session went, how often the source failed, and how much was handed to the sink.
-fn serve<R: Threads + Wait + AllocGlobal + Sync>(
-    rt: &R,
-    messages: &[&[u8]],
-) -> Result<(Course, u64, u64), AllocError> {
+/// Serves these messages, so many, of which each is answered before the next is taken.
+fn serves<R: Threads + Wait + AllocGlobal + Abort + Sync>(rt: &R, given: &[Given], count: u64) {
     let answered = AtomicU64::new(0);
     let source = Awaiting {
-        inner: source_of(rt.alloc(), messages)?,
+        inner: source_of(rt, given),
         answered: &answered,
         given: 0,
         faults: 0,
@@ -82,26 +80,26 @@ fn serve<R: Threads + Wait + AllocGlobal + Sync>(
     let sink = Answering {
         answered: &answered,
     };
-    let (course, source, _) = run(rt, source, sink, &Config::new(rt.alloc()));
-    let faults = source.faults;
+    let (course, source, sink) = run(rt, source, sink, &Config::new(rt.alloc()));
+    drop(sink);
+    expect_same(rt, &(course.outcome, source.faults), &(Ok(()), 0));
     drop(source);
-    Ok((course, faults, answered.load(Ordering::SeqCst)))
+    let found = (course.transcript.received, answered.load(Ordering::SeqCst));
+    expect_same(rt, &found, &(count, count));
 }
+
+const MESSAGES: &[Given] = &[
+    // INIT of version 8.8, which is asked for again
+    Given::Changed(40, 8),
+    Given::Opening,
+    Given::Asked(Request::Lookup(2, 0)),
+    Given::Asked(Request::Forget(3, 0)),
+    Given::Asked(Request::Bare(NO_OPCODE, 4, 1, 0)),
+    Given::Asked(Request::Bare(FUSE_STATFS, 5, 1, 0)),
+    Given::Asked(Request::Bare(FUSE_DESTROY, 6, 1, 0)),
+];
 
 #[test]
 fn each_message_is_answered_before_the_next_is_taken(rt: HostRuntime) {
-    let mut later = INIT_7_8;
-    later[40] = 8;
-    let messages: [&[u8]; 7] = [
-        &later,
-        &INIT_7_8,
-        &lookup(2, 0),
-        &forget(3, 0),
-        &message(NO_OPCODE, 4, 1, 0),
-        &message(FUSE_STATFS, 5, 1, 0),
-        &message(FUSE_DESTROY, 6, 1, 0),
-    ];
-    let (course, faults, answered) = serve(&rt, &messages).expect(&rt, "there is memory");
-    expect_same(&rt, &(course.outcome, faults), &(Ok(()), 0));
-    expect_same(&rt, &(course.transcript.received, answered), &(7, 7));
+    serves(&rt, MESSAGES, 7);
 }

@@ -1,16 +1,16 @@
 // Sessions that are opened first, and run then.
-use crate::asserts::{expect, expect_same};
+use crate::asserts::expect_same;
 use crate::counting::Counting;
+use crate::ends::{End, outcome_of};
+use crate::messages::{Frame, Given, Request, frames_of, source_of};
+use crate::rows::are_sent;
 use fuse_config::{Config, MountOption, SessionACL};
 use fuse_probing::Probing;
-use fuse_probing::test_messages::{
-    ACCEPTED, EACCES, EIO, ENOENT, EPROTO, INIT_7_8, differ_at, error_reply, init, lookup,
-    source_of,
-};
+use fuse_probing::test_messages::{EACCES, EIO, ENOENT, EPROTO};
 use fuse_request::RequestError;
 use fuse_request::opcode::FUSE_LOOKUP;
-use fuse_session::{Ended, InvalidData, Session, SessionError, Transcript};
-use fuse_wire::{Items, MemorySink, MemorySource, Version};
+use fuse_session::{Ended, Session, Transcript};
+use fuse_wire::{Items, MemorySink, MemorySource};
 use std::process::Abort;
 use std::sync::Wait;
 use std::thread::Threads;
@@ -40,15 +40,44 @@ pub(crate) fn config_of<R: AllocGlobal + Abort>(
     }
 }
 
+/// What is left of a session that is over.
+pub(crate) struct Left {
+    pub(crate) end: End,
+    /// How many messages it took.
+    pub(crate) received: u64,
+    /// What it sent.
+    pub(crate) frames: &'static [Frame],
+    /// How often it destroyed its filesystem.
+    pub(crate) destroyed: u64,
+}
+
+/// A session of user 5 whose threads are to have devices of their own.
+struct Row {
+    /// What it shows.
+    what: &'static str,
+    options: &'static [&'static str],
+    acl: SessionACL,
+    n_threads: Option<usize>,
+    /// Over what it is opened, one time after the other: as it is configured, or a device with its own access rule.
+    devices: &'static [Option<SessionACL>],
+    given: &'static [Given],
+    /// Whether it is opened, and then run.
+    is_opened: bool,
+    left: Left,
+}
+
+/// As it is configured, and over a device that serves all.
+const BOTH: &[Option<SessionACL>] = &[None, Some(SessionACL::All)];
+
 /// A session of user 5 over these messages: as it is configured, or over a device with an access rule of its own.
 fn open<R: Wait + AllocGlobal + Abort>(
     rt: &R,
-    messages: &[&[u8]],
+    given: &[Given],
     config: Config,
     device: Option<SessionACL>,
 ) -> Opening {
     let alloc = rt.alloc();
-    let source = source_of(alloc, messages).expect(rt, "there is memory");
+    let source = source_of(rt, given);
     let sink = MemorySink::new(alloc, Vec::new(alloc));
     let filesystem = Probing {
         probe: Counting::new(None),
@@ -67,137 +96,251 @@ fn end_of<R: Threads + Wait + AllocGlobal + Sync>(rt: &R, opening: Opening) -> O
     }
 }
 
-/// What is left of a session that ended so, after so many messages: it has sent these frames, and destroyed its filesystem
-/// so often.
-fn shows<A: Abort>(
-    rt: &A,
-    over: &Over,
-    outcome: Result<(), SessionError>,
-    received: u64,
-    frames: &[&[u8]],
-    destroyed: u64,
-) {
+/// This is left of a session, and no more.
+fn shows<R: AllocGlobal + Abort>(rt: &R, what: &str, over: &Over, left: &Left) {
     let counts = Transcript {
-        received,
-        frames: frames.len() as u64,
+        received: left.received,
+        frames: left.frames.len() as u64,
         notes: 0,
         lost: 0,
         unrecorded: 0,
     };
-    let found = (
-        over.filesystem.probe.destroyed(),
-        differ_at(over.sink.frames(), frames),
-    );
-    expect_same(rt, &(over.outcome, over.transcript), &(outcome, counts));
-    expect_same(rt, &found, &(destroyed, None));
+    let found = (what, over.outcome, over.transcript);
+    expect_same(rt, &found, &(what, outcome_of(left.end), counts));
+    let destroyed = over.filesystem.probe.destroyed();
+    expect_same(rt, &(what, destroyed), &(what, left.destroyed));
+    let frames = frames_of(rt, left.frames);
+    are_sent(rt, over.sink.frames(), &frames, frames.len());
 }
 
 /// The same, of a session that is let go.
-pub(crate) fn is_left<A: Abort>(
-    rt: &A,
-    over: Over,
-    outcome: Result<(), SessionError>,
-    received: u64,
-    frames: &[&[u8]],
-    destroyed: u64,
-) {
-    shows(rt, &over, outcome, received, frames, destroyed);
+pub(crate) fn is_left<R: AllocGlobal + Abort>(rt: &R, what: &str, over: Over, left: &Left) {
+    shows(rt, what, &over, left);
     drop(over);
 }
 
-#[test]
-fn a_session_is_opened_and_then_run(rt: HostRuntime) {
-    for device in [None, Some(SessionACL::All)] {
-        let config = config_of(&rt, &[], SessionACL::All, None, true);
-        let opening = open(&rt, &[&INIT_7_8, &lookup(2, 6)], config, device);
-        let over = end_of(&rt, opening);
-        let frames: [&[u8]; 2] = [&ACCEPTED, &error_reply(2, ENOENT)];
-        is_left(&rt, over, Ok(()), 2, &frames, 1);
-    }
-}
-
-/// These messages open no session, for this reason: they get these frames, and the filesystem is destroyed.
-fn opens_none<R: Threads + Wait + AllocGlobal + Abort + Sync>(
+/// Opens a session of this row, over a device or not, and runs it: it goes as the row says.
+fn goes<R: Threads + Wait + AllocGlobal + Abort + Sync>(
     rt: &R,
-    messages: &[&[u8]],
-    frames: &[&[u8]],
-    outcome: &Result<(), SessionError>,
-) {
-    for device in [None, Some(SessionACL::All)] {
-        let config = config_of(rt, &[], SessionACL::All, Some(0), true);
-        let opening = open(rt, messages, config, device);
-        expect(rt, "the session is not opened", opening.is_err());
-        let over = end_of(rt, opening);
-        is_left(rt, over, *outcome, messages.len() as u64, frames, 1);
-    }
-}
-
-#[test]
-fn a_handshake_that_is_not_accepted_opens_no_session(rt: HostRuntime) {
-    opens_none(&rt, &[], &[], &Err(SessionError::NotConnected));
-    let header = InvalidData::Header(RequestError::ShortReadHeader(20));
-    let short = Err(SessionError::InvalidData(header));
-    opens_none(&rt, &[&INIT_7_8[..20]], &[], &short);
-    let lookup_first = Err(SessionError::InvalidData(InvalidData::NotInit(FUSE_LOOKUP)));
-    let refused = error_reply(2, EIO);
-    opens_none(&rt, &[&lookup(2, 5)], &[&refused], &lookup_first);
-    let old = Err(SessionError::Unsupported(Version(7, 5)));
-    let unsupported = error_reply(1, EPROTO);
-    opens_none(&rt, &[&init(7, 5)], &[&unsupported], &old);
-}
-
-#[test]
-fn no_thread_is_to_serve_a_session_that_is_opened(rt: HostRuntime) {
-    for device in [None, Some(SessionACL::All)] {
-        let config = config_of(&rt, &[], SessionACL::All, Some(0), true);
-        let opening = open(&rt, &[&INIT_7_8, &lookup(2, 5)], config, device);
-        expect(&rt, "the session is opened", opening.is_ok());
-        let over = end_of(&rt, opening);
-        is_left(&rt, over, Err(SessionError::Threads), 1, &[&ACCEPTED], 1);
-    }
-}
-
-/// The end of a session of an INIT, with options that conflict, and with the unmount for an owner.
-fn end_with_options<R: Threads + Wait + AllocGlobal + Abort + Sync>(
-    rt: &R,
-    n_threads: Option<usize>,
+    row: &Row,
     device: Option<SessionACL>,
-) -> Over {
-    let options = ["ro", "rw", "auto_unmount"];
-    let config = config_of(rt, &options, SessionACL::Owner, n_threads, true);
-    end_of(rt, open(rt, &[&INIT_7_8], config, device))
+) {
+    let config = config_of(rt, row.options, row.acl, row.n_threads, true);
+    let opening = open(rt, row.given, config, device);
+    expect_same(rt, &(row.what, opening.is_ok()), &(row.what, row.is_opened));
+    is_left(rt, row.what, end_of(rt, opening), &row.left);
 }
 
-// Options that conflict, and the unmount for an owner, are of a mount.
-const CONFLICT: Result<(), SessionError> = Err(SessionError::Conflict {
-    first: 0,
-    second: 1,
-});
-
-#[test]
-fn of_its_options_a_device_looks_at_one(rt: HostRuntime) {
-    let owner = Some(SessionACL::Owner);
-    let over = end_with_options(&rt, None, None);
-    is_left(&rt, over, CONFLICT, 0, &[], 0);
-    let over = end_with_options(&rt, None, owner);
-    is_left(&rt, over, Ok(()), 1, &[&ACCEPTED], 1);
-    let over = end_with_options(&rt, Some(2), None);
-    is_left(&rt, over, CONFLICT, 0, &[], 0);
-    let over = end_with_options(&rt, Some(2), owner);
-    is_left(&rt, over, Err(SessionError::CloneFd), 0, &[], 0);
-}
-
-#[test]
-fn a_device_serves_whom_its_own_rule_admits(rt: HostRuntime) {
-    let rows = [
-        (SessionACL::All, SessionACL::Owner, EACCES),
-        (SessionACL::Owner, SessionACL::All, ENOENT),
-    ];
-    for (configured, acl, errno) in rows {
-        let config = config_of(&rt, &[], configured, None, true);
-        let opening = open(&rt, &[&INIT_7_8, &lookup(2, 6)], config, Some(acl));
-        let over = end_of(&rt, opening);
-        let frames: [&[u8]; 2] = [&ACCEPTED, &error_reply(2, errno)];
-        is_left(&rt, over, Ok(()), 2, &frames, 1);
+/// The same of these rows, over each of their devices.
+fn go<R: Threads + Wait + AllocGlobal + Abort + Sync>(rt: &R, rows: &[Row]) {
+    for row in rows {
+        for device in row.devices {
+            goes(rt, row, *device);
+        }
     }
+}
+
+/// Sessions that are opened.
+const OPENED: &[Row] = &[
+    Row {
+        what: "opened and then run",
+        options: &[],
+        acl: SessionACL::All,
+        n_threads: None,
+        devices: BOTH,
+        given: &[Given::Opening, Given::Asked(Request::Lookup(2, 6))],
+        is_opened: true,
+        left: Left {
+            end: End::Fine,
+            received: 2,
+            frames: &[Frame::Accepted, Frame::Error(2, ENOENT)],
+            destroyed: 1,
+        },
+    },
+    Row {
+        what: "opened, with no thread to serve",
+        options: &[],
+        acl: SessionACL::All,
+        n_threads: Some(0),
+        devices: BOTH,
+        given: &[Given::Opening, Given::Asked(Request::Lookup(2, 5))],
+        is_opened: true,
+        left: Left {
+            end: End::Threads,
+            received: 1,
+            frames: &[Frame::Accepted],
+            destroyed: 1,
+        },
+    },
+];
+
+/// Handshakes that are not accepted open no session.
+const REFUSED: &[Row] = &[
+    Row {
+        what: "no message",
+        options: &[],
+        acl: SessionACL::All,
+        n_threads: Some(0),
+        devices: BOTH,
+        given: &[],
+        is_opened: false,
+        left: Left {
+            end: End::NotConnected,
+            received: 0,
+            frames: &[],
+            destroyed: 1,
+        },
+    },
+    Row {
+        what: "a header that is cut short",
+        options: &[],
+        acl: SessionACL::All,
+        n_threads: Some(0),
+        devices: BOTH,
+        given: &[Given::Cut(20)],
+        is_opened: false,
+        left: Left {
+            end: End::Header(RequestError::ShortReadHeader(20)),
+            received: 1,
+            frames: &[],
+            destroyed: 1,
+        },
+    },
+    Row {
+        what: "LOOKUP before INIT",
+        options: &[],
+        acl: SessionACL::All,
+        n_threads: Some(0),
+        devices: BOTH,
+        given: &[Given::Asked(Request::Lookup(2, 5))],
+        is_opened: false,
+        left: Left {
+            end: End::NotInit(FUSE_LOOKUP),
+            received: 1,
+            frames: &[Frame::Error(2, EIO)],
+            destroyed: 1,
+        },
+    },
+    Row {
+        what: "the version 7.5",
+        options: &[],
+        acl: SessionACL::All,
+        n_threads: Some(0),
+        devices: BOTH,
+        given: &[Given::Init(7, 5)],
+        is_opened: false,
+        left: Left {
+            end: End::Unsupported(7, 5),
+            received: 1,
+            frames: &[Frame::Error(1, EPROTO)],
+            destroyed: 1,
+        },
+    },
+];
+
+/// Options that conflict, and the unmount for an owner, are of a mount.
+const MOUNTED: &[&str] = &["ro", "rw", "auto_unmount"];
+
+/// What a conflict of these options leaves.
+const CONFLICT: Left = Left {
+    end: End::Conflict(0, 1),
+    received: 0,
+    frames: &[],
+    destroyed: 0,
+};
+
+/// Of its options a device looks at one.
+const WITH_OPTIONS: &[Row] = &[
+    Row {
+        what: "a mount looks at its options",
+        options: MOUNTED,
+        acl: SessionACL::Owner,
+        n_threads: None,
+        devices: &[None],
+        given: &[Given::Opening],
+        is_opened: false,
+        left: CONFLICT,
+    },
+    Row {
+        what: "a device does not look at them",
+        options: MOUNTED,
+        acl: SessionACL::Owner,
+        n_threads: None,
+        devices: &[Some(SessionACL::Owner)],
+        given: &[Given::Opening],
+        is_opened: true,
+        left: Left {
+            end: End::Fine,
+            received: 1,
+            frames: &[Frame::Accepted],
+            destroyed: 1,
+        },
+    },
+    Row {
+        what: "a mount looks at its options first",
+        options: MOUNTED,
+        acl: SessionACL::Owner,
+        n_threads: Some(2),
+        devices: &[None],
+        given: &[Given::Opening],
+        is_opened: false,
+        left: CONFLICT,
+    },
+    Row {
+        what: "a device looks at its threads",
+        options: MOUNTED,
+        acl: SessionACL::Owner,
+        n_threads: Some(2),
+        devices: &[Some(SessionACL::Owner)],
+        given: &[Given::Opening],
+        is_opened: false,
+        left: Left {
+            end: End::CloneFd,
+            received: 0,
+            frames: &[],
+            destroyed: 0,
+        },
+    },
+];
+
+/// A device serves whom its own rule admits.
+const WITH_RULES: &[Row] = &[
+    Row {
+        what: "a device that serves its owner",
+        options: &[],
+        acl: SessionACL::All,
+        n_threads: None,
+        devices: &[Some(SessionACL::Owner)],
+        given: &[Given::Opening, Given::Asked(Request::Lookup(2, 6))],
+        is_opened: true,
+        left: Left {
+            end: End::Fine,
+            received: 2,
+            frames: &[Frame::Accepted, Frame::Error(2, EACCES)],
+            destroyed: 1,
+        },
+    },
+    Row {
+        what: "a device that serves all",
+        options: &[],
+        acl: SessionACL::Owner,
+        n_threads: None,
+        devices: &[Some(SessionACL::All)],
+        given: &[Given::Opening, Given::Asked(Request::Lookup(2, 6))],
+        is_opened: true,
+        left: Left {
+            end: End::Fine,
+            received: 2,
+            frames: &[Frame::Accepted, Frame::Error(2, ENOENT)],
+            destroyed: 1,
+        },
+    },
+];
+
+#[test]
+fn each_session_is_opened_and_then_run_as_its_row_says(rt: HostRuntime) {
+    go(&rt, OPENED);
+    go(&rt, REFUSED);
+    go(&rt, WITH_OPTIONS);
+    go(&rt, WITH_RULES);
 }

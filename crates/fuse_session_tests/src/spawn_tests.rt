@@ -1,19 +1,16 @@
 // Sessions in the background.
-ghost use Rattle.std.specs.Prelude.{false};
-
-use crate::asserts::{expect, expect_same};
+use crate::asserts::expect_same;
 use crate::counting::Counting;
-use crate::session_tests::{Over, is_left};
+use crate::ends::End;
+use crate::messages::{Frame, Given, Request, source_of};
+use crate::session_tests::{Left, Over, is_left};
 use fuse_config::{Config, SessionACL};
-use fuse_probing::test_messages::{ACCEPTED, ENOENT, INIT_7_8, error_reply, lookup, source_of};
-use fuse_probing::{Argument, Probe, Probing};
-use fuse_request::Request;
+use fuse_probing::Probing;
+use fuse_probing::test_messages::ENOENT;
 use fuse_session::{
-    BackgroundSession, Ended, InlineSpawner, Session, SessionError, SpawnError, Spawner,
-    ThreadSpawner, spawn_mount,
+    BackgroundSession, InlineSpawner, Session, SpawnError, Spawner, ThreadSpawner, spawn_mount,
 };
 use fuse_wire::{MemorySink, MemorySource};
-use std::alloc::Global;
 use std::process::Abort;
 use std::sync::atomic::{AtomicU64, Ordering};
 use std::sync::{Arc, Wait};
@@ -29,111 +26,44 @@ type Opened = Session<Probing<Counting>, MemorySource, MemorySink>;
 
 type Refusal = SpawnError<Probing<Counting>, MemorySource, MemorySink>;
 
-/// Mounts a filesystem that counts over these messages, in the background.
+/// INIT and a LOOKUP.
+const MESSAGES: &[Given] = &[Given::Opening, Given::Asked(Request::Lookup(2, 0))];
+
+/// What a session of them leaves, which has answered both.
+const ANSWERED: Left = Left {
+    end: End::Fine,
+    received: 2,
+    frames: &[Frame::Accepted, Frame::Error(2, ENOENT)],
+    destroyed: 1,
+};
+
+/// What a session of no message leaves.
+const NOT_CONNECTED: Left = Left {
+    end: End::NotConnected,
+    received: 0,
+    frames: &[],
+    destroyed: 1,
+};
+
+/// Mounts this filesystem over these messages, in the background.
 fn spawn<R: Threads + Wait + AllocGlobal + Abort + Send + Sync + Copy + 'static>(
     rt: &R,
     spawner: &mut Spawner,
     n_threads: Option<usize>,
-    messages: &[&[u8]],
+    probe: Counting,
+    given: &[Given],
 ) -> Result<Background, Refusal> {
     let alloc = rt.alloc();
-    let source = source_of(alloc, messages).expect(rt, "there is memory");
+    let source = source_of(rt, given);
     let sink = MemorySink::new(alloc, Vec::new(alloc));
-    let filesystem = Probing {
-        probe: Counting::new(None),
-    };
+    let filesystem = Probing { probe };
     let mut config = Config::new(alloc);
     config.acl = SessionACL::All;
     config.n_threads = n_threads;
     spawn_mount(rt, spawner, filesystem, source, sink, 0, 4096, &config)
 }
 
-/// The end of a session that a spawner was to start, and whether it did. Where it refused, the session is run here.
-fn over<R: Threads + Wait + AllocGlobal + Sync>(
-    rt: &R,
-    spawned: Result<Background, Refusal>,
-) -> (Over, bool) {
-    match spawned {
-        Ok(background) => (background.join(rt), true),
-        Err(SpawnError::Refused(session)) => (session.run(rt), false),
-        Err(SpawnError::Ended(ended)) => (ended, false),
-    }
-}
-
-/// It took INIT and a LOOKUP, and answered both.
-fn has_answered_a_lookup<R: Abort>(rt: &R, over: Over) {
-    let frames: [&[u8]; 2] = [&ACCEPTED, &error_reply(2, ENOENT)];
-    is_left(rt, over, Ok(()), 2, &frames, 1);
-}
-
-#[test]
-fn a_session_runs_in_the_background(rt: HostRuntime) {
-    for n_threads in [None, Some(2)] {
-        let mut spawners = [
-            Spawner::Thread(ThreadSpawner::new()),
-            Spawner::Inline(InlineSpawner::new(Vec::new(rt.alloc()))),
-        ];
-        for spawner in &mut spawners {
-            let spawned = spawn(&rt, spawner, n_threads, &[&INIT_7_8, &lookup(2, 0)]);
-            let (over, started) = over(&rt, spawned);
-            expect(&rt, "the session is started", started);
-            has_answered_a_lookup(&rt, over);
-        }
-    }
-}
-
-#[test]
-fn a_session_that_is_not_started_can_still_be_run(rt: HostRuntime) {
-    let refusals = vec![in rt.alloc(); 1, 3].expect(&rt, "there is memory");
-    let mut spawner = Spawner::Inline(InlineSpawner::new(refusals));
-    for expected in [false, true, false, true] {
-        let spawned = spawn(&rt, &mut spawner, None, &[&INIT_7_8, &lookup(2, 0)]);
-        let (over, started) = over(&rt, spawned);
-        expect_same(&rt, &started, &expected);
-        has_answered_a_lookup(&rt, over);
-    }
-}
-
-#[test]
-fn a_session_that_is_not_opened_is_not_started(rt: HostRuntime) {
-    let mut spawner = Spawner::Thread(ThreadSpawner::new());
-    let spawned = spawn(&rt, &mut spawner, None, &[]);
-    let (over, started) = over(&rt, spawned);
-    expect(&rt, "the session is not started", !started);
-    is_left(&rt, over, Err(SessionError::NotConnected), 0, &[], 1);
-}
-
-/// A filesystem that says how often it was called.
-#[derive(Drop)]
-struct Telling {
-    calls: Arc<AtomicU64, Global>,
-}
-
-impl Probe for Telling {
-    ghost own = { λ call answer. Unit {0} };
-
-    const DEFERS: bool = false;
-
-    ghost DEFERS = { false };
-
-    fn started(&mut self, _request: &Request) {}
-
-    fn called(
-        &self,
-        _request: &Request,
-        _method: &'static str,
-        _arguments: &[Argument],
-        _texts: &[&[u8]],
-    ) {
-        self.calls.fetch_add(1, Ordering::SeqCst);
-    }
-
-    fn destroyed(&mut self) {}
-
-    ghost allows_default = { λ call. tt };
-}
-
-/// Whether it was called in time.
+/// Whether a filesystem was called in time, which tells its calls.
 fn is_called(calls: &AtomicU64) -> bool {
     for _turn in 0..MOST_TURNS {
         if calls.load(Ordering::SeqCst) > 0 {
@@ -144,50 +74,178 @@ fn is_called(calls: &AtomicU64) -> bool {
     false
 }
 
-/// Starts a session of it over these devices, in the background.
-fn spawn_telling<R: Threads + Wait + AllocGlobal + Abort + Send + Sync + Copy + 'static>(
+/// What is looked at of a session in the background before it is joined.
+#[derive(Clone, Copy)]
+enum Look<'a> {
+    Nothing,
+    /// A notifier is made of it.
+    Notifier,
+    /// Its filesystem is called, which counts here.
+    Calls(&'a AtomicU64),
+}
+
+/// Waits for the end of a session in the background, and says whether this was seen of it before.
+fn joined<R: Threads + Wait + AllocGlobal + Sync>(
     rt: &R,
-    probe: Telling,
-    source: MemorySource,
-    sink: MemorySink,
-) -> BackgroundSession<Probing<Telling>, MemorySource, MemorySink> {
-    let mut spawner = Spawner::Thread(ThreadSpawner::new());
-    let mut config = Config::new(rt.alloc());
-    config.acl = SessionACL::All;
-    let filesystem = Probing { probe };
-    match spawn_mount(rt, &mut spawner, filesystem, source, sink, 0, 4096, &config) {
-        Ok(background) => background,
-        Err(_) => panic!(rt; "not started"),
+    mut background: Background,
+    look: Look<'_>,
+) -> (Over, bool) {
+    let seen = match look {
+        Look::Nothing => true,
+        Look::Notifier => background.notifier().is_ok(),
+        Look::Calls(calls) => is_called(calls),
+    };
+    (background.join(rt), seen)
+}
+
+/// The end of a session that a spawner was to start, and whether it did and this was seen of it then. Where the spawner
+/// refused, the session is run here.
+fn over<R: Threads + Wait + AllocGlobal + Sync>(
+    rt: &R,
+    spawned: Result<Background, Refusal>,
+    look: Look<'_>,
+) -> (Over, bool) {
+    match spawned {
+        Ok(background) => joined(rt, background, look),
+        Err(SpawnError::Refused(session)) => (session.run(rt), false),
+        Err(SpawnError::Ended(ended)) => (ended, false),
     }
 }
 
-/// How a session ended, of which all else is let go.
-fn outcome_of<FS: Drop>(over: Ended<FS, MemorySource, MemorySink>) -> Result<(), SessionError> {
-    over.outcome
+/// Sessions that a spawner is to start.
+struct Trial {
+    /// Which starts are refused, where it is one that runs a session as it starts it; or else it starts threads.
+    refusals: Option<&'static [u64]>,
+    n_threads: Option<usize>,
+    given: &'static [Given],
+    /// Whether a notifier is made of each that is started.
+    is_notified: bool,
+    /// What each session leaves, wherever it is run.
+    left: Left,
+    /// Whether each is started.
+    started: &'static [bool],
+}
+
+/// A spawner that refuses these starts, or that starts threads.
+fn spawner_of<R: AllocGlobal + Abort>(rt: &R, refusals: Option<&[u64]>) -> Spawner {
+    match refusals {
+        Some(places) => {
+            let places = places.to_vec(rt.alloc()).expect(rt, "there is memory");
+            Spawner::Inline(InlineSpawner::new(places))
+        }
+        None => Spawner::Thread(ThreadSpawner::new()),
+    }
+}
+
+/// A session of this trial is started by this spawner, or is not.
+fn goes<R: Threads + Wait + AllocGlobal + Abort + Send + Sync + Copy + 'static>(
+    rt: &R,
+    spawner: &mut Spawner,
+    trial: &Trial,
+    is_started: bool,
+) {
+    let counting = Counting::new(None);
+    let spawned = spawn(rt, spawner, trial.n_threads, counting, trial.given);
+    let look = if trial.is_notified {
+        Look::Notifier
+    } else {
+        Look::Nothing
+    };
+    let (over, started) = over(rt, spawned, look);
+    is_left(rt, "spawned", over, &trial.left);
+    expect_same(rt, &started, &is_started);
+}
+
+/// The sessions of this trial go as it says.
+fn go<R: Threads + Wait + AllocGlobal + Abort + Send + Sync + Copy + 'static>(
+    rt: &R,
+    trial: &Trial,
+) {
+    let mut spawner = spawner_of(rt, trial.refusals);
+    for is_started in trial.started {
+        goes(rt, &mut spawner, trial, *is_started);
+    }
+    drop(spawner);
+}
+
+const TRIALS: &[Trial] = &[
+    Trial {
+        refusals: None,
+        n_threads: None,
+        given: MESSAGES,
+        is_notified: false,
+        left: ANSWERED,
+        started: &[true],
+    },
+    Trial {
+        refusals: None,
+        n_threads: Some(2),
+        given: MESSAGES,
+        is_notified: false,
+        left: ANSWERED,
+        started: &[true],
+    },
+    Trial {
+        refusals: Some(&[]),
+        n_threads: None,
+        given: MESSAGES,
+        is_notified: false,
+        left: ANSWERED,
+        started: &[true],
+    },
+    Trial {
+        refusals: Some(&[]),
+        n_threads: Some(2),
+        given: MESSAGES,
+        is_notified: false,
+        left: ANSWERED,
+        started: &[true],
+    },
+    // one of which a notifier is made
+    Trial {
+        refusals: None,
+        n_threads: None,
+        given: MESSAGES,
+        is_notified: true,
+        left: ANSWERED,
+        started: &[true],
+    },
+    // one that is not started can still be run
+    Trial {
+        refusals: Some(&[1, 3]),
+        n_threads: None,
+        given: MESSAGES,
+        is_notified: false,
+        left: ANSWERED,
+        started: &[false, true, false, true],
+    },
+    // one that is not opened is not started
+    Trial {
+        refusals: None,
+        n_threads: None,
+        given: &[],
+        is_notified: false,
+        left: NOT_CONNECTED,
+        started: &[false],
+    },
+];
+
+#[test]
+fn a_session_runs_in_the_background_and_has_notifiers(rt: HostRuntime) {
+    for trial in TRIALS {
+        go(&rt, trial);
+    }
 }
 
 #[test]
 fn a_session_runs_before_it_is_joined(rt: HostRuntime) {
-    let alloc = rt.alloc();
-    let calls = Arc::new(alloc, AtomicU64::new(0)).expect(&rt, "there is memory");
-    let source = source_of(alloc, &[&INIT_7_8, &lookup(2, 0)]).expect(&rt, "there is memory");
-    let probe = Telling {
-        calls: Arc::try_clone(&calls).expect(&rt, "there is memory"),
-    };
-    let sink = MemorySink::new(alloc, Vec::new(alloc));
-    let background = spawn_telling(&rt, probe, source, sink);
-    expect(&rt, "the filesystem is called", is_called(&calls));
-    expect_same(&rt, &outcome_of(background.join(&rt)), &Ok(()));
-}
-
-/// Whether a session in the background, which is then joined, made a notifier.
-fn makes_notifiers<R: Threads + Wait + AllocGlobal + Abort + Sync>(
-    rt: &R,
-    mut background: Background,
-) -> bool {
-    let made = background.notifier().is_ok();
-    has_answered_a_lookup(rt, background.join(rt));
-    made
+    let calls = Arc::new(rt.alloc(), AtomicU64::new(0)).expect(&rt, "there is memory");
+    let told = Arc::try_clone(&calls).expect(&rt, "there is memory");
+    let mut spawner = Spawner::Thread(ThreadSpawner::new());
+    let spawned = spawn(&rt, &mut spawner, None, Counting::telling(told), MESSAGES);
+    let (over, called) = over(&rt, spawned, Look::Calls(&calls));
+    is_left(&rt, "called", over, &ANSWERED);
+    expect_same(&rt, &called, &true);
 }
 
 /// The session that a spawner refused to start.
@@ -198,35 +256,23 @@ fn refused<R: Abort>(rt: &R, spawned: Result<Background, Refusal>) -> Opened {
     }
 }
 
-/// The session that a spawner started.
-fn started<R: Abort>(rt: &R, spawned: Result<Background, Refusal>) -> Background {
-    match spawned {
-        Ok(background) => background,
-        Err(_) => panic!(rt; "not started"),
-    }
-}
-
-/// Starts a session that was opened.
-fn start<R: Threads + Wait + AllocGlobal + Abort + Send + Sync + Copy + 'static>(
+/// The end of a session that this spawner starts now, and whether a notifier was made of it.
+fn over_later<R: Threads + Wait + AllocGlobal + Abort + Send + Sync + Copy + 'static>(
     rt: &R,
     spawner: &mut Spawner,
     session: Opened,
-) -> Background {
+) -> (Over, bool) {
     match session.spawn(rt, spawner) {
-        Ok(background) => background,
+        Ok(background) => joined(rt, background, Look::Notifier),
         Err(_) => panic!(rt; "refused twice"),
     }
 }
 
 #[test]
-fn a_session_in_the_background_has_notifiers(rt: HostRuntime) {
-    let messages: [&[u8]; 2] = [&INIT_7_8, &lookup(2, 0)];
-    let refusals = vec![in rt.alloc(); 1].expect(&rt, "there is memory");
-    let mut refusing = Spawner::Inline(InlineSpawner::new(refusals));
-    let session = refused(&rt, spawn(&rt, &mut refusing, None, &messages));
-    let background = start(&rt, &mut refusing, session);
-    expect(&rt, "notifiers are made", makes_notifiers(&rt, background));
-    let mut threads = Spawner::Thread(ThreadSpawner::new());
-    let background = started(&rt, spawn(&rt, &mut threads, None, &messages));
-    expect(&rt, "notifiers are made", makes_notifiers(&rt, background));
+fn a_session_that_is_refused_can_be_started_later(rt: HostRuntime) {
+    let mut spawner = spawner_of(&rt, Some(&[1]));
+    let spawned = spawn(&rt, &mut spawner, None, Counting::new(None), MESSAGES);
+    let (over, notified) = over_later(&rt, &mut spawner, refused(&rt, spawned));
+    is_left(&rt, "started later", over, &ANSWERED);
+    expect_same(&rt, &notified, &true);
 }

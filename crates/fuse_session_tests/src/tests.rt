@@ -1,454 +1,489 @@
 // Whole sessions, from memory to memory.
+ghost use Rattle.std.specs.Prelude.{◌<◌};
 
-use crate::asserts::{expect, expect_same};
-use crate::counting::{CONTENTS, Counting, Course, run, run_with};
+use crate::asserts::expect_same;
+use crate::counting::Counting;
+use crate::ends::End;
+use crate::messages::{Frame, Given, Request, copied};
+use crate::refusals::REFUSALS;
+use crate::rows::{Devices, ONE, ONE_AND_TWO, Row, serve, serve_all};
 use fuse_config::{Config, SessionACL};
 use fuse_probing::test_messages::{
-    ACCEPTED, EACCES, EINVAL, EIO, ENOENT, ENOSYS, EPROTO, INIT_7_8, NO_OPCODE, batch_forget,
-    empty_batch_forget, endless_lookup, error_reply, forget, getattr, init, lookup, message, read,
-    short_forget, source_of,
+    EACCES, EINVAL, EIO, ENOENT, ENOSYS, EPROTO, INIT_7_8, NO_OPCODE,
 };
 use fuse_request::RequestError;
 use fuse_request::opcode::{FUSE_DESTROY, FUSE_LOOKUP};
-use fuse_session::{InvalidData, SessionError, Transcript};
-use fuse_wire::{Items, MemorySink, MemorySource, RequestId, Version};
+use fuse_wire::{Items, RequestId};
 use std::process::Abort;
 use std::sync::Wait;
 use std::thread::Threads;
 
-/// How many messages a session takes, how many frames and notes it loses, how often it calls its filesystem, and what
-/// it notes.
-#[derive(Clone, Copy)]
-pub(crate) struct Counts<'a> {
-    pub(crate) received: u64,
-    pub(crate) lost: u64,
-    pub(crate) calls: u64,
-    pub(crate) notes: &'a [(RequestId, u64)],
-}
-
-/// Whether one thread at most is to serve a session, so that it sends all in order.
-fn is_ordered(config: &Config) -> bool {
-    match config.n_threads {
-        Some(threads) => threads < 2,
-        None => true,
-    }
-}
-
-/// How many frames a session sends in their order: on one thread all, else those of its handshake.
-fn ordered(config: &Config, frames: &[&[u8]]) -> usize {
-    if is_ordered(config) {
-        return frames.len();
-    }
-    match frames
-        .iter()
-        .position(|frame| *frame == ACCEPTED.as_slice())
-    {
-        Some(accepted) => accepted.saturating_add(1),
-        None => frames.len(),
-    }
-}
-
-/// The frames from this place on that are this one, of those that were sent.
-fn times_sent(sent: &[Items<u8>], place: usize, frame: &[u8]) -> usize {
-    let others = sent.get(place..).unwrap_or(&[]);
-    others.iter().filter(|one| one.as_slice() == frame).count()
-}
-
-/// The same, of those that are listed.
-fn times_listed(frames: &[&[u8]], place: usize, frame: &[u8]) -> usize {
-    let others = frames.get(place..).unwrap_or(&[]);
-    others.iter().filter(|one| **one == frame).count()
-}
-
-/// These frames were sent, and no other: so many of them in this order, and the others in any.
-fn are_sent<R: Abort>(rt: &R, ordered: usize, sent: &[Items<u8>], frames: &[&[u8]]) {
-    expect_same(rt, &sent.len(), &frames.len());
-    for (one, frame) in sent.iter().zip(frames).take(ordered) {
-        expect_same(rt, &one.as_slice(), frame);
-    }
-    for frame in frames.iter().skip(ordered) {
-        let times = times_sent(sent, ordered, frame);
-        expect_same(rt, &times, &times_listed(frames, ordered, frame));
-    }
-}
-
-/// These notes were sent, and no other: in this order, or in any.
-fn are_noted<R: Abort>(
-    rt: &R,
-    is_ordered: bool,
-    sent: &[(RequestId, u64)],
-    notes: &[(RequestId, u64)],
-) {
-    if is_ordered {
-        expect_same(rt, &sent, &notes);
-        return;
-    }
-    expect_same(rt, &sent.len(), &notes.len());
-    for note in notes {
-        expect(rt, "the note was sent", sent.contains(note));
-    }
-}
-
-/// A session that one thread or several served went so: with this outcome and these counts. Of it the sink took these
-/// frames and the notes, and no other.
-fn went_so<R: Abort>(
-    rt: &R,
-    config: &Config,
-    course: Course,
-    sink: &MemorySink,
-    frames: &[&[u8]],
-    outcome: Result<(), SessionError>,
-    counts: Counts<'_>,
-) {
-    let expected = Course {
-        outcome,
-        transcript: Transcript {
-            received: counts.received,
-            frames: frames.len() as u64,
-            notes: counts.notes.len() as u64,
-            lost: counts.lost,
-            unrecorded: 0,
-        },
-        calls: counts.calls,
-        destroyed: 1,
-    };
-    expect_same(rt, &course, &expected);
-    are_sent(rt, ordered(config, frames), sink.frames(), frames);
-    are_noted(rt, is_ordered(config), sink.notes(), counts.notes);
-}
-
-/// Serves this source in a session with this outcome and these counts, of which the sink takes these frames and the
-/// notes, and no other. The source comes back.
-pub(crate) fn serves_source<R: Threads + Wait + AllocGlobal + Abort + Sync>(
-    rt: &R,
-    config: &Config,
-    source: MemorySource,
-    sink: MemorySink,
-    frames: &[&[u8]],
-    outcome: Result<(), SessionError>,
-    counts: Counts<'_>,
-) -> MemorySource {
-    let (course, source, sink) = run(rt, source, sink, config);
-    went_so(rt, config, course, &sink, frames, outcome, counts);
-    drop(sink);
-    source
-}
-
-/// Serves the first of these messages in a session on so many threads that sends these frames, with this outcome and these
-/// counts.
-fn serves_on<R: Threads + Wait + AllocGlobal + Abort + Sync>(
-    rt: &R,
-    n_threads: Option<usize>,
-    messages: &[&[u8]],
-    frames: &[&[u8]],
-    outcome: &Result<(), SessionError>,
-    counts: Counts<'_>,
-) {
-    let alloc = rt.alloc();
-    let mut config = Config::new(alloc);
-    config.n_threads = n_threads;
-    let source = source_of(alloc, messages).expect(rt, "there is memory");
-    let sink = MemorySink::new(alloc, Vec::new(alloc));
-    let _source = serves_source(rt, &config, source, sink, frames, *outcome, counts);
-}
-
-/// The same on as many threads as are configured; and where any are, once more on two.
-fn serves_calls<R: Threads + Wait + AllocGlobal + Abort + Sync>(
-    rt: &R,
-    config: &Config,
-    messages: &[&[u8]],
-    frames: &[&[u8]],
-    outcome: Result<(), SessionError>,
-    counts: Counts<'_>,
-) {
-    serves_on(rt, config.n_threads, messages, frames, &outcome, counts);
-    if config.n_threads == Some(0) {
-        return;
-    }
-    serves_on(rt, Some(2), messages, frames, &outcome, counts)
-}
-
-/// Serves the first of these messages, so many, in a session with this outcome, which sends these frames and no note,
-/// and calls the filesystem for none.
-fn serves<R: Threads + Wait + AllocGlobal + Abort + Sync>(
-    rt: &R,
-    config: &Config,
-    messages: &[&[u8]],
-    received: u64,
-    frames: &[&[u8]],
-    outcome: Result<(), SessionError>,
-) {
-    let counts = Counts {
-        received,
+/// Sessions that end at a faulty header.
+const FAULTY_HEADERS: &[Row] = &[
+    Row {
+        what: "a header that is cut short",
+        acl: SessionACL::Owner,
+        threads: ONE_AND_TWO,
+        devices: Devices::Plain,
+        given: &[Given::Cut(20)],
+        frames: &[],
+        notes: &[],
+        received: 1,
         lost: 0,
         calls: 0,
+        end: End::Header(RequestError::ShortReadHeader(20)),
+    },
+    Row {
+        what: "a message that is cut short",
+        acl: SessionACL::Owner,
+        threads: ONE_AND_TWO,
+        devices: Devices::Plain,
+        given: &[Given::Cut(48)],
+        frames: &[],
         notes: &[],
-    };
-    serves_calls(rt, config, messages, frames, outcome, counts)
-}
+        received: 1,
+        lost: 0,
+        calls: 0,
+        end: End::Header(RequestError::ShortRead(48, 104)),
+    },
+    Row {
+        what: "a length that contradicts the opcode",
+        acl: SessionACL::Owner,
+        threads: ONE_AND_TWO,
+        devices: Devices::Plain,
+        given: &[Given::Changed(0, 0x27)],
+        frames: &[],
+        notes: &[],
+        received: 1,
+        lost: 0,
+        calls: 0,
+        end: End::Header(RequestError::InsufficientData),
+    },
+    Row {
+        what: "a header that is cut short after INIT",
+        acl: SessionACL::Owner,
+        threads: ONE_AND_TWO,
+        devices: Devices::Plain,
+        given: &[Given::Opening, Given::Cut(20)],
+        frames: &[Frame::Accepted],
+        notes: &[],
+        received: 2,
+        lost: 0,
+        calls: 0,
+        end: End::Header(RequestError::ShortReadHeader(20)),
+    },
+];
 
-/// A faulty header.
-fn header_error(error: RequestError) -> Result<(), SessionError> {
-    Err(SessionError::InvalidData(InvalidData::Header(error)))
-}
+/// INIT of version 7.40, of which the kernel asks for more than is taken.
+const LATEST: &[u8] = &[
+    0x68, 0, 0, 0, 0x1a, 0, 0, 0, 1, 0, 0, 0, 0, 0, 0, 0, 0, 0, 0, 0, 0, 0, 0, 0, 0, 0, 0, 0, 0, 0,
+    0, 0, 0, 0, 0, 0, 0, 0, 0, 0, 7, 0, 0, 0, 0x28, 0, 0, 0, 0, 0, 2, 0, 0x21, 0, 0x40, 0x40, 0x20,
+    0, 0, 0, 0, 0, 0, 0, 0, 0, 0, 0, 0, 0, 0, 0, 0, 0, 0, 0, 0, 0, 0, 0, 0, 0, 0, 0, 0, 0, 0, 0, 0,
+    0, 0, 0, 0, 0, 0, 0, 0, 0, 0, 0, 0, 0, 0, 0,
+];
 
-#[test]
-fn ends_at_a_faulty_header(rt: HostRuntime) {
-    let config = Config::new(rt.alloc());
-    let mut wrong = INIT_7_8;
-    wrong[0] = 0x27;
-    let mut short = [0; 20];
-    short.copy_from_slice(&INIT_7_8[..20]);
-    let no_header = header_error(RequestError::ShortReadHeader(20));
-    let late = header_error(RequestError::ShortReadHeader(20));
-    let cut = header_error(RequestError::ShortRead(48, 104));
-    let contradictory = header_error(RequestError::InsufficientData);
-    serves(&rt, &config, &[&short], 1, &[], no_header);
-    serves(&rt, &config, &[&INIT_7_8[..48]], 1, &[], cut);
-    serves(&rt, &config, &[&wrong], 1, &[], contradictory);
-    serves(&rt, &config, &[&INIT_7_8, &short], 2, &[&ACCEPTED], late)
-}
+/// The reply to it.
+const FULL: &[u8] = &[
+    0x50, 0, 0, 0, 0, 0, 0, 0, 1, 0, 0, 0, 0, 0, 0, 0, 7, 0, 0, 0, 0x28, 0, 0, 0, 0, 0, 2, 0, 0x21,
+    0, 0x40, 0x40, 0x10, 0, 0x0c, 0, 0, 0, 0, 1, 1, 0, 0, 0, 0, 0x10, 0, 0, 0, 0, 0, 0, 0, 0, 0, 0,
+    0, 0, 0, 0, 0, 0, 0, 0, 0, 0, 0, 0, 0, 0, 0, 0, 0, 0, 0, 0, 0, 0, 0, 0,
+];
 
-#[test]
-fn agrees_on_a_version(rt: HostRuntime) {
-    let mut offer = [0; 80];
-    offer[..24].copy_from_slice(&[
-        0x50, 0, 0, 0, 0, 0, 0, 0, 1, 0, 0, 0, 0, 0, 0, 0, 7, 0, 0, 0, 0x28, 0, 0, 0,
-    ]);
-    let mut full = [0; 80];
-    full[..48].copy_from_slice(&[
-        0x50, 0, 0, 0, 0, 0, 0, 0, 1, 0, 0, 0, 0, 0, 0, 0, 7, 0, 0, 0, 0x28, 0, 0, 0, 0, 0, 2, 0,
-        0x21, 0, 0x40, 0x40, 0x10, 0, 0x0c, 0, 0, 0, 0, 1, 1, 0, 0, 0, 0, 0x10, 0, 0,
-    ]);
-    let mut latest = init(7, 40);
-    latest[49] = 0;
-    latest[50] = 2;
-    latest[52] = 0x21;
-    latest[54] = 0x40;
-    latest[55] = 0x40;
-    latest[56] = 0x20;
-    let old = Err(SessionError::Unsupported(Version(7, 5)));
-    let config = Config::new(rt.alloc());
-    serves(&rt, &config, &[&INIT_7_8], 1, &[&ACCEPTED], Ok(()));
-    serves(&rt, &config, &[&latest], 1, &[&full], Ok(()));
-    serves(
-        &rt,
-        &config,
-        &[&init(8, 0), &INIT_7_8],
-        2,
-        &[&offer, &ACCEPTED],
-        Ok(()),
-    );
-    serves(
-        &rt,
-        &config,
-        &[&init(7, 5)],
-        1,
-        &[&error_reply(1, EPROTO)],
-        old,
-    )
-}
+/// The reply that offers the version 7.40.
+const OFFER: &[u8] = &[
+    0x50, 0, 0, 0, 0, 0, 0, 0, 1, 0, 0, 0, 0, 0, 0, 0, 7, 0, 0, 0, 0x28, 0, 0, 0, 0, 0, 0, 0, 0, 0,
+    0, 0, 0, 0, 0, 0, 0, 0, 0, 0, 0, 0, 0, 0, 0, 0, 0, 0, 0, 0, 0, 0, 0, 0, 0, 0, 0, 0, 0, 0, 0, 0,
+    0, 0, 0, 0, 0, 0, 0, 0, 0, 0, 0, 0, 0, 0, 0, 0, 0, 0,
+];
 
-#[test]
-fn awaits_init(rt: HostRuntime) {
-    let config = Config::new(rt.alloc());
-    let unknown = InvalidData::Operation(RequestError::UnknownOperation(7));
-    let unknown = Err(SessionError::InvalidData(unknown));
-    let destroy = Err(SessionError::InvalidData(InvalidData::NotInit(FUSE_DESTROY)));
-    let early = Err(SessionError::InvalidData(InvalidData::NotInit(FUSE_LOOKUP)));
-    let refused = error_reply(2, EIO);
-    serves(&rt, &config, &[], 0, &[], Err(SessionError::NotConnected));
-    serves(
-        &rt,
-        &config,
-        &[&message(NO_OPCODE, 2, 1, 0)],
-        1,
-        &[],
-        unknown,
-    );
-    serves(
-        &rt,
-        &config,
-        &[&message(FUSE_DESTROY, 2, 0, 0)],
-        1,
-        &[&refused],
-        destroy,
-    );
-    serves(&rt, &config, &[&lookup(2, 5)], 1, &[&refused], early)
-}
+/// Versions that are agreed on, and one that is not.
+const VERSIONS: &[Row] = &[
+    Row {
+        what: "the version 7.8",
+        acl: SessionACL::Owner,
+        threads: ONE_AND_TWO,
+        devices: Devices::Plain,
+        given: &[Given::Opening],
+        frames: &[Frame::Accepted],
+        notes: &[],
+        received: 1,
+        lost: 0,
+        calls: 0,
+        end: End::Fine,
+    },
+    Row {
+        what: "the version 7.40",
+        acl: SessionACL::Owner,
+        threads: ONE_AND_TWO,
+        devices: Devices::Plain,
+        given: &[Given::Bytes(LATEST)],
+        frames: &[Frame::Bytes(FULL)],
+        notes: &[],
+        received: 1,
+        lost: 0,
+        calls: 0,
+        end: End::Fine,
+    },
+    Row {
+        what: "the version 8.0, and then 7.8",
+        acl: SessionACL::Owner,
+        threads: ONE_AND_TWO,
+        devices: Devices::Plain,
+        given: &[Given::Init(8, 0), Given::Opening],
+        frames: &[Frame::Bytes(OFFER), Frame::Accepted],
+        notes: &[],
+        received: 2,
+        lost: 0,
+        calls: 0,
+        end: End::Fine,
+    },
+    Row {
+        what: "the version 7.5",
+        acl: SessionACL::Owner,
+        threads: ONE_AND_TWO,
+        devices: Devices::Plain,
+        given: &[Given::Init(7, 5)],
+        frames: &[Frame::Error(1, EPROTO)],
+        notes: &[],
+        received: 1,
+        lost: 0,
+        calls: 0,
+        end: End::Unsupported(7, 5),
+    },
+];
 
-#[test]
-fn serves_after_init(rt: HostRuntime) {
-    let config = Config::new(rt.alloc());
-    let unknown = message(NO_OPCODE, 2, 1, 5);
-    let destroy = message(FUSE_DESTROY, 2, 0, 0);
-    let done = [16, 0, 0, 0, 0, 0, 0, 0, 2, 0, 0, 0, 0, 0, 0, 0];
-    let mut idle = Config::new(rt.alloc());
-    idle.n_threads = Some(0);
-    let no_threads = Err(SessionError::Threads);
-    serves(
-        &rt,
-        &config,
-        &[&INIT_7_8, &unknown],
-        2,
-        &[&ACCEPTED, &error_reply(2, ENOSYS)],
-        Ok(()),
-    );
-    serves(
-        &rt,
-        &config,
-        &[&INIT_7_8, &destroy, &lookup(3, 0)],
-        2,
-        &[&ACCEPTED, &done],
-        Ok(()),
-    );
-    serves(&rt, &idle, &[&INIT_7_8], 1, &[&ACCEPTED], no_threads)
-}
+/// Sessions without an INIT.
+const WITHOUT_INIT: &[Row] = &[
+    Row {
+        what: "no message",
+        acl: SessionACL::Owner,
+        threads: ONE_AND_TWO,
+        devices: Devices::Plain,
+        given: &[],
+        frames: &[],
+        notes: &[],
+        received: 0,
+        lost: 0,
+        calls: 0,
+        end: End::NotConnected,
+    },
+    Row {
+        what: "an opcode that names no operation, before INIT",
+        acl: SessionACL::Owner,
+        threads: ONE_AND_TWO,
+        devices: Devices::Plain,
+        given: &[Given::Asked(Request::Bare(NO_OPCODE, 2, 1, 0))],
+        frames: &[],
+        notes: &[],
+        received: 1,
+        lost: 0,
+        calls: 0,
+        end: End::Operation(RequestError::UnknownOperation(7)),
+    },
+    Row {
+        what: "DESTROY before INIT",
+        acl: SessionACL::Owner,
+        threads: ONE_AND_TWO,
+        devices: Devices::Plain,
+        given: &[Given::Asked(Request::Bare(FUSE_DESTROY, 2, 0, 0))],
+        frames: &[Frame::Error(2, EIO)],
+        notes: &[],
+        received: 1,
+        lost: 0,
+        calls: 0,
+        end: End::NotInit(FUSE_DESTROY),
+    },
+    Row {
+        what: "LOOKUP before INIT",
+        acl: SessionACL::Owner,
+        threads: ONE_AND_TWO,
+        devices: Devices::Plain,
+        given: &[Given::Asked(Request::Lookup(2, 5))],
+        frames: &[Frame::Error(2, EIO)],
+        notes: &[],
+        received: 1,
+        lost: 0,
+        calls: 0,
+        end: End::NotInit(FUSE_LOOKUP),
+    },
+];
 
-/// The reply of a read to this id.
-fn contents_for(id: u8) -> [u8; 216] {
-    let mut frame = [0; 216];
-    frame[..16].copy_from_slice(&[216, 0, 0, 0, 0, 0, 0, 0, id, 0, 0, 0, 0, 0, 0, 0]);
-    frame[16..].copy_from_slice(&CONTENTS);
-    frame
-}
-
-#[test]
-fn calls_the_filesystem_once_for_each_message(rt: HostRuntime) {
-    serves_calls(
-        &rt,
-        &Config::new(rt.alloc()),
-        &[
-            &INIT_7_8,
-            &lookup(2, 0),
-            &lookup(2, 0),
-            &getattr(3, 0),
-            &read(4, 0, 0, 4096),
-            &forget(5, 0),
-            &short_forget(6, 0),
+/// What follows an INIT.
+const AFTER_INIT: &[Row] = &[
+    Row {
+        what: "an opcode that names no operation, after INIT",
+        acl: SessionACL::Owner,
+        threads: ONE_AND_TWO,
+        devices: Devices::Plain,
+        given: &[
+            Given::Opening,
+            Given::Asked(Request::Bare(NO_OPCODE, 2, 1, 5)),
         ],
-        &[
-            &ACCEPTED,
-            &error_reply(2, ENOENT),
-            &error_reply(2, ENOENT),
-            &error_reply(3, EIO),
-            &contents_for(4),
-            &error_reply(6, ENOSYS),
+        frames: &[Frame::Accepted, Frame::Error(2, ENOSYS)],
+        notes: &[],
+        received: 2,
+        lost: 0,
+        calls: 0,
+        end: End::Fine,
+    },
+    Row {
+        what: "nothing is taken after DESTROY",
+        acl: SessionACL::Owner,
+        threads: ONE_AND_TWO,
+        devices: Devices::Plain,
+        given: &[
+            Given::Opening,
+            Given::Asked(Request::Bare(FUSE_DESTROY, 2, 0, 0)),
+            Given::Asked(Request::Lookup(3, 0)),
         ],
-        Ok(()),
-        Counts {
-            received: 7,
-            lost: 0,
-            calls: 5,
-            notes: &[(RequestId(5), 3)],
-        },
-    )
-}
+        frames: &[
+            Frame::Accepted,
+            Frame::Bytes(&[16, 0, 0, 0, 0, 0, 0, 0, 2, 0, 0, 0, 0, 0, 0, 0]),
+        ],
+        notes: &[],
+        received: 2,
+        lost: 0,
+        calls: 0,
+        end: End::Fine,
+    },
+    Row {
+        what: "no thread is to serve",
+        acl: SessionACL::Owner,
+        threads: &[Some(0)],
+        devices: Devices::Plain,
+        given: &[Given::Opening],
+        frames: &[Frame::Accepted],
+        notes: &[],
+        received: 1,
+        lost: 0,
+        calls: 0,
+        end: End::Threads,
+    },
+];
+
+/// How often the filesystem is called.
+const CALLS: &[Row] = &[
+    Row {
+        what: "one call for each message",
+        acl: SessionACL::Owner,
+        threads: ONE_AND_TWO,
+        devices: Devices::Plain,
+        given: &[
+            Given::Opening,
+            Given::Asked(Request::Lookup(2, 0)),
+            Given::Asked(Request::Lookup(2, 0)),
+            Given::Asked(Request::GetAttr(3, 0)),
+            Given::Asked(Request::Read(4, 0, 0, 4096)),
+            Given::Asked(Request::Forget(5, 0)),
+            Given::Asked(Request::ShortForget(6, 0)),
+        ],
+        frames: &[
+            Frame::Accepted,
+            Frame::Error(2, ENOENT),
+            Frame::Error(2, ENOENT),
+            Frame::Error(3, EIO),
+            Frame::Contents(4),
+            Frame::Error(6, ENOSYS),
+        ],
+        notes: &[(RequestId(5), 3)],
+        received: 7,
+        lost: 0,
+        calls: 5,
+        end: End::Fine,
+    },
+    Row {
+        what: "one call for each batch of forgets, and for each row of it",
+        acl: SessionACL::Owner,
+        threads: ONE_AND_TWO,
+        devices: Devices::Plain,
+        given: &[
+            Given::Opening,
+            Given::Asked(Request::BatchForget(2)),
+            Given::Asked(Request::EmptyBatchForget(3)),
+        ],
+        frames: &[Frame::Accepted],
+        // the mark of the last row, which is the sum of its numbers
+        notes: &[(RequestId(2), 7), (RequestId(3), 0)],
+        received: 3,
+        lost: 0,
+        // one for each batch, and one for each row
+        calls: 4,
+        end: End::Fine,
+    },
+    Row {
+        what: "no call for what is refused before",
+        acl: SessionACL::Owner,
+        threads: &[Some(1), Some(2)],
+        devices: Devices::Plain,
+        given: &[
+            Given::Opening,
+            Given::Asked(Request::Lookup(2, 5)),
+            Given::Asked(Request::EndlessLookup(3, 5)),
+            Given::Asked(Request::Forget(4, 5)),
+            Given::Asked(Request::Read(5, 5, 0x80, 4096)),
+            Given::Asked(Request::Read(7, 5, 0x7f, 4096)),
+            Given::Init(7, 8),
+        ],
+        frames: &[
+            Frame::Accepted,
+            Frame::Error(2, EACCES),
+            Frame::Error(3, ENOSYS),
+            Frame::Error(5, EINVAL),
+            Frame::Contents(7),
+            Frame::Error(1, EIO),
+        ],
+        notes: &[(RequestId(4), 3)],
+        received: 7,
+        lost: 0,
+        calls: 2,
+        end: End::Fine,
+    },
+];
+
+/// A LOOKUP of the name `none` in the root, of user 0, with the id 2.
+const LOOKUP: &[u8] = &[
+    45, 0, 0, 0, 1, 0, 0, 0, 2, 0, 0, 0, 0, 0, 0, 0, 1, 0, 0, 0, 0, 0, 0, 0, 0, 0, 0, 0, 0, 0, 0,
+    0, 0, 0, 0, 0, 0, 0, 0, 0, b'n', b'o', b'n', b'e', 0,
+];
+
+/// Sources and sinks that fail.
+const FAULTS: &[Row] = &[
+    Row {
+        what: "a source that gives nothing at some turns",
+        acl: SessionACL::Owner,
+        threads: ONE,
+        devices: Devices::Plain,
+        given: &[
+            Given::Nothing,
+            Given::Opening,
+            Given::Nothing,
+            Given::Nothing,
+            Given::Asked(Request::Lookup(2, 0)),
+            Given::Nothing,
+        ],
+        frames: &[Frame::Accepted, Frame::Error(2, ENOENT)],
+        notes: &[],
+        received: 2,
+        lost: 0,
+        calls: 1,
+        end: End::Fine,
+    },
+    Row {
+        what: "a source that fails after INIT",
+        acl: SessionACL::Owner,
+        threads: ONE,
+        devices: Devices::Holding(LOOKUP),
+        given: &[
+            Given::Opening,
+            Given::Nothing,
+            Given::Fault,
+            Given::Bytes(LOOKUP),
+        ],
+        frames: &[Frame::Accepted],
+        notes: &[],
+        received: 1,
+        lost: 0,
+        calls: 0,
+        end: End::Receive,
+    },
+    Row {
+        what: "a source that fails at once",
+        acl: SessionACL::Owner,
+        threads: ONE,
+        devices: Devices::Holding(&INIT_7_8),
+        given: &[Given::Fault, Given::Opening],
+        frames: &[],
+        notes: &[],
+        received: 0,
+        lost: 0,
+        calls: 0,
+        end: End::Receive,
+    },
+    Row {
+        what: "a frame that fails is lost",
+        acl: SessionACL::Owner,
+        threads: ONE,
+        devices: Devices::Failing,
+        given: &[
+            Given::Opening,
+            Given::Asked(Request::Lookup(2, 0)),
+            Given::Asked(Request::Lookup(3, 0)),
+        ],
+        frames: &[Frame::Accepted, Frame::Error(3, ENOENT)],
+        notes: &[],
+        received: 3,
+        lost: 1,
+        calls: 2,
+        end: End::Fine,
+    },
+    Row {
+        what: "a frame without a receiver is lost",
+        acl: SessionACL::Owner,
+        threads: ONE,
+        devices: Devices::Absent,
+        given: &[
+            Given::Opening,
+            Given::Asked(Request::Lookup(2, 0)),
+            Given::Asked(Request::Lookup(3, 0)),
+        ],
+        frames: &[Frame::Accepted, Frame::Error(3, ENOENT)],
+        notes: &[],
+        received: 3,
+        lost: 1,
+        calls: 2,
+        end: End::Fine,
+    },
+];
 
 #[test]
-fn a_batch_of_forgets_calls_forget_for_each_row(rt: HostRuntime) {
-    serves_calls(
-        &rt,
-        &Config::new(rt.alloc()),
-        &[&INIT_7_8, &batch_forget(2), &empty_batch_forget(3)],
-        &[&ACCEPTED],
-        Ok(()),
-        Counts {
-            received: 3,
-            lost: 0,
-            // one for each batch, and one for each row
-            calls: 4,
-            // the mark of the last row, which is the sum of its numbers
-            notes: &[(RequestId(2), 7), (RequestId(3), 0)],
-        },
-    )
+fn each_session_goes_as_its_row_says(rt: HostRuntime) {
+    serve_all(&rt, FAULTY_HEADERS);
+    serve_all(&rt, VERSIONS);
+    serve_all(&rt, WITHOUT_INIT);
+    serve_all(&rt, AFTER_INIT);
+    serve_all(&rt, CALLS);
+    serve_all(&rt, FAULTS);
+    serve_all(&rt, REFUSALS);
 }
 
-#[test]
-fn refuses_before_the_filesystem_is_called(rt: HostRuntime) {
-    let mut owner = Config::new(rt.alloc());
-    owner.n_threads = Some(1);
-    serves_calls(
-        &rt,
-        &owner,
-        &[
-            &INIT_7_8,
-            &lookup(2, 5),
-            &endless_lookup(3, 5),
-            &forget(4, 5),
-            &read(5, 5, 0x80, 4096),
-            &read(7, 5, 0x7f, 4096),
-            &init(7, 8),
-        ],
-        &[
-            &ACCEPTED,
-            &error_reply(2, EACCES),
-            &error_reply(3, ENOSYS),
-            &error_reply(5, EINVAL),
-            &contents_for(7),
-            &error_reply(1, EIO),
-        ],
-        Ok(()),
-        Counts {
-            received: 7,
-            lost: 0,
-            calls: 2,
-            notes: &[(RequestId(4), 3)],
-        },
-    )
+/// Serves an INIT in a session of this owner, with pages of this size, on so many threads.
+fn opens_for<R: Threads + Wait + AllocGlobal + Abort + Sync>(
+    rt: &R,
+    owner: u32,
+    page_size: u32,
+    n_threads: Option<usize>,
+)
+    requires { 0 < page_size }
+{
+    let mut config = Config::new(rt.alloc());
+    config.acl = SessionACL::RootAndOwner;
+    config.n_threads = n_threads;
+    let given = [Given::Opening];
+    let (course, sink) = serve(rt, Counting::new(None), &given, owner, page_size, &config);
+    drop(config);
+    let found = (owner, course.outcome, sink.frames().len());
+    expect_same(rt, &found, &(owner, Ok(()), 1));
+    drop(sink);
 }
 
 #[test]
 fn serves_any_owner_pages_and_threads(rt: HostRuntime) {
-    let alloc = rt.alloc();
-    let rows = [
-        (0, 1, None),
-        (1000, 4096, Some(1)),
-        (u32::MAX, 65536, Some(64)),
-        (1, u32::MAX, Some(usize::MAX)),
-    ];
-    for (owner, page_size, n_threads) in &rows {
-        let mut config = Config::new(rt.alloc());
-        config.acl = SessionACL::RootAndOwner;
-        config.n_threads = *n_threads;
-        let source = source_of(alloc, &[&INIT_7_8]).expect(&rt, "there is memory");
-        let sink = MemorySink::new(alloc, Vec::new(alloc));
-        let fresh = Counting::new(None);
-        let (course, _, sink) = run_with(&rt, fresh, source, sink, *owner, *page_size, &config);
-        expect_same(&rt, &(course.outcome, sink.frames().len()), &(Ok(()), 1));
-    }
-}
-
-/// Reads a file of these contents at once. The outcome, and the sink.
-fn read_at_once<R: Threads + Wait + AllocGlobal + Abort + Sync>(
-    rt: &R,
-    contents: &[u8],
-    size: u32,
-) -> (Result<(), SessionError>, MemorySink) {
-    let alloc = rt.alloc();
-    let source = source_of(alloc, &[&INIT_7_8, &read(2, 0, 0, size)]).expect(rt, "there is memory");
-    let contents = contents.to_vec(alloc).expect(rt, "there is memory");
-    let full = Counting::new(Some(contents));
-    let sink = MemorySink::new(alloc, Vec::new(alloc));
-    let (course, source, sink) = run_with(rt, full, source, sink, 0, 4096, &Config::new(alloc));
-    drop(source);
-    (course.outcome, sink)
+    opens_for(&rt, 0, 1, None);
+    opens_for(&rt, 1000, 4096, Some(1));
+    opens_for(&rt, u32::MAX, 65536, Some(64));
+    opens_for(&rt, 1, u32::MAX, Some(usize::MAX));
 }
 
 /// The last of the frames has this header, and then these contents.
-fn ends_with_contents<R: Abort>(rt: &R, frames: &[Items<u8>], header: &[u8; 16], contents: &[u8]) {
+fn ends_with_contents(rt: &impl Abort, frames: &[Items<u8>], header: &[u8; 16], contents: &[u8]) {
     let frame = frames.last().expect(rt, "no frame").as_slice();
-    expect_same(rt, &frame.len(), &contents.len().saturating_add(16));
-    expect(
-        rt,
-        "the frame starts with the header",
+    let found = (
+        frame.len(),
         frame.starts_with(header),
-    );
-    expect(
-        rt,
-        "the frame ends with the contents",
         frame.ends_with(contents),
     );
+    let length = contents.len().saturating_add(16);
+    expect_same(rt, &found, &(length, true, true));
 }
 
 /// Reads a file of so many bytes at once: the frame has this header and all of them.
@@ -458,9 +493,12 @@ fn reads_whole<R: Threads + Wait + AllocGlobal + Abort + Sync>(
     header: &[u8; 16],
 ) {
     let contents = vec![in rt.alloc(); 0x2a; size as usize].expect(rt, "there is memory");
-    let (outcome, sink) = read_at_once(rt, &contents, size);
-    expect_same(rt, &outcome, &Ok(()));
+    let full = Counting::new(Some(copied(rt, &contents)));
+    let given = [Given::Opening, Given::Asked(Request::Read(2, 0, 0, size))];
+    let (course, sink) = serve(rt, full, &given, 0, 4096, &Config::new(rt.alloc()));
+    expect_same(rt, &course.outcome, &Ok(()));
     ends_with_contents(rt, sink.frames(), header, &contents);
+    drop(sink);
 }
 
 #[test]
