@@ -1,5 +1,5 @@
 // A work whose replies come later, the shelf that their tokens lie on, and who answers them off it.
-ghost use Rattle.std.specs.Prelude.{◌≡◌, ◌⊎◌, ◌<◌, ℕ, true, refl};
+ghost use Rattle.std.specs.Prelude.{◌≡◌, ◌⊎◌, true, refl};
 ghost use Rattle.std.proofs.Common.{inl};
 ghost use Rattle.fuse_reply.specs.Answer.Answer.{Empty};
 ghost use Rattle.fuse_reply.specs.Frame.{reply};
@@ -7,44 +7,25 @@ ghost use Rattle.fuse_reply.specs.Late.{IsFrameFor};
 ghost use Rattle.fuse_reply.specs.declared.out.Out.TheVariants.{Deferred, Frame};
 ghost use Rattle.fuse_loop.specs.Incoming.{id_of as id_in};
 
+use crate::devices::Counter;
 use crate::works::id_of;
 use fuse_notify::Notifier;
 use fuse_reply::{Door, LateRefusal, Later, NoDoor, Out, Replied, ReplyEmpty};
 use fuse_workers::Work;
 use std::alloc::{AllocFailed, AllocGlobal, Global};
 use std::sync::atomic::{AtomicBool, AtomicU64, Ordering};
-use std::sync::{Arc, Mutex, Wait};
+use std::sync::{Mutex, Wait};
 use std::thread;
 
-/// Numbers that look random.
-#[derive(Clone, Copy)]
-pub(crate) struct Random {
-    state: u64,
-}
+/// Of a generator by multiplication (Knuth's MMIX), whose higher bits look random.
+const MULTIPLIER: u64 = 6_364_136_223_846_793_005;
 
-impl Random {
-    /// Those that come of this seed, which is not 0.
-    pub(crate) fn new(seed: u64) -> Random {
-        Random { state: seed }
-    }
-
-    /// The next one, below this count.
-    fn below(&mut self, count: usize) -> usize
-        requires { 0 < count }
-        ensures { result < count }
-    {
-        let mut state = self.state;
-        state ^= state << 13;
-        state ^= state >> 7;
-        state ^= state << 17;
-        self.state = state;
-        state as usize % count
-    }
-}
+/// The token of a reply that was put off.
+type Token = Later<ReplyEmpty>;
 
 /// The tokens that wait to be answered, and when one may be taken while the run goes on.
 struct Shelf {
-    tokens: Vec<Later<ReplyEmpty>>,
+    tokens: Vec<Token>,
     /// How many have to lie here before the first is taken.
     least: usize,
     /// How many more may be taken.
@@ -52,78 +33,93 @@ struct Shelf {
 }
 
 impl Shelf {
-    /// One of the tokens. Once the run has ended any may be taken.
-    fn take(&mut self, random: &mut Random, is_over: bool) -> Option<Later<ReplyEmpty>> {
+    /// The token at this place, counted round. Once the run has ended any may be taken.
+    fn take(&mut self, place: usize, is_over: bool) -> Option<Token> {
         let count = self.tokens.len();
         if count == 0 || (!is_over && (count < self.least || self.quota == 0)) {
             return None;
         }
         self.least = 0;
         self.quota = self.quota.saturating_sub(1);
-        Some(self.tokens.swap_remove(random.below(count)))
+        Some(self.tokens.swap_remove(place % count))
     }
 }
 
 /// What became of the replies that came later.
+#[derive(Drop)]
 struct Counts {
     sent: AtomicU64,
-    full: Arc<AtomicU64, Global>,
-    closed: Mutex<Vec<u64>>,
+    full: Counter,
+    closed: AtomicU64,
+    /// The least of the numbers that the notes of the end knew.
+    least: AtomicU64,
+    /// The greatest of them.
+    greatest: AtomicU64,
 }
 
 /// The same, once all were answered.
-#[derive(Debug, Drop, PartialEq)]
+#[derive(Clone, Copy, Debug, PartialEq)]
 pub(crate) struct Tally {
     /// How many were queued.
     pub(crate) sent: u64,
     /// How many came after the run's end.
-    pub(crate) closed: usize,
+    pub(crate) closed: u64,
     /// Whether each of these was told the number that was asked about.
     pub(crate) is_told: bool,
 }
 
-/// Sends the frame by its token, again while the line is full, which is counted. Where the run has ended both are
-/// retired, and this is the number that the note knows.
-pub(crate) fn settle<R: Wait>(
-    rt: &R,
-    full: &AtomicU64,
-    token: Later<()>,
-    replied: Replied,
-) -> Option<u64>
-    requires { IsFrameFor token.id.0 replied }
-{
-    let mut left = token;
-    let mut frame = replied;
-    for _ in rt.forever() {
-        match left.send(rt, frame) {
-            Ok(()) => return None,
+impl Counts {
+    /// Sends the frame by its token, again while the line is full, which is counted. Where the run has ended both are
+    /// retired, and this is the number that the note knows.
+    fn settle<R: Wait>(&self, rt: &R, token: Later<()>, replied: Replied) -> Option<u64>
+        requires { IsFrameFor token.id.0 replied }
+    {
+        match token.send(rt, replied) {
+            Ok(()) => None,
             Err(LateRefusal::Full(token, replied)) => {
-                full.fetch_add(1, Ordering::SeqCst);
-                thread::yield_now();
-                left = token;
-                frame = replied;
+                self.full.fetch_add(1, Ordering::SeqCst);
+                let note = token.send_or_retire(rt, replied)?;
+                Some(note.taken())
             }
             Err(LateRefusal::Closed(token, replied, note)) => {
-                let taken = note.taken();
                 token.retire(replied, &note);
-                return Some(taken);
+                Some(note.taken())
             }
         }
     }
-    unreachable!()
-}
 
-impl Counts {
     /// Answers a request, whose reply was put off.
-    fn spend<R: Wait>(&self, rt: &R, later: Later<ReplyEmpty>) {
+    fn spend<R: Wait>(&self, rt: &R, later: Token) {
         let (reply, token) = later.reply();
-        match settle(rt, &self.full, token, reply.ok()) {
+        match self.settle(rt, token, reply.ok()) {
             None => {
                 self.sent.fetch_add(1, Ordering::SeqCst);
             }
             Some(taken) => {
-                let _ = self.closed.lock(rt).push(taken);
+                self.closed.fetch_add(1, Ordering::SeqCst);
+                self.least.fetch_min(taken, Ordering::SeqCst);
+                self.greatest.fetch_max(taken, Ordering::SeqCst);
             }
+        }
+    }
+
+    /// Answers all of these.
+    fn spend_all<R: Wait>(&self, rt: &R, mut tokens: Vec<Token>) {
+        while let Some(later) = tokens.pop() {
+            self.spend(rt, later);
+        }
+        tokens.destroy_empty();
+    }
+
+    /// The counts, with whether each note knew this number.
+    fn told(&self, taken: u64) -> Tally {
+        let closed = self.closed.load(Ordering::SeqCst);
+        let least = self.least.load(Ordering::SeqCst);
+        let greatest = self.greatest.load(Ordering::SeqCst);
+        Tally {
+            sent: self.sent.load(Ordering::SeqCst),
+            closed,
+            is_told: closed == 0 || (least == taken && greatest == taken),
         }
     }
 }
@@ -155,7 +151,7 @@ pub(crate) struct Deferring {
 
 impl Deferring {
     /// By this plan. How often the line was full is counted in what is shared here.
-    pub(crate) fn new(alloc: Global, plan: Plan, full: Arc<AtomicU64, Global>) -> Deferring {
+    pub(crate) fn new(alloc: Global, plan: Plan, full: Counter) -> Deferring {
         Deferring {
             plan,
             shelf: Mutex::new(Shelf {
@@ -166,26 +162,24 @@ impl Deferring {
             counts: Counts {
                 sent: AtomicU64::new(0),
                 full,
-                closed: Mutex::new(Vec::new(alloc)),
+                closed: AtomicU64::new(0),
+                least: AtomicU64::new(u64::MAX),
+                greatest: AtomicU64::new(0),
             },
             is_over: AtomicBool::new(false),
         }
     }
 
     /// Puts the token on the shelf. Where there is no memory for it, it is answered at once.
-    fn shelve<R: Wait>(&self, rt: &R, later: Later<ReplyEmpty>) {
+    fn shelve<R: Wait>(&self, rt: &R, later: Token) {
         let put = self.shelf.lock(rt).tokens.push(later);
         if let Err(AllocFailed { value: later }) = put {
             self.counts.spend(rt, later);
         }
     }
 
-    /// Where this is the request that is held, waits until as many late frames were queued as are awaited, or it has
-    /// taken too long.
-    fn hold(&self, id: u64) {
-        if id != self.plan.held {
-            return;
-        }
+    /// Waits until as many late frames were queued as are awaited, or it has taken too long.
+    fn await_frames(&self) {
         for _turn in 0..self.plan.most_turns {
             if self.counts.sent.load(Ordering::SeqCst) >= self.plan.awaited {
                 return;
@@ -194,12 +188,23 @@ impl Deferring {
         }
     }
 
+    /// Whether the request of this id is not put off. Where it is the one that is held, that is known once the frames
+    /// that are awaited were queued.
+    fn is_prompt(&self, id: u64) -> bool {
+        if id == self.plan.held {
+            self.await_frames();
+            return true;
+        }
+        id == self.plan.prompt
+    }
+
     /// Answers tokens in an order that the seed gives, until none is left once the run has ended.
     pub(crate) fn answer_later<R: Wait>(&self, rt: &R, seed: u64) {
-        let mut random = Random::new(seed);
+        let mut state = seed;
         for _ in rt.forever() {
             let is_over = self.is_over.load(Ordering::SeqCst);
-            let token = self.shelf.lock(rt).take(&mut random, is_over);
+            state = state.wrapping_mul(MULTIPLIER).wrapping_add(1);
+            let token = self.shelf.lock(rt).take((state >> 32) as usize, is_over);
             match token {
                 Some(later) => self.counts.spend(rt, later),
                 None if is_over => return,
@@ -223,32 +228,12 @@ impl Deferring {
             is_over: _,
         } = self;
         let Shelf {
-            mut tokens,
+            tokens,
             least: _,
             quota: _,
         } = shelf.into_inner();
-        while let Some(later) = tokens.pop() {
-            counts.spend(rt, later);
-        }
-        tokens.destroy_empty();
+        counts.spend_all(rt, tokens);
         counts.told(taken)
-    }
-}
-
-impl Counts {
-    /// The counts, with whether each note knows this number.
-    fn told(self, taken: u64) -> Tally {
-        let Counts {
-            sent,
-            full: _,
-            closed,
-        } = self;
-        let closed = closed.into_inner();
-        Tally {
-            sent: sent.load(Ordering::SeqCst),
-            closed: closed.len(),
-            is_told: closed.iter().all(|number| *number == taken),
-        }
     }
 }
 
@@ -269,8 +254,7 @@ impl Work for Deferring {
     ) -> Out {
         let id = id_of(message);
         let reply = ReplyEmpty::new(rt.alloc(), id);
-        if id.0 == self.plan.prompt || id.0 == self.plan.held {
-            self.hold(id.0);
+        if self.is_prompt(id.0) {
             return reply.ok().into_out();
         }
         match reply.with_door(door).defer() {

@@ -3,13 +3,12 @@ ghost use Rattle.std.specs.Prelude.{◌≡◌, length};
 ghost use Rattle.fuse_wire.specs.MemorySink.{EachFails, NumbersDiffer};
 ghost use Rattle.fuse_wire.specs.declared.consts.TheConstants.{BUFFER_SIZE};
 
-use crate::asserts::expect_same_in;
-use crate::runs::{Became, Said, WORKERS, all_well, counts, message, run_counting, taking, turns};
-use fuse_request::opcode::{FUSE_DESTROY, FUSE_STATFS};
-use fuse_wire::{
-    MemorySink, MemorySource, NoMemory, Received, Sending, Source, Turn, receive_buffer, u64_at,
-};
-use std::alloc::{AllocGlobal, Global};
+use crate::asserts::expect_same;
+use crate::frames::Said;
+use crate::runs::{Became, WORKERS, counts, ended, run_turns, taking};
+use crate::turns::Piece;
+use crate::works::Hold;
+use fuse_wire::{MemorySink, MemorySource, Received, Sending, Source, receive_buffer, u64_at};
 use std::process::Abort;
 use std::sync::Wait;
 use std::thread::Threads;
@@ -17,8 +16,23 @@ use std::thread::Threads;
 /// How many messages a run has before its last turn.
 const COUNT: u64 = 10;
 
-/// How many cases there are of sends that fail.
-const CASES: usize = 8;
+/// The bits of their ids.
+const MESSAGES: u64 = 0b11_1111_1111;
+
+/// The bits of their ids, and of DESTROY's.
+const ALL: u64 = 0b111_1111_1111;
+
+/// What each case of sends that fail loses, as the bits of ids.
+const LOST: &[u64] = &[
+    0b1,
+    0b1,
+    0b10_0000,
+    0b10_0000_0000,
+    0b100_0000_0000,
+    0b100_0011,
+    0b110_0011_0000,
+    0,
+];
 
 /// The sends that fail in a case, of those of ten replies and DESTROY's. The last case has one that never comes.
 fn faults_of(case: usize) -> &'static [(u64, Sending)]
@@ -38,80 +52,66 @@ fn faults_of(case: usize) -> &'static [(u64, Sending)]
     }
 }
 
-/// On four workers, which answer in any order, it is not known which of the ten replies are lost: those that are there
-/// count as the last ones. DESTROY's keeps its place.
-fn without_order(workers: Option<usize>, replied: &mut [bool]) {
-    if workers == Some(4) && replied.len() > COUNT as usize {
-        replied[..COUNT as usize].sort_unstable();
-    }
-}
-
-/// What becomes of ten messages and DESTROY where these sends fail.
+/// What becomes of ten messages and DESTROY in this case, and how often the work is called.
 fn run_refused<R: Threads + Wait + AllocGlobal + Abort + Sync>(
     rt: &R,
     workers: Option<usize>,
-    faults: &[(u64, Sending)],
-) -> Became
-    requires differ { NumbersDiffer faults.now }
-    requires fail { EachFails faults.now }
-{
-    let alloc = rt.alloc();
-    let turns = turns(
-        alloc,
-        COUNT,
-        Some(message(alloc, FUSE_DESTROY, COUNT).expect(rt, "there is memory")),
-    )
-    .expect(rt, "there is memory");
-    let sink = MemorySink::new(alloc, faults.to_vec(alloc).expect(rt, "there is memory"));
-    let (mut became, _source) = run_counting(rt, workers, turns, sink, COUNT + 1);
-    without_order(workers, &mut became.said.replied);
+    case: usize,
+) -> (Became, u64) {
+    let faults = faults_of(case).to_vec(rt.alloc());
+    let sink = MemorySink::new(rt.alloc(), faults.expect(rt, "there is memory"));
+    let turns = [Piece::Requests(0, COUNT), Piece::Destroy(COUNT)];
+    let ran = run_turns(rt, Hold::No, workers, &turns, sink);
+    let found = (ran.became, ran.calls);
+    drop(ran);
+    found
+}
+
+/// The replies to these ids are lost, and no others.
+fn all_but(lost: u64) -> Became {
+    let count = u64::from(lost.count_ones());
+    let replied = (COUNT + 1).saturating_sub(count);
+    Became {
+        end: b'd',
+        transcript: counts(COUNT + 1, replied, count),
+        said: Said {
+            replied,
+            first: ALL & !lost,
+            other: 0,
+        },
+    }
+}
+
+/// On four workers, which answer in any order, it is not known which of the ten replies are lost: their bits are counted.
+/// DESTROY's keeps its place.
+fn without_order(workers: Option<usize>, mut became: Became) -> Became {
+    if workers == Some(4) {
+        let first = became.said.first;
+        became.said.first = (first & !MESSAGES) | u64::from((first & MESSAGES).count_ones());
+    }
     became
 }
 
-/// Each send that fails loses its own reply.
-fn all_but(
-    alloc: Global,
+/// In this case just these replies are lost.
+fn expect_lost<R: Threads + Wait + AllocGlobal + Abort + Sync>(
+    rt: &R,
     workers: Option<usize>,
-    faults: &[(u64, Sending)],
-) -> Result<Became, NoMemory> {
-    let mut said = Said::all(alloc, COUNT + 1, Vec::new(alloc))?;
-    let mut lost: u64 = 0;
-    for (number, _) in faults {
-        if let Some(is_replied) = said.replied.get_mut(number.wrapping_sub(1) as usize) {
-            *is_replied = false;
-            lost = lost.saturating_add(1);
-        }
-    }
-    without_order(workers, &mut said.replied);
-    Ok(Became {
-        end: b'd',
-        transcript: counts(COUNT + 1, (COUNT + 1).saturating_sub(lost), lost),
-        calls: COUNT,
-        said,
-    })
+    case: usize,
+    lost: u64,
+) {
+    let (became, calls) = run_refused(rt, workers, case);
+    let found = (without_order(workers, became), calls);
+    let expected = (without_order(workers, all_but(lost)), COUNT);
+    expect_same(rt, &(workers, case, found), &(workers, case, expected));
 }
 
 #[test]
 fn a_reply_that_the_sink_refuses_is_lost_and_no_other(rt: HostRuntime) {
     for workers in WORKERS {
-        for case in 0..CASES {
-            let faults = faults_of(case);
-            let became = run_refused(&rt, workers, faults);
-            let expected = all_but(rt.alloc(), workers, faults).expect(&rt, "there is memory");
-            expect_same_in(&rt, &(workers, case), &became, &expected);
+        for (case, lost) in LOST.iter().enumerate() {
+            expect_lost(&rt, *workers, case, *lost);
         }
     }
-}
-
-/// Ten messages, whose ids are their places, and a fault before the one of this place.
-fn failing_at(alloc: Global, place: u64) -> Result<Vec<Turn>, NoMemory> {
-    let mut all = turns(alloc, place, Some(Turn::Fail))?;
-    for id in place..COUNT {
-        if all.push(message(alloc, FUSE_STATFS, id)?).is_err() {
-            return Err(NoMemory);
-        }
-    }
-    Ok(all)
 }
 
 /// Whether the next message of a source has this id. It is received into the buffer.
@@ -138,35 +138,33 @@ fn holds_from(source: &mut MemorySource, buffer: &mut [u8], first: u64) -> bool
     source.receive(buffer) == Received::Gone
 }
 
-/// What becomes of ten messages with a fault before the one of this place, and whether that one and those after it are
-/// left.
+/// What becomes of ten messages with a fault before the one of this place, how often the work is called, and whether that
+/// message and those after it are left.
 fn run_failing<R: Threads + Wait + AllocGlobal + Abort + Sync>(
     rt: &R,
     workers: Option<usize>,
     place: u64,
-) -> (Became, bool) {
-    let alloc = rt.alloc();
-    let turns = failing_at(alloc, place).expect(rt, "there is memory");
-    let (became, mut source) = run_counting(rt, workers, turns, taking(alloc), place);
-    let mut buffer = receive_buffer(alloc).expect(rt, "there is memory");
-    (became, holds_from(&mut source, &mut buffer, place))
+) -> (Became, u64, bool) {
+    let turns = [
+        Piece::Requests(0, place),
+        Piece::Fault,
+        Piece::Requests(place, COUNT),
+    ];
+    let mut ran = run_turns(rt, Hold::No, workers, &turns, taking(rt.alloc()));
+    let mut buffer = receive_buffer(rt.alloc()).expect(rt, "there is memory");
+    let is_left = holds_from(&mut ran.source, &mut buffer, place);
+    let found = (ran.became, ran.calls, is_left);
+    drop(ran);
+    found
 }
 
 #[test]
 fn what_comes_after_a_fault_of_the_source_is_not_taken(rt: HostRuntime) {
     for workers in WORKERS {
         for place in 0..=COUNT {
-            let (became, is_left) = run_failing(&rt, workers, place);
-            let expected = Became {
-                end: b'f',
-                ..all_well(rt.alloc(), place).expect(&rt, "there is memory")
-            };
-            expect_same_in(
-                &rt,
-                &(workers, place),
-                &(became, is_left),
-                &(expected, true),
-            );
+            let found = run_failing(&rt, *workers, place);
+            let expected = (ended(b'f', place, place), place, true);
+            expect_same(&rt, &(*workers, found), &(*workers, expected));
         }
     }
 }

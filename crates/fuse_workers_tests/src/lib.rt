@@ -14,16 +14,20 @@ mod deferred_tests;
 #[cfg(test)]
 mod deferring;
 #[cfg(test)]
+mod devices;
+#[cfg(test)]
 mod fault_tests;
 #[cfg(test)]
-mod notice_tests;
+mod frames;
 #[cfg(test)]
-mod paced;
+mod notice_tests;
 #[cfg(test)]
 mod run_tests;
 #[cfg(test)]
 mod runs;
 #[cfg(test)]
 mod telling;
+#[cfg(test)]
+mod turns;
 #[cfg(test)]
 mod works;

@@ -1,73 +1,134 @@
 // Notices that a work queues while it answers.
-ghost use Rattle.std.specs.Prelude.{IfOk};
 ghost use Rattle.fuse_loop.specs.Lines.{IsUnused};
 
-use crate::asserts::{expect_same, expect_same_in};
-use crate::runs::{Said, counts, read_frames, run_on, taking, turns};
+use crate::asserts::expect_same;
+use crate::runs::{Became, ended, outcome_of, run_on, taking};
 use crate::telling::Telling;
+use crate::turns::{Piece, source_of};
 use fuse_notify::Notifier;
-use fuse_wire::{MemorySource, NoMemory};
-use fuse_workers::{Buffers, Transcript};
-use std::alloc::{AllocGlobal, Global};
+use fuse_wire::{Items, u64_at};
+use fuse_workers::{Buffers, RunEnd};
 use std::process::Abort;
 use std::sync::Wait;
 use std::thread::Threads;
 
 /// The memory of a run, with a notifier of the work's own, where it is to have one.
-fn with_notifier(alloc: Global, is_own: bool) -> Result<(Buffers, Option<Notifier>), NoMemory>
-    ensures { IfOk result (λ made. IsUnused made.0) }
+fn with_notifier<R: AllocGlobal + Abort>(rt: &R, is_own: bool) -> (Buffers, Option<Notifier>)
+    ensures { IsUnused result.0 }
 {
-    let mut buffers = Buffers::new(alloc)?;
-    if !is_own {
-        return Ok((buffers, None));
-    }
-    match buffers.notifier() {
-        Ok(notifier) => Ok((buffers, Some(notifier))),
-        Err(NoMemory) => {
-            drop(buffers);
-            Err(NoMemory)
-        }
+    let mut buffers = Buffers::new(rt.alloc()).expect(rt, "there is memory");
+    if is_own {
+        let own = buffers.notifier().expect(rt, "there is memory");
+        (buffers, Some(own))
+    } else {
+        (buffers, None)
     }
 }
 
-/// The handles of the polls that a work told, and those of the notices in the sink.
-fn told_by<R: Threads + Wait + AllocGlobal + Abort + Sync>(
+/// The handle of a notice of a poll, whose code is 1.
+fn told_handle(frame: &[u8]) -> Option<u64> {
+    if frame.len() == 24 && u64_at(frame, 0) == 0x1_0000_0018 && u64_at(frame, 8) == 0 {
+        Some(u64_at(frame, 16))
+    } else {
+        None
+    }
+}
+
+/// The handles of the notices among these frames, in order of their numbers.
+fn told_handles<R: AllocGlobal + Abort>(rt: &R, frames: &[Items<u8>]) -> Vec<u64> {
+    let mut handles = Vec::new(rt.alloc());
+    for frame in frames {
+        if let Some(handle) = told_handle(frame.as_slice()) {
+            handles.push(handle).expect(rt, "there is memory");
+        }
+    }
+    handles.sort_unstable();
+    handles
+}
+
+/// A run whose work tells polls.
+struct Row {
+    /// How many messages it has.
+    count: u64,
+    /// How many polls are told in each answer.
+    each: u64,
+    /// How many notices are queued at least.
+    least: usize,
+    /// How many are queued on one thread.
+    inline: usize,
+}
+
+/// A line has a place for twenty notices and twenty replies at once, and for 64 of 70 notices. On one thread it is emptied
+/// after each message.
+const ROWS: &[Row] = &[
+    Row {
+        count: 20,
+        each: 1,
+        least: 20,
+        inline: 20,
+    },
+    Row {
+        count: 100,
+        each: 70,
+        least: 64,
+        inline: 6400,
+    },
+];
+
+/// What becomes of this run, and how many notices were queued. These are the ones that were sent.
+fn run_telling<R: Threads + Wait + AllocGlobal + Abort + Sync>(
     rt: &R,
     workers: Option<usize>,
-    count: u64,
-    each: u64,
+    row: &Row,
     is_own: bool,
-) -> (Transcript, Said, Vec<u64>) {
-    let alloc = rt.alloc();
-    let source = MemorySource::new(turns(alloc, count, None).expect(rt, "there is memory"));
-    let (buffers, own) = with_notifier(alloc, is_own).expect(rt, "there is memory");
-    let work = Telling::new(alloc, each, own);
-    let ran = run_on(rt, &work, workers, source, taking(alloc), buffers);
-    let sent = read_frames(alloc, ran.sink.frames(), count).expect(rt, "there is memory");
-    (ran.transcript, sent, work.into_queued())
+) -> (Became, usize) {
+    let (buffers, own) = with_notifier(rt, is_own);
+    let work = Telling::new(rt.alloc(), row.each, own);
+    let source = source_of(rt, &[Piece::Requests(0, row.count)]);
+    let RunEnd {
+        end,
+        transcript,
+        source,
+        sink,
+        buffers,
+    } = run_on(rt, &work, workers, source, taking(rt.alloc()), buffers);
+    drop(buffers);
+    drop(source);
+    let became = outcome_of(rt, &end, transcript, sink.frames());
+    let sent = told_handles(rt, sink.frames());
+    drop(sink);
+    let queued = work.into_queued();
+    expect_same(rt, &sent, &queued);
+    (became, queued.len())
+}
+
+/// In this run enough notices are queued, and each is sent beside the replies.
+fn expect_told<R: Threads + Wait + AllocGlobal + Abort + Sync>(
+    rt: &R,
+    workers: Option<usize>,
+    row: &Row,
+    is_own: bool,
+) {
+    let (became, told) = run_telling(rt, workers, row, is_own);
+    let is_enough = match workers {
+        None => told == row.inline,
+        Some(_) => told >= row.least,
+    };
+    let mut expected = ended(b'g', row.count, row.count);
+    expected.said.other = told as u64;
+    expect_same(
+        rt,
+        &(workers, is_enough, became),
+        &(workers, true, expected),
+    );
 }
 
 #[test]
 fn each_notice_that_was_queued_is_sent(rt: HostRuntime) {
-    let alloc = rt.alloc();
     for workers in [None, Some(0), Some(1), Some(4), Some(8)] {
-        for is_own in [false, true] {
-            // A line has a place for twenty notices and twenty replies at once, and for 64 of 70 notices. On one thread
-            // it is emptied after each message.
-            for (count, each, least, inline) in [(20, 1, 20, 20), (100, 70, 64, 6400)] {
-                let (transcript, sent, queued) = told_by(&rt, workers, count, each, is_own);
-                expect_same_in(&rt, &workers, &transcript, &counts(count, count, 0));
-                match workers {
-                    None => expect_same(&rt, &queued.len(), &inline),
-                    Some(_) => expect_same_in(&rt, &workers, &(queued.len() >= least), &true),
-                }
-                expect_same_in(
-                    &rt,
-                    &workers,
-                    &sent,
-                    &Said::all(alloc, count, queued).expect(&rt, "there is memory"),
-                );
-            }
+        for row in ROWS {
+            expect_told(&rt, workers, row, false);
+            expect_told(&rt, workers, row, true);
         }
     }
 }

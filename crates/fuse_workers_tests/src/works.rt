@@ -9,7 +9,7 @@ ghost use Rattle.fuse_loop.specs.Incoming.{id_of as id_in};
 use fuse_notify::Notifier;
 use fuse_reply::{Door, NoDoor, Out, ReplyEmpty};
 use fuse_request::AnyRequest;
-use fuse_wire::{Errno, RequestId};
+use fuse_wire::RequestId;
 use fuse_workers::Work;
 use std::alloc::AllocGlobal;
 use std::sync::Wait;
@@ -29,15 +29,29 @@ pub(crate) fn id_of(message: &[u8]) -> RequestId
     }
 }
 
+/// How long each answer is held.
+#[derive(Clone, Copy)]
+pub(crate) enum Hold {
+    /// Not at all.
+    No,
+    /// For some turns, the longer the greater its id modulo eight.
+    ById,
+    /// Until so many were called. Where they are not in time, the call counts twice.
+    UntilCalled(u64),
+}
+
 /// Answers each message by an empty reply, and counts its calls.
 #[derive(Drop)]
-pub(crate) struct Counting {
+pub(crate) struct Answering {
+    hold: Hold,
     calls: AtomicU64,
 }
 
-impl Counting {
-    pub(crate) fn new() -> Counting {
-        Counting {
+impl Answering {
+    /// Holds each answer so.
+    pub(crate) fn new(hold: Hold) -> Answering {
+        Answering {
+            hold,
             calls: AtomicU64::new(0),
         }
     }
@@ -46,9 +60,34 @@ impl Counting {
     pub(crate) fn calls(&self) -> u64 {
         self.calls.load(Ordering::SeqCst)
     }
+
+    /// Waits until so many were called, or it has taken too long, which counts as a call.
+    fn await_calls(&self, count: u64) {
+        for _turn in 0..MOST_TURNS {
+            if self.calls() >= count {
+                return;
+            }
+            thread::yield_now();
+        }
+        self.calls.fetch_add(1, Ordering::SeqCst);
+    }
+
+    /// Counts a call of this id, and holds it.
+    fn hold(&self, id: u64) {
+        self.calls.fetch_add(1, Ordering::SeqCst);
+        match self.hold {
+            Hold::No => {}
+            Hold::ById => {
+                for _turn in 0..id % 8 * 100 {
+                    thread::yield_now();
+                }
+            }
+            Hold::UntilCalled(count) => self.await_calls(count),
+        }
+    }
 }
 
-impl Work for Counting {
+impl Work for Answering {
     ghost owed = { λ work seq m out. out ≡ Frame (reply (id_in m) Empty) };
 
     const DEFERS: bool = false;
@@ -63,93 +102,10 @@ impl Work for Counting {
         _seq: u64,
         message: &[u8],
     ) -> Out {
-        self.calls.fetch_add(1, Ordering::SeqCst);
-        ReplyEmpty::new(rt.alloc(), id_of(message)).ok().into_out()
-    }
-
-    ghost owed_to_destroy = { λ work seq m is. refl };
-}
-
-/// Holds each answer until so many have begun. Where they do not begin in time, the answer is EIO.
-#[derive(Drop)]
-pub(crate) struct Meeting {
-    begun: AtomicU64,
-    awaited: u64,
-}
-
-impl Meeting {
-    /// So many are awaited.
-    pub(crate) fn new(awaited: u64) -> Meeting {
-        Meeting {
-            begun: AtomicU64::new(0),
-            awaited,
-        }
-    }
-
-    /// Whether as many as are awaited have begun in time.
-    fn is_met(&self) -> bool {
-        for _turn in 0..MOST_TURNS {
-            if self.begun.load(Ordering::SeqCst) >= self.awaited {
-                return true;
-            }
-            thread::yield_now();
-        }
-        false
-    }
-}
-
-impl Work for Meeting {
-    ghost owed = { λ work seq m out. Unit {0} };
-
-    const DEFERS: bool = false;
-
-    ghost DEFERS = { false };
-
-    fn answer<R: Wait + AllocGlobal>(
-        &self,
-        rt: &R,
-        _notifier: &mut Notifier,
-        _door: Result<Door, NoDoor>,
-        _seq: u64,
-        message: &[u8],
-    ) -> Out {
-        self.begun.fetch_add(1, Ordering::SeqCst);
-        let reply = ReplyEmpty::new(rt.alloc(), id_of(message));
-        if self.is_met() {
-            reply.ok().into_out()
-        } else {
-            reply.error(Errno::EIO).into_out()
-        }
-    }
-
-    ghost owed_to_destroy = { λ work seq m is. tt };
-}
-
-/// Holds each answer for some turns, the longer the greater its id modulo eight.
-#[derive(Drop)]
-pub(crate) struct Holding;
-
-impl Work for Holding {
-    ghost owed = { λ work seq m out. Unit {0} };
-
-    const DEFERS: bool = false;
-
-    ghost DEFERS = { false };
-
-    fn answer<R: Wait + AllocGlobal>(
-        &self,
-        rt: &R,
-        _notifier: &mut Notifier,
-        _door: Result<Door, NoDoor>,
-        _seq: u64,
-        message: &[u8],
-    ) -> Out {
         let id = id_of(message);
-        for _turn in 0..id.0 % 8 * 100 {
-            thread::yield_now();
-        }
+        self.hold(id.0);
         ReplyEmpty::new(rt.alloc(), id).ok().into_out()
     }
 
-    ghost owed_to_destroy = { λ work seq m is. tt };
+    ghost owed_to_destroy = { λ work seq m is. refl };
 }

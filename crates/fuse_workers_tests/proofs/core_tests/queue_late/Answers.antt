@@ -6,7 +6,7 @@ use Rattle.fuse_reply.specs.declared.out.Out.TheVariants.{Frame}
 use Rattle.fuse_reply.proofs.LateReplies.{frame_for}
 use Rattle.fuse_workers_tests.proofs.core_tests.queue_late.Goals as goal
 
-pub settle-requires : goal.settle-requires
-settle-requires g c =
+pub send_or_retire-requires : goal.send_or_retire-requires
+send_or_retire-requires g c =
     frame_for c.reply-reply.result.1.id.0 Empty c.ok.result
     (c.ok.ensures ∙ ap (λ (n : ℕ). Frame (reply n Empty)) c.reply-reply.ensures.id) tt

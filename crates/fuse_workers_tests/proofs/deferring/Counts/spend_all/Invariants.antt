@@ -1,4 +1,4 @@
-use Rattle.fuse_workers_tests.proofs.deferring.Deferring.finish.Given as goal
+use Rattle.fuse_workers_tests.proofs.deferring.Counts.spend_all.Given as goal
 
 -- a token less each time
 abbrev pub decreases-loop-later : goal.decreases-loop-later

@@ -1,0 +1,148 @@
+// Devices that wait for each other, or for a work.
+ghost use Rattle.std.specs.Prelude.{None};
+
+use crate::runs::taking;
+use crate::turns::{Piece, source_of};
+use fuse_wire::{MemorySink, MemorySource, Noting, Received, RequestId, Sending, Sink, Source};
+use std::alloc::Global;
+use std::process::Abort;
+use std::sync::Arc;
+use std::sync::atomic::{AtomicU64, Ordering};
+use std::thread;
+
+/// How often in a row a device waits at most.
+pub(crate) const MOST_TURNS: u64 = 10_000_000;
+
+/// A counter that several share.
+pub(crate) type Counter = Arc<AtomicU64, Global>;
+
+/// A counter that is at 0.
+pub(crate) fn new_counter<R: AllocGlobal + Abort>(rt: &R) -> Counter {
+    let Ok(counter) = Arc::new(rt.alloc(), AtomicU64::new(0)) else {
+        panic!(rt; "there is memory")
+    };
+    counter
+}
+
+/// The same counter once more.
+pub(crate) fn share<R: Abort>(rt: &R, counter: &Counter) -> Counter {
+    Arc::try_clone(counter).expect(rt, "there is memory")
+}
+
+/// A source that gives a message once the frame of the one before it was sent. It tells nothing.
+#[derive(Drop)]
+pub(crate) struct PacedSource {
+    inner: MemorySource,
+    given: u64,
+    retries: u64,
+    sent: Counter,
+}
+
+/// A sink that counts its frames, and may hold each back until something was counted. It tells nothing either.
+#[derive(Drop)]
+pub(crate) struct WatchedSink {
+    pub(crate) inner: MemorySink,
+    faults: u64,
+    sent: Counter,
+    awaited: Counter,
+    most_turns: u64,
+}
+
+/// Both, over these turns.
+pub(crate) fn paced<R: AllocGlobal + Abort>(rt: &R, turns: &[Piece]) -> (PacedSource, WatchedSink) {
+    let sink = WatchedSink::new(rt, new_counter(rt), 0);
+    let source = PacedSource {
+        inner: source_of(rt, turns),
+        given: 0,
+        retries: 0,
+        sent: share(rt, &sink.sent),
+    };
+    (source, sink)
+}
+
+impl PacedSource {
+    /// Whether it has waited long enough for the frame of the message before.
+    fn is_tired(&mut self) -> bool {
+        self.retries = self.retries.saturating_add(1);
+        thread::yield_now();
+        self.retries == MOST_TURNS
+    }
+}
+
+impl Source for PacedSource {
+    ghost told = { λ s. record { turns = None; faults = 0 } };
+
+    /// Gives nothing until the frame of the message before was sent, and says that none is left where that takes too
+    /// long.
+    fn receive(&mut self, buffer: &mut [u8]) -> Received {
+        if self.sent.load(Ordering::SeqCst) < self.given {
+            return if self.is_tired() {
+                Received::Gone
+            } else {
+                Received::Retry
+            };
+        }
+        self.retries = 0;
+        match self.inner.receive(buffer) {
+            Received::Message(count) => {
+                self.given = self.given.saturating_add(1);
+                Received::Message(count)
+            }
+            Received::Retry => Received::Retry,
+            _ => Received::Gone,
+        }
+    }
+}
+
+impl WatchedSink {
+    /// An empty one, which waits so often at most until what is awaited was counted.
+    pub(crate) fn new<R: AllocGlobal + Abort>(
+        rt: &R,
+        awaited: Counter,
+        most_turns: u64,
+    ) -> WatchedSink {
+        WatchedSink {
+            inner: taking(rt.alloc()),
+            faults: 0,
+            sent: new_counter(rt),
+            awaited,
+            most_turns,
+        }
+    }
+
+    /// Waits until something was counted, or it has taken too long.
+    fn wait(&self) {
+        for _turn in 0..self.most_turns {
+            if self.awaited.load(Ordering::SeqCst) > 0 {
+                return;
+            }
+            thread::yield_now();
+        }
+    }
+}
+
+impl Sink for WatchedSink {
+    ghost told = { λ s. record {
+      frames = None;
+      notes = None;
+      tail = None;
+      faults = s.faults;
+      origin = record { bytes = None; faults = 0 };
+    } };
+
+    fn send(&mut self, header: &[u8; 16], payload: &[u8]) -> Sending {
+        self.wait();
+        let sending = self.inner.send(header, payload);
+        self.sent.fetch_add(1, Ordering::SeqCst);
+        if sending != Sending::Sent {
+            self.faults = self.faults.saturating_add(1);
+        }
+        sending
+    }
+
+    /// Takes none.
+    fn note(&mut self, _id: RequestId, _mark: u64) -> Noting {
+        self.faults = self.faults.saturating_add(1);
+        Noting::Failed
+    }
+}

@@ -1,0 +1,80 @@
+// The turns that the source of a run gives.
+use fuse_request::opcode::{FUSE_DESTROY, FUSE_STATFS};
+use fuse_wire::{Items, MemorySource, Turn};
+use std::process::Abort;
+
+/// Some turns of a source, one after another.
+#[derive(Clone, Copy)]
+pub(crate) enum Piece {
+    /// A STATFS of each id from the first number up to the second.
+    Requests(u64, u64),
+    /// A STATFS of each id below the first number, and before each as many turns that give nothing as the second says.
+    Apart(u64, u64),
+    /// A DESTROY of this id.
+    Destroy(u64),
+    /// A message that is shorter than a header.
+    Short,
+    /// A fault.
+    Fault,
+}
+
+/// A message with no arguments.
+fn message<R: AllocGlobal + Abort>(rt: &R, opcode: u32, id: u64) -> Turn {
+    let mut bytes = vec![in rt.alloc(); 0; 40].expect(rt, "there is memory");
+    bytes[0] = 40;
+    bytes[4..8].copy_from_slice(&opcode.to_le_bytes());
+    bytes[8..16].copy_from_slice(&id.to_le_bytes());
+    Turn::Message(Items::from_vec(bytes))
+}
+
+/// A message of twenty bytes.
+fn short<R: AllocGlobal + Abort>(rt: &R) -> Turn {
+    let bytes = vec![in rt.alloc(); 0; 20].expect(rt, "there is memory");
+    Turn::Message(Items::from_vec(bytes))
+}
+
+/// Puts a turn at the end.
+fn put<R: Abort>(rt: &R, turns: &mut Vec<Turn>, turn: Turn) {
+    turns.push(turn).expect(rt, "there is memory");
+}
+
+/// Puts so many turns that give nothing at the end.
+fn put_nothing<R: Abort>(rt: &R, turns: &mut Vec<Turn>, count: u64) {
+    for _turn in 0..count {
+        put(rt, turns, Turn::Retry);
+    }
+}
+
+/// Puts a STATFS of each of these ids at the end, and before each so many turns that give nothing.
+fn put_requests<R: AllocGlobal + Abort>(
+    rt: &R,
+    turns: &mut Vec<Turn>,
+    first: u64,
+    end: u64,
+    nothing: u64,
+) {
+    for id in first..end {
+        put_nothing(rt, turns, nothing);
+        put(rt, turns, message(rt, FUSE_STATFS, id));
+    }
+}
+
+/// Puts the turns of a piece at the end.
+fn put_piece<R: AllocGlobal + Abort>(rt: &R, turns: &mut Vec<Turn>, piece: Piece) {
+    match piece {
+        Piece::Requests(first, end) => put_requests(rt, turns, first, end, 0),
+        Piece::Apart(count, nothing) => put_requests(rt, turns, 0, count, nothing),
+        Piece::Destroy(id) => put(rt, turns, message(rt, FUSE_DESTROY, id)),
+        Piece::Short => put(rt, turns, short(rt)),
+        Piece::Fault => put(rt, turns, Turn::Fail),
+    }
+}
+
+/// A source of these pieces.
+pub(crate) fn source_of<R: AllocGlobal + Abort>(rt: &R, pieces: &[Piece]) -> MemorySource {
+    let mut turns = Vec::new(rt.alloc());
+    for piece in pieces {
+        put_piece(rt, &mut turns, *piece);
+    }
+    MemorySource::new(turns)
+}
