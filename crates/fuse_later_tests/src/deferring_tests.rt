@@ -1,15 +1,13 @@
 // Lookups that are answered after their methods have returned, in whole sessions.
-use crate::asserts::{expect, expect_same};
+use crate::asserts::expect_same;
 use crate::deferring::{Deferring, HELD, LAST, SOON, Shelf, Tally, close, shared_shelf};
-use crate::serving::{Rest, are_replies, counts, put_turn, rest_of};
+use crate::messages::{Frame, Message, are_after_init, differ_after_init, source_after_init};
+use crate::serving::{Rest, counts, rest_of};
 use fuse_config::{Config, SessionACL};
 use fuse_probing::Probing;
-use fuse_probing::test_messages::{
-    ACCEPTED, ENOENT, ENOSYS, INIT_7_8, differ_at, error_reply, getattr, lookup_by, lookup_of,
-    source_of,
-};
+use fuse_probing::test_messages::{ENOENT, ENOSYS};
 use fuse_session::{Ended, Filesystem, Session, SessionError, Transcript, mount};
-use fuse_wire::{Items, MemorySink, MemorySource};
+use fuse_wire::{Items, MemorySink, MemorySource, u64_at};
 use std::alloc::{AllocGlobal, Global};
 use std::process::Abort;
 use std::sync::{Arc, Wait};
@@ -23,25 +21,157 @@ enum Way {
     NewAndRun,
 }
 
-/// How a session is served, and when its late frames come.
+/// How a session is served, what it is sent, and when its late frames come.
 #[derive(Clone, Copy)]
-struct Plan {
+struct Setup {
     way: Way,
     n_threads: usize,
     /// How many late frames are awaited by a lookup that is held.
     awaited: u64,
     /// How many lookups are held before the first late frame comes.
     least_held: u64,
+    /// How many threads of the test's own answer the lookups that are put off.
+    threads: u64,
+    /// What comes after INIT.
+    messages: &'static [Message],
 }
 
-/// How a session ended, and what became of the lookups that were put off.
-#[derive(Drop)]
-struct Served {
-    outcome: Result<(), SessionError>,
-    transcript: Transcript,
-    sink: MemorySink,
-    tally: Option<Tally>,
+/// A session, and what comes of it.
+struct Row {
+    setup: Setup,
+    /// What is sent after the reply to INIT, in some order, and on one thread in this one.
+    frames: &'static [Frame],
+    tally: Tally,
 }
+
+const ROWS: &[Row] = &[
+    // A lookup is answered by another thread.
+    Row {
+        setup: Setup {
+            way: Way::Mount,
+            n_threads: 2,
+            awaited: 1,
+            least_held: 0,
+            threads: 1,
+            messages: &[Message::Lookup(2, SOON), Message::Lookup(3, HELD)],
+        },
+        frames: &[Frame::Error(2, ENOENT), Frame::Error(3, ENOENT)],
+        tally: Tally {
+            sent: 1,
+            shut: 0,
+            closed: 0,
+            taken: 0,
+        },
+    },
+    // Two lookups under one id are answered later.
+    Row {
+        setup: Setup {
+            way: Way::NewAndRun,
+            n_threads: 2,
+            awaited: 2,
+            least_held: 0,
+            threads: 1,
+            messages: &[
+                Message::Lookup(2, SOON),
+                Message::Lookup(2, SOON),
+                Message::Lookup(3, HELD),
+            ],
+        },
+        frames: &[
+            Frame::Error(2, ENOENT),
+            Frame::Error(2, ENOENT),
+            Frame::Error(3, ENOENT),
+        ],
+        tally: Tally {
+            sent: 2,
+            shut: 0,
+            closed: 0,
+            taken: 0,
+        },
+    },
+    // One thread puts no lookup off.
+    Row {
+        setup: Setup {
+            way: Way::Mount,
+            n_threads: 1,
+            awaited: 0,
+            least_held: 0,
+            threads: 1,
+            messages: &[
+                Message::Lookup(2, SOON),
+                Message::Lookup(3, LAST),
+                Message::Lookup(4, HELD),
+            ],
+        },
+        frames: &[
+            Frame::Error(2, ENOENT),
+            Frame::Error(3, ENOENT),
+            Frame::Error(4, ENOENT),
+        ],
+        tally: Tally {
+            sent: 0,
+            shut: 2,
+            closed: 0,
+            taken: 0,
+        },
+    },
+    // A lookup after the end is told how many were taken. Once both threads hold a lookup, the methods of the others have
+    // returned.
+    Row {
+        setup: Setup {
+            way: Way::NewAndRun,
+            n_threads: 2,
+            awaited: 1,
+            least_held: 2,
+            threads: 1,
+            messages: &[
+                Message::Lookup(2, SOON),
+                Message::Lookup(3, LAST),
+                Message::Lookup(4, HELD),
+                Message::Lookup(5, HELD),
+            ],
+        },
+        frames: &[
+            Frame::Error(2, ENOENT),
+            Frame::Error(4, ENOENT),
+            Frame::Error(5, ENOENT),
+        ],
+        tally: Tally {
+            sent: 1,
+            shut: 0,
+            closed: 1,
+            taken: 4,
+        },
+    },
+    // What is answered at once keeps its frame.
+    Row {
+        setup: Setup {
+            way: Way::Mount,
+            n_threads: 2,
+            awaited: 2,
+            least_held: 0,
+            threads: 1,
+            messages: &[
+                Message::Lookup(2, SOON),
+                Message::Getattr(3),
+                Message::Lookup(4, SOON),
+                Message::Lookup(5, HELD),
+            ],
+        },
+        frames: &[
+            Frame::Error(2, ENOENT),
+            Frame::Error(3, ENOSYS),
+            Frame::Error(4, ENOENT),
+            Frame::Error(5, ENOENT),
+        ],
+        tally: Tally {
+            sent: 2,
+            shut: 0,
+            closed: 0,
+            taken: 0,
+        },
+    },
+];
 
 /// Serves the filesystem in this way, over pages of 4096 bytes.
 fn serve_by<R: Threads + Wait + AllocGlobal + Sync, FS: Filesystem>(
@@ -64,49 +194,6 @@ fn serve_by<R: Threads + Wait + AllocGlobal + Sync, FS: Filesystem>(
 /// How a session ended, what it did, and the sink.
 type Ran = (Result<(), SessionError>, Transcript, MemorySink);
 
-/// Serves a filesystem that has a share of the shelf.
-fn serve_from<R: Threads + Wait + AllocGlobal + Abort + Send + Sync + Copy>(
-    rt: &R,
-    way: Way,
-    shelf: &Arc<Shelf, Global>,
-    source: MemorySource,
-    config: &Config,
-) -> Ran {
-    let probe = Deferring {
-        rt: *rt,
-        shelf: Arc::try_clone(shelf).expect(rt, "there is memory"),
-    };
-    let sink = MemorySink::new(rt.alloc(), Vec::new(rt.alloc()));
-    let Rest {
-        filesystem: Probing { probe },
-        sink,
-        outcome,
-        transcript,
-    } = rest_of(serve_by(rt, way, Probing { probe }, source, sink, config));
-    let Deferring { rt: _, shelf } = probe;
-    let _ = close(rt, shelf);
-    (outcome, transcript, sink)
-}
-
-/// The same, while so many threads of the test's own answer the lookups that are put off.
-fn serve_beside<R: Threads + Wait + AllocGlobal + Abort + Send + Sync + Copy>(
-    rt: &R,
-    way: Way,
-    threads: u64,
-    shelf: &Arc<Shelf, Global>,
-    source: MemorySource,
-    config: &Config,
-) -> Ran {
-    thread::scope(thread::scope_env(), rt, |scope| {
-        for seed in 1..=threads {
-            let _ = scope.spawn(move || shelf.answer_later(rt, seed));
-        }
-        let ran = serve_from(rt, way, shelf, source, config);
-        shelf.end();
-        ran
-    })
-}
-
 /// A configuration by which so many threads serve everybody.
 fn served_by(alloc: Global, n_threads: usize) -> Config {
     let mut config = Config::new(alloc);
@@ -115,216 +202,116 @@ fn served_by(alloc: Global, n_threads: usize) -> Config {
     config
 }
 
-/// Serves this source by the plan, while so many threads of the test's own answer the lookups that are put off. What is
-/// left of these is answered after that.
-fn serve_source<R: Threads + Wait + AllocGlobal + Abort + Send + Sync + Copy>(
+/// Serves a filesystem that has a share of the shelf.
+fn serve_from<R: Threads + Wait + AllocGlobal + Abort + Send + Sync + Copy>(
     rt: &R,
-    plan: Plan,
-    threads: u64,
-    source: MemorySource,
-) -> Served {
-    let alloc = rt.alloc();
-    let shelf = shared_shelf(rt, alloc, plan.awaited, plan.least_held);
-    let shelf = shelf.expect(rt, "there is memory");
-    let config = served_by(alloc, plan.n_threads);
-    let (outcome, transcript, sink) = serve_beside(rt, plan.way, threads, &shelf, source, &config);
-    Served {
+    setup: Setup,
+    shelf: &Arc<Shelf, Global>,
+) -> Ran {
+    let shelf = Arc::try_clone(shelf).expect(rt, "there is memory");
+    let probe = Deferring { rt: *rt, shelf };
+    let source = source_after_init(rt, setup.messages);
+    let sink = MemorySink::new(rt.alloc(), Vec::new(rt.alloc()));
+    let config = served_by(rt.alloc(), setup.n_threads);
+    let Rest {
+        filesystem: Probing { probe },
+        sink,
         outcome,
         transcript,
-        sink,
-        tally: close(rt, shelf),
-    }
+    } = rest_of(serve_by(rt, setup.way, Probing { probe }, source, sink, &config));
+    let Deferring { rt: _, shelf } = probe;
+    let _ = close(rt, shelf);
+    (outcome, transcript, sink)
 }
 
-/// Serves these messages by the plan, with one such thread.
+/// The same, while threads of the test's own answer the lookups that are put off.
+fn serve_beside<R: Threads + Wait + AllocGlobal + Abort + Send + Sync + Copy>(
+    rt: &R,
+    setup: Setup,
+    shelf: &Arc<Shelf, Global>,
+) -> Ran {
+    thread::scope(thread::scope_env(), rt, |scope| {
+        for seed in 1..=setup.threads {
+            let _ = scope.spawn(move || shelf.answer_later(rt, seed));
+        }
+        let ran = serve_from(rt, setup, shelf);
+        shelf.end();
+        ran
+    })
+}
+
+/// Serves this. What is left of the lookups that are put off is answered after that, and this became of them all.
 fn serve<R: Threads + Wait + AllocGlobal + Abort + Send + Sync + Copy>(
     rt: &R,
-    plan: Plan,
-    messages: &[&[u8]],
-) -> Served {
-    let source = source_of(rt.alloc(), messages).expect(rt, "there is memory");
-    serve_source(rt, plan, 1, source)
+    setup: Setup,
+) -> (Ran, Option<Tally>) {
+    let shelf = shared_shelf(rt, rt.alloc(), setup.awaited, setup.least_held);
+    let shelf = shelf.expect(rt, "there is memory");
+    let ran = serve_beside(rt, setup, &shelf);
+    (ran, close(rt, shelf))
 }
 
-/// So many late frames were queued while the session ran, and all that were put off.
-fn all_queued(sent: u64) -> Tally {
-    Tally {
-        sent,
-        shut: 0,
-        closed: 0,
-        taken: 0,
+/// Whether the frames of a row were sent.
+fn are_sent(row: &Row, sink: &MemorySink) -> bool {
+    if row.setup.n_threads == 1 {
+        differ_after_init(sink.frames(), row.frames).is_none()
+    } else {
+        are_after_init(sink.frames(), row.frames)
     }
 }
 
-/// The session ended well, and took so many messages. It sent the handshake's reply, and then just these others, in some
-/// order. This became of the lookups that were put off.
-fn has_replied<R: Abort>(
-    rt: &R,
-    served: &Served,
-    received: u64,
-    replies: &[[u8; 16]],
-    tally: Tally,
-) {
-    let expected = counts(received, (replies.len() as u64).saturating_add(1));
+/// The session of a row ends well, takes its messages, and sends just its frames.
+fn expect_row<R: Threads + Wait + AllocGlobal + Abort + Send + Sync + Copy>(rt: &R, row: &Row) {
+    let ((outcome, transcript, sink), tally) = serve(rt, row.setup);
+    let are_sent = are_sent(row, &sink);
+    drop(sink);
+    let received = (row.setup.messages.len() as u64).saturating_add(1);
+    let frames = (row.frames.len() as u64).saturating_add(1);
     expect_same(
         rt,
-        &(served.outcome, served.transcript),
-        &(Ok(()), expected),
+        &(outcome, transcript, are_sent, tally),
+        &(Ok(()), counts(received, frames), true, Some(row.tally)),
     );
-    expect(
-        rt,
-        "the frames are the replies",
-        are_replies(served.sink.frames(), replies),
-    );
-    expect_same(rt, &served.tally, &Some(tally));
 }
 
 #[test]
-fn a_lookup_is_answered_by_another_thread(rt: HostRuntime) {
-    let plan = Plan {
-        way: Way::Mount,
-        n_threads: 2,
-        awaited: 1,
-        least_held: 0,
-    };
-    let messages: [&[u8]; 3] = [&INIT_7_8, &lookup_of(2, SOON), &lookup_of(3, HELD)];
-    let served = serve(&rt, plan, &messages);
-    let replies = [error_reply(2, ENOENT), error_reply(3, ENOENT)];
-    has_replied(&rt, &served, 3, &replies, all_queued(1));
-}
-
-#[test]
-fn two_lookups_under_one_id_are_answered_later(rt: HostRuntime) {
-    let plan = Plan {
-        way: Way::NewAndRun,
-        n_threads: 2,
-        awaited: 2,
-        least_held: 0,
-    };
-    let messages: [&[u8]; 4] = [
-        &INIT_7_8,
-        &lookup_of(2, SOON),
-        &lookup_of(2, SOON),
-        &lookup_of(3, HELD),
-    ];
-    let served = serve(&rt, plan, &messages);
-    let replies = [
-        error_reply(2, ENOENT),
-        error_reply(2, ENOENT),
-        error_reply(3, ENOENT),
-    ];
-    has_replied(&rt, &served, 4, &replies, all_queued(2));
-}
-
-#[test]
-fn one_thread_puts_no_lookup_off(rt: HostRuntime) {
-    let plan = Plan {
-        way: Way::Mount,
-        n_threads: 1,
-        awaited: 0,
-        least_held: 0,
-    };
-    let messages: [&[u8]; 4] = [
-        &INIT_7_8,
-        &lookup_of(2, SOON),
-        &lookup_of(3, LAST),
-        &lookup_of(4, HELD),
-    ];
-    let served = serve(&rt, plan, &messages);
-    let replies = [
-        error_reply(2, ENOENT),
-        error_reply(3, ENOENT),
-        error_reply(4, ENOENT),
-    ];
-    let shut = Tally {
-        sent: 0,
-        shut: 2,
-        closed: 0,
-        taken: 0,
-    };
-    has_replied(&rt, &served, 4, &replies, shut);
-    let in_order: [&[u8]; 4] = [&ACCEPTED, &replies[0], &replies[1], &replies[2]];
-    expect_same(&rt, &differ_at(served.sink.frames(), &in_order), &None);
-}
-
-#[test]
-fn a_lookup_after_the_end_is_told_how_many_were_taken(rt: HostRuntime) {
-    // Once both threads hold a lookup, the methods of the others have returned.
-    let plan = Plan {
-        way: Way::NewAndRun,
-        n_threads: 2,
-        awaited: 1,
-        least_held: 2,
-    };
-    let messages: [&[u8]; 5] = [
-        &INIT_7_8,
-        &lookup_of(2, SOON),
-        &lookup_of(3, LAST),
-        &lookup_of(4, HELD),
-        &lookup_of(5, HELD),
-    ];
-    let served = serve(&rt, plan, &messages);
-    let replies = [
-        error_reply(2, ENOENT),
-        error_reply(4, ENOENT),
-        error_reply(5, ENOENT),
-    ];
-    let told = Tally {
-        sent: 1,
-        shut: 0,
-        closed: 1,
-        taken: 4,
-    };
-    has_replied(&rt, &served, 5, &replies, told);
-}
-
-#[test]
-fn what_is_answered_at_once_keeps_its_frame(rt: HostRuntime) {
-    let plan = Plan {
-        way: Way::Mount,
-        n_threads: 2,
-        awaited: 2,
-        least_held: 0,
-    };
-    let messages: [&[u8]; 5] = [
-        &INIT_7_8,
-        &lookup_of(2, SOON),
-        &getattr(3, 0),
-        &lookup_of(4, SOON),
-        &lookup_of(5, HELD),
-    ];
-    let served = serve(&rt, plan, &messages);
-    let replies = [
-        error_reply(2, ENOENT),
-        error_reply(3, ENOSYS),
-        error_reply(4, ENOENT),
-        error_reply(5, ENOENT),
-    ];
-    has_replied(&rt, &served, 5, &replies, all_queued(2));
+fn lookups_are_answered_later(rt: HostRuntime) {
+    for row in ROWS {
+        expect_row(&rt, row);
+    }
 }
 
 /// How many lookups the long session puts off.
 const MANY: u64 = 100_000;
 
-/// INIT, lookups of the ids below a number that are put off, and one of that number that is held until they are answered.
-fn many_lookups<R: AllocGlobal + Abort>(rt: &R, many: u64) -> MemorySource {
-    let mut turns = Vec::new(rt.alloc());
-    put_turn(rt, &mut turns, &INIT_7_8);
-    for id in 0..many {
-        put_turn(rt, &mut turns, &lookup_by(id, SOON));
-    }
-    put_turn(rt, &mut turns, &lookup_by(many, HELD));
-    MemorySource::new(turns)
-}
+/// The long session: lookups that are put off, and one that is held until they are answered.
+const LONG: Setup = Setup {
+    way: Way::Mount,
+    n_threads: 2,
+    awaited: MANY,
+    least_held: 0,
+    threads: 4,
+    messages: &[Message::Lookups(MANY, SOON), Message::Lookup(MANY, HELD)],
+};
 
 /// The id of a request, where the frame answers it by ENOENT.
 fn refused_id(frame: &[u8]) -> Option<u64> {
-    if frame.len() != 16 || frame[..8] != error_reply(0, ENOENT)[..8] {
-        return None;
+    if frame.len() == 16 && u64_at(frame, 0) == 0xffff_fffe_0000_0010 {
+        Some(u64_at(frame, 8))
+    } else {
+        None
     }
-    let mut id = [0; 8];
-    id.copy_from_slice(&frame[8..16]);
-    Some(u64::from_le_bytes(id))
+}
+
+/// Whether this is the first frame that refuses an id, which is noted.
+fn is_first_refusal(is_refused: &mut [bool], frame: &[u8]) -> bool {
+    let Some(id) = refused_id(frame) else {
+        return false;
+    };
+    let Some(is_refused) = is_refused.get_mut(id as usize) else {
+        return false;
+    };
+    !std::mem::replace(is_refused, true)
 }
 
 /// How many ids below a number these frames answer by ENOENT, and how many of the frames are another reply or a second one.
@@ -333,12 +320,10 @@ fn refusals<R: AllocGlobal + Abort>(rt: &R, frames: &[Items<u8>], ids: u64) -> (
     let mut is_refused = is_refused.expect(rt, "there is memory");
     let (mut refused, mut other): (u64, u64) = (0, 0);
     for frame in frames {
-        match refused_id(frame.as_slice()).and_then(|id| is_refused.get_mut(id as usize)) {
-            Some(is_refused) if !*is_refused => {
-                *is_refused = true;
-                refused = refused.saturating_add(1);
-            }
-            _ => other = other.saturating_add(1),
+        if is_first_refusal(&mut is_refused, frame.as_slice()) {
+            refused = refused.saturating_add(1);
+        } else {
+            other = other.saturating_add(1);
         }
     }
     (refused, other)
@@ -346,22 +331,24 @@ fn refusals<R: AllocGlobal + Abort>(rt: &R, frames: &[Items<u8>], ids: u64) -> (
 
 #[test]
 fn many_lookups_are_answered_by_four_threads(rt: HostRuntime) {
-    let plan = Plan {
-        way: Way::Mount,
-        n_threads: 2,
-        awaited: MANY,
-        least_held: 0,
+    let ((outcome, transcript, sink), tally) = serve(&rt, LONG);
+    let refused = refusals(&rt, sink.frames(), MANY + 1);
+    drop(sink);
+    let queued = Tally {
+        sent: MANY,
+        shut: 0,
+        closed: 0,
+        taken: 0,
     };
-    let source = many_lookups(&rt, MANY);
-    let served = serve_source(&rt, plan, 4, source);
-    let refused = refusals(&rt, served.sink.frames(), MANY + 1);
+    // All but the handshake's reply.
     expect_same(
         &rt,
-        &(served.outcome, served.transcript),
-        &(Ok(()), counts(MANY + 2, MANY + 2)),
+        &(outcome, transcript, refused, tally),
+        &(
+            Ok(()),
+            counts(MANY + 2, MANY + 2),
+            (MANY + 1, 1),
+            Some(queued),
+        ),
     );
-    expect_same(&rt, &served.tally, &Some(all_queued(MANY)));
-    drop(served);
-    // All but the handshake's reply.
-    expect_same(&rt, &refused, &(MANY + 1, 1));
 }

@@ -3,17 +3,16 @@ ghost use Rattle.std.specs.Prelude.{◌≡◌, false, refl};
 ghost use Rattle.fuse_dispatch.specs.Defaults.{default_answer};
 
 use crate::asserts::expect_same;
+use crate::messages::{Frame, differ_after_init};
 use crate::serving::{Rest, counts, rest_of};
 use fuse_config::{Config, SessionACL};
 use fuse_notify::{Notifier, NotifyError};
-use fuse_probing::test_messages::{
-    ACCEPTED, ENOSYS, INIT_7_8, differ_at, error_reply, lookup, source_of,
-};
+use fuse_probing::test_messages::{ENOSYS, INIT_7_8, lookup, source_of};
 use fuse_probing::{Argument, Probe, Probing};
 use fuse_reply::{Replied, ReplyEntry};
 use fuse_request::Request;
 use fuse_session::{Session, defaults};
-use fuse_wire::{INodeNo, Items, MemorySink, NoMemory, PollHandle};
+use fuse_wire::{INodeNo, MemorySink, NoMemory, PollHandle};
 use std::alloc::Global;
 use std::process::Abort;
 use std::sync::atomic::{AtomicU64, Ordering};
@@ -118,47 +117,31 @@ fn serve_flooding<R: Threads + Wait + AllocGlobal + Abort + Send + Sync + Copy>(
     )
 }
 
-/// The notice of a poll with this handle, `struct fuse_notify_poll_wakeup_out`, whose code is 1.
-fn news(handle: usize) -> [u8; 24] {
-    let mut frame = [0; 24];
-    frame[0] = 24;
-    frame[4] = 1;
-    frame[16] = handle.min(255) as u8;
-    frame
-}
-
-/// The first of these frames that is not the notice with its place as the handle.
-fn first_other(frames: &[Items<u8>]) -> Option<usize> {
-    frames.iter().enumerate().position(|(handle, frame)| frame.as_slice()
-        != news(handle).as_slice())
-}
-
-/// How many frames there are, where the first two are these and all others notices, in order.
-fn notices_after(frames: &[Items<u8>], replies: &[&[u8]; 2]) -> Option<usize> {
-    let (first, others) = (frames.get(..2)?, frames.get(2..)?);
-    if differ_at(first, replies).is_none() && first_other(others).is_none() {
-        Some(frames.len())
-    } else {
-        None
+/// The frames after the reply to INIT: the reply to the LOOKUP, and so many notices, whose handles are their places.
+fn reply_and_news<R: AllocGlobal + Abort>(rt: &R, count: u8) -> Vec<Frame> {
+    let mut frames = Vec::new(rt.alloc());
+    frames
+        .push(Frame::Error(2, ENOSYS))
+        .expect(rt, "there is memory");
+    for handle in 0..count {
+        let news = Frame::News([handle, 0]);
+        frames.push(news).expect(rt, "there is memory");
     }
+    frames
 }
 
 #[test]
 fn the_notices_of_a_filesystem_follow_its_reply(rt: HostRuntime) {
     let slot = Arc::new(rt.alloc(), Mutex::new(None)).expect(&rt, "there is memory");
     let rest = serve_flooding(&rt, &slot);
-    expect_same(
-        &rt,
-        &(rest.outcome, rest.transcript),
-        &(Ok(()), counts(2, 2)),
-    );
+    let frames = reply_and_news(&rt, 64);
     let probe = &rest.filesystem.probe;
     let told = (
         probe.queued.load(Ordering::SeqCst),
         probe.full.load(Ordering::SeqCst),
     );
-    expect_same(&rt, &told, &(SENT - 1, 1));
-    let replies: [&[u8]; 2] = [&ACCEPTED, &error_reply(2, ENOSYS)];
-    let expected = Some(SENT as usize + 1);
-    expect_same(&rt, &notices_after(rest.sink.frames(), &replies), &expected);
+    let other = differ_after_init(rest.sink.frames(), &frames);
+    let found = (rest.outcome, rest.transcript, told, other);
+    drop(rest);
+    expect_same(&rt, &found, &(Ok(()), counts(2, 2), (64, 1), None));
 }

@@ -12,6 +12,8 @@ mod deferring_tests;
 #[cfg(test)]
 mod flooding_tests;
 #[cfg(test)]
+mod messages;
+#[cfg(test)]
 mod notice_tests;
 #[cfg(test)]
 mod polling;

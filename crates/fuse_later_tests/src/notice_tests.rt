@@ -1,88 +1,117 @@
 // Notices, which are sent after the frame of the message that was answered last.
 use crate::asserts::expect_same;
+use crate::messages::{Frame, Message, differ_after_init, source_after_init};
 use crate::polling::Polling;
-use crate::serving::{Rest, counts, put_turn, serve};
+use crate::serving::{Rest, counts, serve};
 use fuse_probing::Probing;
-use fuse_probing::test_messages::{
-    ACCEPTED, ENOENT, INIT_7_8, differ_at, error_reply, getattr, poll, source_of,
-};
-use fuse_session::Transcript;
-use fuse_wire::{Items, MemorySink, MemorySource, Sending};
+use fuse_probing::test_messages::ENOENT;
+use fuse_session::{SessionError, Transcript};
+use fuse_wire::{MemorySink, Sending};
 use std::process::Abort;
 use std::sync::Wait;
 use std::thread::Threads;
 
 /// How many notices the line of a session holds.
-const PLACES: usize = 64;
+const PLACES: u8 = 64;
 
-/// The reply that a file is ready for reading: `struct fuse_poll_out` with `POLLIN` of `poll.h`.
-fn ready(id: u8) -> [u8; 24] {
-    let mut frame = [0; 24];
-    frame[0] = 24;
-    frame[8] = id;
-    frame[16] = 1;
-    frame
+/// What a session is sent, and what it takes and sends after INIT and its reply.
+struct Row {
+    messages: &'static [Message],
+    frames: &'static [Frame],
+    received: u64,
+    /// How many replies are taken.
+    replies: u64,
+    /// How many are not.
+    lost: u64,
 }
 
-/// The notice of a poll with this handle, `struct fuse_notify_poll_wakeup_out`, whose code is 1.
-fn news(handle: [u8; 2]) -> [u8; 24] {
-    let mut frame = [0; 24];
-    frame[0] = 24;
-    frame[4] = 1;
-    frame[16..18].copy_from_slice(&handle);
-    frame
-}
+const ROWS: &[Row] = &[
+    // A poll that is told at once is answered before its notice.
+    Row {
+        messages: &[Message::Poll(2, [0x21, 0x43], 0)],
+        frames: &[Frame::Ready(2), Frame::News([0x21, 0x43])],
+        received: 2,
+        replies: 2,
+        lost: 0,
+    },
+    // A poll is told once there is news.
+    Row {
+        messages: &[
+            Message::Poll(2, [7, 0], 1),
+            Message::Getattr(3),
+            Message::Getattr(4),
+        ],
+        frames: &[
+            Frame::Ready(2),
+            Frame::Error(3, ENOENT),
+            Frame::News([7, 0]),
+            Frame::Error(4, ENOENT),
+        ],
+        received: 4,
+        replies: 4,
+        lost: 0,
+    },
+];
 
-/// Serves this source in a session that ends well, with these counts, and leaves so many polls waiting. The sink comes back.
-fn serves<R: Threads + Wait + AllocGlobal + Abort + Send + Sync + Copy>(
+/// A notice that is not taken is counted nowhere. The sends are the reply to INIT, and then a reply and its notice for each
+/// poll, of which the third, fifth and sixth are not taken.
+const REFUSED: &Row = &Row {
+    messages: &[
+        Message::Poll(2, [7, 0], 0),
+        Message::Poll(3, [8, 0], 0),
+        Message::Poll(4, [9, 0], 0),
+    ],
+    frames: &[Frame::Ready(2), Frame::Ready(3), Frame::News([9, 0])],
+    received: 4,
+    replies: 3,
+    lost: 1,
+};
+
+/// How a session ended, what it counted, how many polls wait, and the first place at which its frames are others.
+type Found = (Result<(), SessionError>, Transcript, usize, Option<usize>);
+
+/// What comes of a session of these messages, whose frames are to be these.
+fn run_polls<R: Threads + Wait + AllocGlobal + Abort + Send + Sync + Copy>(
     rt: &R,
-    source: MemorySource,
+    messages: &[Message],
+    frames: &[Frame],
     sink: MemorySink,
-    counts: Transcript,
-    waiting: usize,
-) -> MemorySink {
+) -> Found {
     let probe = Polling::new(*rt, rt.alloc());
-    let Rest {
-        filesystem,
-        sink,
-        outcome,
-        transcript,
-    } = serve(rt, Probing { probe }, source, sink, None);
-    expect_same(rt, &(outcome, transcript), &(Ok(()), counts));
-    expect_same(rt, &filesystem.probe.waiting(), &waiting);
-    drop(filesystem);
-    sink
+    let source = source_after_init(rt, messages);
+    let rest = serve(rt, Probing { probe }, source, sink, None);
+    let found = (
+        rest.outcome,
+        rest.transcript,
+        rest.filesystem.probe.waiting(),
+        differ_after_init(rest.sink.frames(), frames),
+    );
+    drop(rest);
+    found
+}
+
+/// A session comes to what its row says, and leaves no poll waiting.
+fn expect_row<R: Threads + Wait + AllocGlobal + Abort + Send + Sync + Copy>(
+    rt: &R,
+    row: &Row,
+    sink: MemorySink,
+) {
+    let mut expected = counts(row.received, row.replies);
+    expected.lost = row.lost;
+    let found = run_polls(rt, row.messages, row.frames, sink);
+    expect_same(rt, &found, &(Ok(()), expected, 0, None));
+}
+
+/// A sink that takes everything.
+fn taking<R: AllocGlobal>(rt: &R) -> MemorySink {
+    MemorySink::new(rt.alloc(), Vec::new(rt.alloc()))
 }
 
 #[test]
-fn a_poll_that_is_told_at_once_is_answered_before_its_notice(rt: HostRuntime) {
-    let polls: [&[u8]; 2] = [&INIT_7_8, &poll(2, [0x21, 0x43], 0)];
-    let frames: [&[u8]; 3] = [&ACCEPTED, &ready(2), &news([0x21, 0x43])];
-    let source = source_of(rt.alloc(), &polls).expect(&rt, "there is memory");
-    let sink = MemorySink::new(rt.alloc(), Vec::new(rt.alloc()));
-    let sink = serves(&rt, source, sink, counts(2, 2), 0);
-    expect_same(&rt, &differ_at(sink.frames(), &frames), &None);
-}
-
-#[test]
-fn a_poll_is_told_once_there_is_news(rt: HostRuntime) {
-    let messages: [&[u8]; 4] = [
-        &INIT_7_8,
-        &poll(2, [7, 0], 1),
-        &getattr(3, 0),
-        &getattr(4, 0),
-    ];
-    let frames: [&[u8]; 5] = [
-        &ACCEPTED,
-        &ready(2),
-        &error_reply(3, ENOENT),
-        &news([7, 0]),
-        &error_reply(4, ENOENT),
-    ];
-    let source = source_of(rt.alloc(), &messages).expect(&rt, "there is memory");
-    let sink = MemorySink::new(rt.alloc(), Vec::new(rt.alloc()));
-    let sink = serves(&rt, source, sink, counts(4, 4), 0);
-    expect_same(&rt, &differ_at(sink.frames(), &frames), &None);
+fn a_poll_is_answered_before_its_notice(rt: HostRuntime) {
+    for row in ROWS {
+        expect_row(&rt, row, taking(&rt));
+    }
 }
 
 /// A sink that does not take its third, fifth and sixth frame.
@@ -98,65 +127,39 @@ fn refusing<R: AllocGlobal + Abort>(rt: &R) -> MemorySink {
 
 #[test]
 fn a_notice_that_is_not_taken_is_counted_nowhere(rt: HostRuntime) {
-    let messages: [&[u8]; 4] = [
-        &INIT_7_8,
-        &poll(2, [7, 0], 0),
-        &poll(3, [8, 0], 0),
-        &poll(4, [9, 0], 0),
-    ];
-    // The sends are the reply to INIT, and then a reply and its notice for each poll.
-    let frames: [&[u8]; 4] = [&ACCEPTED, &ready(2), &ready(3), &news([9, 0])];
-    let source = source_of(rt.alloc(), &messages).expect(&rt, "there is memory");
-    let sink = refusing(&rt);
-    let mut expected = counts(4, 3);
-    expected.lost = 1;
-    let sink = serves(&rt, source, sink, expected, 0);
-    expect_same(&rt, &differ_at(sink.frames(), &frames), &None);
+    expect_row(&rt, REFUSED, refusing(&rt));
 }
 
-/// A source of one poll more than there are places, and of two GETATTRs.
-fn many_polls<R: AllocGlobal + Abort>(rt: &R) -> MemorySource {
-    let mut turns = Vec::new(rt.alloc());
-    put_turn(rt, &mut turns, &INIT_7_8);
-    for handle in 0..=PLACES {
-        put_turn(rt, &mut turns, &poll(2, [handle as u8, 0], 1));
-    }
-    put_turn(rt, &mut turns, &getattr(3, 0));
-    put_turn(rt, &mut turns, &getattr(3, 0));
-    MemorySource::new(turns)
-}
-
-/// Puts this frame behind the others.
-fn put<R: AllocGlobal + Abort>(rt: &R, frames: &mut Vec<Items<u8>>, frame: &[u8]) {
-    let bytes = frame.to_vec(rt.alloc()).expect(rt, "there is memory");
-    let frame = Items::from_vec(bytes);
+/// Puts a frame behind the others.
+fn put<R: Abort>(rt: &R, frames: &mut Vec<Frame>, frame: Frame) {
     frames.push(frame).expect(rt, "there is memory");
 }
 
-/// What is sent for them: the reply to INIT, and then those to the polls; the reply to a GETATTR, and the notices for which
-/// there are places; the reply to the other one, and the notice that is left.
-fn many_frames<R: AllocGlobal + Abort>(rt: &R) -> Vec<Items<u8>> {
+/// What is sent for one poll more than there are places, and two GETATTRs: the replies to the polls; the reply to a
+/// GETATTR, and the notices for which there are places; the reply to the other one, and the notice that is left.
+fn many_frames<R: AllocGlobal + Abort>(rt: &R) -> Vec<Frame> {
     let mut frames = Vec::new(rt.alloc());
-    put(rt, &mut frames, &ACCEPTED);
     for _ in 0..=PLACES {
-        put(rt, &mut frames, &ready(2));
+        put(rt, &mut frames, Frame::Ready(2));
     }
-    put(rt, &mut frames, &error_reply(3, ENOENT));
+    put(rt, &mut frames, Frame::Error(3, ENOENT));
     for place in 0..PLACES {
         // The filesystem tells of the newest poll first.
-        put(rt, &mut frames, &news([(PLACES - place) as u8, 0]));
+        put(rt, &mut frames, Frame::News([PLACES - place, 0]));
     }
-    put(rt, &mut frames, &error_reply(3, ENOENT));
-    put(rt, &mut frames, &news([0, 0]));
+    put(rt, &mut frames, Frame::Error(3, ENOENT));
+    put(rt, &mut frames, Frame::News([0, 0]));
     frames
 }
 
 #[test]
 fn a_notice_for_which_there_is_no_place_waits(rt: HostRuntime) {
-    let messages = PLACES as u64 + 4;
+    let messages = [
+        Message::Polls(PLACES),
+        Message::Getattr(3),
+        Message::Getattr(3),
+    ];
     let frames = many_frames(&rt);
-    let source = many_polls(&rt);
-    let sink = MemorySink::new(rt.alloc(), Vec::new(rt.alloc()));
-    let sink = serves(&rt, source, sink, counts(messages, messages), 0);
-    expect_same(&rt, &sink.frames(), &frames.as_slice());
+    let found = run_polls(&rt, &messages, &frames, taking(&rt));
+    expect_same(&rt, &found, &(Ok(()), counts(68, 68), 0, None));
 }

@@ -1,17 +1,9 @@
 // Sessions from memory to memory, and what is left of them.
 use fuse_config::{Config, SessionACL};
-use fuse_probing::test_messages::{ACCEPTED, turn};
 use fuse_session::{Ended, Filesystem, SessionError, Transcript, mount};
-use fuse_wire::{Items, MemorySink, MemorySource, Turn};
-use std::process::Abort;
+use fuse_wire::{MemorySink, MemorySource};
 use std::sync::Wait;
 use std::thread::Threads;
-
-/// Puts a turn of this message at the end.
-pub(crate) fn put_turn<R: AllocGlobal + Abort>(rt: &R, turns: &mut Vec<Turn>, message: &[u8]) {
-    let turn = turn(rt.alloc(), message).expect(rt, "there is memory");
-    turns.push(turn).expect(rt, "there is memory");
-}
 
 /// What is left of a session, but for its source.
 #[derive(Drop)]
@@ -63,27 +55,4 @@ pub(crate) fn counts(received: u64, frames: u64) -> Transcript {
         lost: 0,
         unrecorded: 0,
     }
-}
-
-/// How many of these frames are this reply.
-fn times_sent(frames: &[Items<u8>], reply: &[u8; 16]) -> usize {
-    frames
-        .iter()
-        .filter(|frame| frame.as_slice() == reply.as_slice())
-        .count()
-}
-
-/// How many of these replies are this one.
-fn times_listed(replies: &[[u8; 16]], reply: &[u8; 16]) -> usize {
-    replies.iter().filter(|other| *other == reply).count()
-}
-
-/// Whether the frames are the reply to INIT, and then just these replies, in some order.
-pub(crate) fn are_replies(frames: &[Items<u8>], replies: &[[u8; 16]]) -> bool {
-    let Some((first, others)) = frames.split_first() else {
-        return false;
-    };
-    first.as_slice() == ACCEPTED.as_slice()
-        && others.len() == replies.len()
-        && replies.iter().all(|reply| times_sent(others, reply) == times_listed(replies, reply))
 }

@@ -1,9 +1,10 @@
 // Sessions on several threads.
 ghost use Rattle.std.specs.Prelude.{false};
 
-use crate::asserts::{expect, expect_same};
-use crate::serving::{are_replies, serve};
-use fuse_probing::test_messages::{ENOENT, INIT_7_8, error_reply, lookup_of, source_of};
+use crate::asserts::expect_same;
+use crate::messages::{Frame, Message, are_after_init, source_after_init};
+use crate::serving::serve;
+use fuse_probing::test_messages::ENOENT;
 use fuse_probing::{Argument, Probe, Probing};
 use fuse_reply::{Replied, ReplyEntry};
 use fuse_request::Request;
@@ -80,24 +81,18 @@ impl Probe for Holding {
 
 #[test]
 fn two_calls_run_at_once(rt: HostRuntime) {
-    let alloc = rt.alloc();
-    let messages: [&[u8]; 3] = [&INIT_7_8, &lookup_of(2, b'a'), &lookup_of(3, b'b')];
-    let source = source_of(alloc, &messages).expect(&rt, "there is memory");
-    let sink = MemorySink::new(alloc, Vec::new(alloc));
     let probe = Holding {
         is_b_called: AtomicBool::new(false),
     };
+    let source = source_after_init(&rt, &[Message::Lookup(2, b'a'), Message::Lookup(3, b'b')]);
+    let sink = MemorySink::new(rt.alloc(), Vec::new(rt.alloc()));
     let rest = serve(&rt, Probing { probe }, source, sink, Some(2));
-    expect_same(&rt, &rest.outcome, &Ok(()));
-    expect_same(
-        &rt,
-        &(rest.transcript.received, rest.transcript.frames),
-        &(3, 3),
+    let frames = [Frame::Error(2, ENOENT), Frame::Error(3, ENOENT)];
+    let found = (
+        rest.outcome,
+        (rest.transcript.received, rest.transcript.frames),
+        are_after_init(rest.sink.frames(), &frames),
     );
-    let replies = [error_reply(2, ENOENT), error_reply(3, ENOENT)];
-    expect(
-        &rt,
-        "the frames are the replies",
-        are_replies(rest.sink.frames(), &replies),
-    );
+    drop(rest);
+    expect_same(&rt, &found, &(Ok(()), (3, 3), true));
 }

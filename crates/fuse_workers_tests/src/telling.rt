@@ -17,16 +17,6 @@ pub(crate) struct Telling {
     queued: Mutex<Vec<u64>>,
 }
 
-/// Tells one poll by what this makes, and says whether the notice was queued.
-fn tell_by<R: Wait + AllocGlobal>(rt: &R, notifier: &mut Notifier, handle: u64) -> bool
-    ensures { notifier.new.line ≡ notifier.old.line }
-{
-    match notifier.poll_notifier(PollHandle(handle)) {
-        Ok(poll) => poll.notify(rt).is_ok(),
-        Err(_) => false,
-    }
-}
-
 impl Telling {
     /// It tells them by a notifier of its own, or where there is none by what the one makes that it is given.
     pub(crate) fn new(alloc: Global, each: u64, own: Option<Notifier>) -> Telling {
@@ -37,34 +27,21 @@ impl Telling {
         }
     }
 
-    /// Tells one poll by the notifier of its own, where there is one, and says whether the notice was queued.
-    fn tell_itself<R: Wait + AllocGlobal>(&self, rt: &R, handle: u64) -> Option<bool> {
-        match &mut *self.own.lock(rt) {
-            Some(own) => Some(own.poll(rt, PollHandle(handle)).is_ok()),
-            None => None,
-        }
-    }
-
-    /// Tells one poll, and keeps its handle where the notice was queued.
-    fn tell<R: Wait + AllocGlobal>(&self, rt: &R, notifier: &mut Notifier, handle: u64)
+    /// Tells one poll, and says whether the notice was queued.
+    fn tell<R: Wait + AllocGlobal>(
+        &self,
+        rt: &R,
+        notifier: &mut Notifier,
+        handle: PollHandle,
+    ) -> bool
         ensures { notifier.new.line ≡ notifier.old.line }
     {
-        let is_queued = match self.tell_itself(rt, handle) {
-            Some(is_queued) => is_queued,
-            None => tell_by(rt, notifier, handle),
-        };
-        if is_queued {
-            let _ = self.queued.lock(rt).push(handle);
+        if let Some(own) = &mut *self.own.lock(rt) {
+            return own.poll(rt, handle).is_ok();
         }
-    }
-
-    /// Tells the polls of the message of this id.
-    fn tell_all<R: Wait + AllocGlobal>(&self, rt: &R, notifier: &mut Notifier, id: u64)
-        ensures { notifier.new.line ≡ notifier.old.line }
-    {
-        for number in 0..self.each {
-            let handle = id.wrapping_mul(self.each).wrapping_add(number);
-            self.tell(rt, notifier, handle);
+        match notifier.poll_notifier(handle) {
+            Ok(poll) => poll.notify(rt).is_ok(),
+            Err(_) => false,
         }
     }
 
@@ -92,7 +69,12 @@ impl Work for Telling {
         message: &[u8],
     ) -> Out {
         let id = id_of(message);
-        self.tell_all(rt, notifier, id.0);
+        for number in 0..self.each {
+            let handle = id.0.wrapping_mul(self.each).wrapping_add(number);
+            if self.tell(rt, notifier, PollHandle(handle)) {
+                let _ = self.queued.lock(rt).push(handle);
+            }
+        }
         ReplyEmpty::new(rt.alloc(), id).ok().into_out()
     }
 

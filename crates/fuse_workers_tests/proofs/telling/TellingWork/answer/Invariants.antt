@@ -1,5 +1,5 @@
 use Rattle.std.proofs.Common.{◌≡◌}
-use Rattle.fuse_workers_tests.proofs.telling.Telling.tell_all.Given as goal
+use Rattle.fuse_workers_tests.proofs.telling.TellingWork.answer.Given as goal
 
 -- the notifier stays one to its line
 abbrev pub invariant-loop-number : goal.invariant-loop-number
