@@ -60,17 +60,21 @@ fn run(alloc: Global, letters: &[u8], wanted: &[u8]) -> (u64, u64) {
     (wrong, book.unrecorded())
 }
 
-/// Each run goes as it is wanted, or where memory may be wanting, one thing could not be kept.
+/// Whether nothing is wrong, or where memory may be wanting, one thing could not be kept.
+fn is_right(wrong: u64, unrecorded: u64, may_want: bool) -> bool {
+    if may_want {
+        wrong == 0 || unrecorded == 1
+    } else {
+        wrong == 0 && unrecorded == 0
+    }
+}
+
+/// Each run goes as it is wanted.
 fn expect_runs<R: AllocGlobal + Abort>(rt: &R, may_want: bool) {
     for (letters, wanted) in RUNS {
         let (wrong, unrecorded) = run(rt.alloc(), letters.as_bytes(), wanted.as_bytes());
-        let is_counted = may_want && (wrong == 0 || unrecorded == 1);
-        let is_right = is_counted || (wrong == 0 && unrecorded == 0);
-        expect_same(
-            rt,
-            &(*letters, wrong, unrecorded, is_right),
-            &(*letters, wrong, unrecorded, true),
-        );
+        let is_right = is_right(wrong, unrecorded, may_want);
+        expect_same(rt, &(*letters, is_right), &(*letters, true));
     }
 }
 

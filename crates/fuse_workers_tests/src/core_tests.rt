@@ -1,7 +1,7 @@
 // What comes of events, from the state in which nothing has happened yet.
 use crate::asserts::expect_same;
-use fuse_loop::{Ending, RunLine};
-use fuse_reply::{Out, Parcel, ReplyEmpty};
+use fuse_loop::{Doors, Ending, RunLine};
+use fuse_reply::{LateFrame, Out, Parcel, ReplyEmpty};
 use fuse_wire::{Errno, Items, RequestId};
 use fuse_workers::{Event, State, run, step};
 use std::process::Abort;
@@ -30,26 +30,35 @@ fn queue_late<R: Wait>(rt: &R, reply: ReplyEmpty) {
     }
 }
 
-/// What waits on a line once the empty reply to the message of this number under this id was put off.
-fn late_parcel<R: Wait + AllocGlobal + Abort>(rt: &R, seq: u64, id: RequestId) -> Option<Parcel> {
-    let mut line = RunLine::new(rt.alloc()).expect(rt, "there is memory");
+/// What makes doors to a line.
+fn doors_to<R: AllocGlobal + Abort>(rt: &R, line: &mut RunLine<Parcel>) -> Doors {
     let mut ending = Ending::new(rt.alloc()).expect(rt, "there is memory");
     let mark = ending.share().expect(rt, "there is memory");
-    let mut doors = line.doors(mark).expect(rt, "there is memory");
-    let reply = ReplyEmpty::new(rt.alloc(), id);
-    queue_late(rt, reply.with_door(doors.door(seq)));
-    line.next(rt)
+    drop(ending);
+    line.doors(mark).expect(rt, "there is memory")
 }
 
-/// That reply, which comes later.
-fn late<R: Wait + AllocGlobal + Abort>(rt: &R, seq: u64, id: RequestId) -> Event {
-    match late_parcel(rt, seq, id) {
-        Some(Parcel::Late(frame)) => Event::Late(frame),
+/// The frame of a parcel that came late.
+fn late_of(parcel: Option<Parcel>) -> Option<LateFrame> {
+    match parcel {
+        Some(Parcel::Late(frame)) => Some(frame),
         other => {
             drop(other);
-            panic!(rt; "the frame waits")
+            None
         }
     }
+}
+
+/// The frame of the empty reply to the message of this number under this id, which comes later.
+fn late<R: Wait + AllocGlobal + Abort>(rt: &R, seq: u64, id: RequestId) -> Option<LateFrame> {
+    let mut line = RunLine::new(rt.alloc()).expect(rt, "there is memory");
+    let mut doors = doors_to(rt, &mut line);
+    let reply = ReplyEmpty::new(rt.alloc(), id);
+    queue_late(rt, reply.with_door(doors.door(seq)));
+    drop(doors);
+    let parcel = line.next(rt);
+    drop(line);
+    late_of(parcel)
 }
 
 /// The number and id that a letter is of.
@@ -92,7 +101,7 @@ fn event<R: Wait + AllocGlobal + Abort>(rt: &R, letter: u8) -> Event {
         b'r' => Event::Receive(message(rt)),
         b'o' | b'm' => Event::Own(message(rt), out_of(rt, letter)),
         b'b' => Event::Own(Items::from_vec(Vec::new(rt.alloc())), out_of(rt, letter)),
-        b'l' | b'L' | b'M' => late(rt, seq, id),
+        b'l' | b'L' | b'M' => Event::Late(late(rt, seq, id).expect(rt, "the frame waits")),
         _ => step_of(rt, letter),
     }
 }
@@ -183,10 +192,30 @@ fn counts_of(state: &State) -> Counts {
     ]
 }
 
-/// The counts of a state, where there is one.
-fn counts_after(after: &Option<State>) -> Option<Counts> {
+/// What is looked at in a state: the counts, and of the first job its number and whether its message is the one.
+type Seen = (Counts, Option<(u64, bool)>);
+
+/// The number of the first job, and whether its message is the one.
+fn first_job(state: &State) -> Option<(u64, bool)> {
+    match state.jobs.as_slice().first() {
+        Some(job) => Some((job.seq, job.message.as_slice() == MESSAGE)),
+        None => None,
+    }
+}
+
+/// What is looked at after an event. None: it can't happen.
+fn seen_after(after: &Option<State>) -> Option<Seen> {
     match after {
-        Some(state) => Some(counts_of(state)),
+        Some(state) => Some((counts_of(state), first_job(state))),
+        None => None,
+    }
+}
+
+/// The same where there are to be these counts. The first message is the one of the first job, where one waits.
+fn seen_by(counts: &Option<Counts>) -> Option<Seen> {
+    match counts {
+        Some(counts) if counts[1] == 0 => Some((*counts, None)),
+        Some(counts) => Some((*counts, Some((0, true)))),
         None => None,
     }
 }
@@ -196,29 +225,35 @@ fn start<R: AllocGlobal + Abort>(rt: &R) -> State {
     State::new(rt.alloc(), 1).expect(rt, "there is memory")
 }
 
-/// What these events come to from there, which is not there where one of them can't happen.
-fn reached<R: AllocGlobal + Abort>(rt: &R, events: &[Event]) -> Option<State> {
+/// What is seen after a run of the events of these letters from there.
+fn once_run<R: Wait + AllocGlobal + Abort>(rt: &R, letters: &[u8]) -> Option<Seen> {
+    let events = events_of(rt, letters);
     let start = start(rt);
-    let reached = run(rt.alloc(), &start, events).expect(rt, "there is memory");
+    let reached = run(rt.alloc(), &start, &events).expect(rt, "there is memory");
     drop(start);
-    reached
+    drop(events);
+    let seen = seen_after(&reached);
+    drop(reached);
+    seen
 }
 
-/// The counts after the events of these letters.
-fn come_to<R: Wait + AllocGlobal + Abort>(rt: &R, letters: &[u8]) -> Option<Counts> {
-    let events = events_of(rt, letters);
-    let reached = reached(rt, &events);
-    drop(events);
-    let counts = counts_after(&reached);
-    drop(reached);
-    counts
+/// What is seen after a step by the event of this letter from there.
+fn once_stepped<R: Wait + AllocGlobal + Abort>(rt: &R, letter: u8) -> Option<Seen> {
+    let event = event(rt, letter);
+    let start = start(rt);
+    let stepped = step(rt.alloc(), &start, &event).expect(rt, "there is memory");
+    drop(start);
+    drop(event);
+    let seen = seen_after(&stepped);
+    drop(stepped);
+    seen
 }
 
 /// Events come to what these rows say.
 fn expect_rows<R: Wait + AllocGlobal + Abort>(rt: &R, rows: &[Row]) {
     for (letters, wanted) in rows {
-        let found = come_to(rt, letters.as_bytes());
-        expect_same(rt, &(*letters, found), &(*letters, *wanted));
+        let found = once_run(rt, letters.as_bytes());
+        expect_same(rt, &(*letters, found), &(*letters, seen_by(wanted)));
     }
 }
 
@@ -229,67 +264,24 @@ fn events_happen_where_they_may(rt: HostRuntime) {
     expect_rows(&rt, LATE);
 }
 
+#[test]
+fn a_message_received_is_the_one_job(rt: HostRuntime) {
+    let found = (once_stepped(&rt, b'r'), once_stepped(&rt, b't'));
+    let expected = Some(([1, 1, 0, 0, 0, 0, 0], Some((0, true))));
+    expect_same(&rt, &found, &(expected, None));
+}
+
 /// The counts after 64 events of a letter. One more can't happen.
-const FILLED: &[(u8, Counts)] = &[
-    (b'r', [64, 64, 0, 0, 0, 0, 0]),
-    (b'o', [64, 0, 64, 0, 0, 0, 0]),
-    (b'l', [0, 0, 64, 0, 0, 0, 0]),
+const FILLED: &[(u8, Option<Counts>)] = &[
+    (b'r', Some([64, 64, 0, 0, 0, 0, 0])),
+    (b'o', Some([64, 0, 64, 0, 0, 0, 0])),
+    (b'l', Some([0, 0, 64, 0, 0, 0, 0])),
 ];
 
 #[test]
 fn a_line_has_64_places(rt: HostRuntime) {
     for (letter, counts) in FILLED {
-        let filled = come_to(&rt, &[*letter; 64]);
-        let overfilled = come_to(&rt, &[*letter; 65]);
-        expect_same(&rt, &(filled, overfilled), &(Some(*counts), None));
+        let found = (once_run(&rt, &[*letter; 64]), once_run(&rt, &[*letter; 65]));
+        expect_same(&rt, &found, &(seen_by(counts), None));
     }
-}
-
-/// Whether the message is all that there is, and the one job.
-fn is_one_job(state: &State) -> bool {
-    match state.jobs.as_slice().first() {
-        Some(job) => {
-            counts_of(state) == [1, 1, 0, 0, 0, 0, 0]
-                && job.seq == 0
-                && job.message.as_slice() == MESSAGE
-        }
-        None => false,
-    }
-}
-
-/// Whether there is one job after an event. None: it can't happen.
-fn one_job_after(after: &Option<State>) -> Option<bool> {
-    match after {
-        Some(state) => Some(is_one_job(state)),
-        None => None,
-    }
-}
-
-/// Whether the event of this letter makes one job by a step.
-fn once_stepped<R: Wait + AllocGlobal + Abort>(rt: &R, letter: u8) -> Option<bool> {
-    let start = start(rt);
-    let event = event(rt, letter);
-    let stepped = step(rt.alloc(), &start, &event).expect(rt, "there is memory");
-    drop(start);
-    drop(event);
-    let made = one_job_after(&stepped);
-    drop(stepped);
-    made
-}
-
-/// Whether it does by a run.
-fn once_run<R: Wait + AllocGlobal + Abort>(rt: &R, letter: u8) -> Option<bool> {
-    let events = events_of(rt, &[letter]);
-    let reached = reached(rt, &events);
-    drop(events);
-    let made = one_job_after(&reached);
-    drop(reached);
-    made
-}
-
-#[test]
-fn a_message_received_is_the_one_job(rt: HostRuntime) {
-    let received = [once_stepped(&rt, b'r'), once_run(&rt, b'r')];
-    let taken = [once_stepped(&rt, b't'), once_run(&rt, b't')];
-    expect_same(&rt, &(received, taken), &([Some(true); 2], [None; 2]));
 }

@@ -18,10 +18,7 @@ pub(crate) type Counter = Arc<AtomicU64, Global>;
 
 /// A counter that is at 0.
 pub(crate) fn new_counter<R: AllocGlobal + Abort>(rt: &R) -> Counter {
-    let Ok(counter) = Arc::new(rt.alloc(), AtomicU64::new(0)) else {
-        panic!(rt; "there is memory")
-    };
-    counter
+    Arc::new(rt.alloc(), AtomicU64::new(0)).expect(rt, "there is memory")
 }
 
 /// The same counter once more.

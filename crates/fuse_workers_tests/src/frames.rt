@@ -14,7 +14,7 @@ pub(crate) struct Said {
 }
 
 /// The bits of the ids below this one.
-fn bits_below(id: u64) -> u64 {
+pub(crate) fn bits_below(id: u64) -> u64 {
     if id < 64 {
         (1_u64 << id).wrapping_sub(1)
     } else {

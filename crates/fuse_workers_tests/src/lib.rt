@@ -16,11 +16,11 @@ mod deferring;
 #[cfg(test)]
 mod devices;
 #[cfg(test)]
-mod fault_tests;
-#[cfg(test)]
 mod frames;
 #[cfg(test)]
 mod notice_tests;
+#[cfg(test)]
+mod paced_tests;
 #[cfg(test)]
 mod run_tests;
 #[cfg(test)]

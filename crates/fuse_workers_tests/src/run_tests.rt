@@ -1,172 +1,544 @@
-// Runs over memory that lose nothing, on one thread and on several.
+// Runs over memory by a work that answers at once.
+ghost use Rattle.std.specs.Prelude.{◌≡◌, length};
+ghost use Rattle.fuse_wire.specs.MemorySink.{EachFails, NumbersDiffer};
+ghost use Rattle.fuse_wire.specs.declared.consts.TheConstants.{BUFFER_SIZE};
+
 use crate::asserts::expect_same;
-use crate::devices::paced;
-use crate::frames::replied_id;
-use crate::runs::{Became, WORKERS, ended, outcome_of, run_on, run_through, run_turns, taking};
-use crate::turns::Piece;
+use crate::frames::{Said, bits_below, replied_id};
+use crate::runs::{Became, WORKERS, counts, outcome_of, run_on};
+use crate::turns::{Piece, source_of};
 use crate::works::{Answering, Hold};
-use fuse_wire::Items;
+use fuse_wire::{
+    Items, MemorySink, MemorySource, Received, Sending, Source, receive_buffer, u64_at,
+};
 use fuse_workers::{Buffers, RunEnd};
 use std::process::Abort;
 use std::sync::Wait;
 use std::thread::Threads;
 
-/// So many messages on so many workers are answered by one call and one frame each, and then none is left.
-fn expect_all_well<R: Threads + Wait + AllocGlobal + Abort + Sync>(
-    rt: &R,
+/// A run, and what becomes of it.
+#[derive(Clone, Copy)]
+struct Row<'a> {
+    turns: &'a [Piece],
     hold: Hold,
-    workers: Option<usize>,
-    count: u64,
-) {
-    let found = run_through(rt, hold, workers, &[Piece::Requests(0, count)]);
-    let expected = (ended(b'g', count, count), count);
-    expect_same(rt, &(workers, found), &(workers, expected));
-}
-
-/// On how many workers so many messages are answered.
-const SIZES: &[(Option<usize>, u64)] = &[
-    (None, 100),
-    (Some(0), 100),
-    (Some(1), 100),
-    (Some(3), 100),
-    (Some(64), 100),
-    (Some(8), 100_000),
-    (Some(3), 0),
-];
-
-#[test]
-fn each_message_is_answered_by_one_call_and_one_frame(rt: HostRuntime) {
-    for (workers, count) in SIZES {
-        expect_all_well(&rt, Hold::No, *workers, *count);
-    }
-}
-
-#[test]
-fn as_many_answer_at_once_as_workers_are_asked_for(rt: HostRuntime) {
-    for workers in [2, 3, 8] {
-        let count = workers as u64;
-        expect_all_well(&rt, Hold::UntilCalled(count), Some(workers), count);
-    }
-}
-
-/// The turns of a run.
-type Turns = &'static [Piece];
-
-/// How runs of ten messages end: by which letter, after how many messages, and with how many frames.
-const ENDS: &[(Turns, u8, u64, u64)] = &[
-    (&[Piece::Requests(0, 10), Piece::Destroy(10)], b'd', 11, 11),
-    (&[Piece::Requests(0, 10), Piece::Short], b'b', 11, 10),
-    (&[Piece::Requests(0, 10), Piece::Fault], b'f', 10, 10),
-];
-
-/// Turns that give nothing, before each of so many messages.
-const PAUSES: &[(Turns, u64)] = &[
-    (&[Piece::Apart(1, 1)], 1),
-    (&[Piece::Apart(10, 1)], 10),
-    (&[Piece::Apart(3, 100_000)], 3),
-];
-
-/// On whatever threads this becomes of these turns, where the work is called so often.
-fn expect_everywhere<R: Threads + Wait + AllocGlobal + Abort + Sync>(
-    rt: &R,
-    turns: &[Piece],
-    became: Became,
+    /// Which case of sends that fail it has.
+    faults: usize,
+    /// On how many workers it is tried. None is the loop on the caller's thread.
+    workers: &'static [Option<usize>],
+    /// How often it is tried on each.
+    rounds: u64,
+    /// How it ends, as a letter.
+    end: u8,
+    /// How many messages are taken.
+    received: u64,
+    /// Below which number all ids have a reply, but for those that are lost.
+    ids: u64,
+    /// The bits of the ids whose replies are lost.
+    lost: u64,
+    /// How often the work is called.
     calls: u64,
-) {
-    for workers in WORKERS {
-        let found = run_through(rt, Hold::No, *workers, turns);
-        expect_same(rt, &(*workers, found), &(*workers, (became, calls)));
+    /// The id of the last reply, where that is looked at.
+    last: Option<u64>,
+    /// How many messages are left in the source, whose ids are the next ones.
+    left: u64,
+}
+
+/// Runs that lose nothing.
+const ANSWERED: &[Row<'static>] = &[
+    // Each message is answered by one call and one frame.
+    Row {
+        turns: &[Piece::Requests(0, 100)],
+        hold: Hold::No,
+        faults: 0,
+        workers: &[None, Some(0), Some(1), Some(3), Some(64)],
+        rounds: 1,
+        end: b'g',
+        received: 100,
+        ids: 100,
+        lost: 0,
+        calls: 100,
+        last: None,
+        left: 0,
+    },
+    Row {
+        turns: &[Piece::Requests(0, 100_000)],
+        hold: Hold::No,
+        faults: 0,
+        workers: &[Some(8)],
+        rounds: 1,
+        end: b'g',
+        received: 100_000,
+        ids: 100_000,
+        lost: 0,
+        calls: 100_000,
+        last: None,
+        left: 0,
+    },
+    Row {
+        turns: &[Piece::Requests(0, 0)],
+        hold: Hold::No,
+        faults: 0,
+        workers: &[Some(3)],
+        rounds: 1,
+        end: b'g',
+        received: 0,
+        ids: 0,
+        lost: 0,
+        calls: 0,
+        last: None,
+        left: 0,
+    },
+    // As many answer at once as workers are asked for.
+    Row {
+        turns: &[Piece::Requests(0, 2)],
+        hold: Hold::UntilCalled(2),
+        faults: 0,
+        workers: &[Some(2)],
+        rounds: 1,
+        end: b'g',
+        received: 2,
+        ids: 2,
+        lost: 0,
+        calls: 2,
+        last: None,
+        left: 0,
+    },
+    Row {
+        turns: &[Piece::Requests(0, 3)],
+        hold: Hold::UntilCalled(3),
+        faults: 0,
+        workers: &[Some(3)],
+        rounds: 1,
+        end: b'g',
+        received: 3,
+        ids: 3,
+        lost: 0,
+        calls: 3,
+        last: None,
+        left: 0,
+    },
+    Row {
+        turns: &[Piece::Requests(0, 8)],
+        hold: Hold::UntilCalled(8),
+        faults: 0,
+        workers: &[Some(8)],
+        rounds: 1,
+        end: b'g',
+        received: 8,
+        ids: 8,
+        lost: 0,
+        calls: 8,
+        last: None,
+        left: 0,
+    },
+    // A run ends by its last turn.
+    Row {
+        turns: &[Piece::Requests(0, 10), Piece::Destroy(10)],
+        hold: Hold::No,
+        faults: 0,
+        workers: WORKERS,
+        rounds: 1,
+        end: b'd',
+        received: 11,
+        ids: 11,
+        lost: 0,
+        calls: 10,
+        last: None,
+        left: 0,
+    },
+    Row {
+        turns: &[Piece::Requests(0, 10), Piece::Short],
+        hold: Hold::No,
+        faults: 0,
+        workers: WORKERS,
+        rounds: 1,
+        end: b'b',
+        received: 11,
+        ids: 10,
+        lost: 0,
+        calls: 10,
+        last: None,
+        left: 0,
+    },
+    Row {
+        turns: &[Piece::Requests(0, 10), Piece::Fault],
+        hold: Hold::No,
+        faults: 0,
+        workers: WORKERS,
+        rounds: 1,
+        end: b'f',
+        received: 10,
+        ids: 10,
+        lost: 0,
+        calls: 10,
+        last: None,
+        left: 0,
+    },
+    // Turns that give nothing change nothing.
+    Row {
+        turns: &[Piece::Apart(1, 1)],
+        hold: Hold::No,
+        faults: 0,
+        workers: WORKERS,
+        rounds: 1,
+        end: b'g',
+        received: 1,
+        ids: 1,
+        lost: 0,
+        calls: 1,
+        last: None,
+        left: 0,
+    },
+    Row {
+        turns: &[Piece::Apart(10, 1)],
+        hold: Hold::No,
+        faults: 0,
+        workers: WORKERS,
+        rounds: 1,
+        end: b'g',
+        received: 10,
+        ids: 10,
+        lost: 0,
+        calls: 10,
+        last: None,
+        left: 0,
+    },
+    Row {
+        turns: &[Piece::Apart(3, 100_000)],
+        hold: Hold::No,
+        faults: 0,
+        workers: WORKERS,
+        rounds: 1,
+        end: b'g',
+        received: 3,
+        ids: 3,
+        lost: 0,
+        calls: 3,
+        last: None,
+        left: 0,
+    },
+    // The reply to DESTROY is the last.
+    Row {
+        turns: &[Piece::Requests(0, 8), Piece::Destroy(8)],
+        hold: Hold::ById,
+        faults: 0,
+        workers: &[Some(1), Some(4), Some(8)],
+        rounds: 20,
+        end: b'd',
+        received: 9,
+        ids: 9,
+        lost: 0,
+        calls: 8,
+        last: Some(8),
+        left: 0,
+    },
+    Row {
+        turns: &[Piece::Requests(0, 100), Piece::Destroy(100)],
+        hold: Hold::ById,
+        faults: 0,
+        workers: &[Some(4), Some(8)],
+        rounds: 20,
+        end: b'd',
+        received: 101,
+        ids: 101,
+        lost: 0,
+        calls: 100,
+        last: Some(100),
+        left: 0,
+    },
+];
+
+/// Runs of which the sink refuses some sends.
+const LOST: &[Row<'static>] = &[
+    Row {
+        turns: &[Piece::Requests(0, 10), Piece::Destroy(10)],
+        hold: Hold::No,
+        faults: 1,
+        workers: WORKERS,
+        rounds: 1,
+        end: b'd',
+        received: 11,
+        ids: 11,
+        lost: 0b1,
+        calls: 10,
+        last: None,
+        left: 0,
+    },
+    Row {
+        turns: &[Piece::Requests(0, 10), Piece::Destroy(10)],
+        hold: Hold::No,
+        faults: 2,
+        workers: WORKERS,
+        rounds: 1,
+        end: b'd',
+        received: 11,
+        ids: 11,
+        lost: 0b1,
+        calls: 10,
+        last: None,
+        left: 0,
+    },
+    Row {
+        turns: &[Piece::Requests(0, 10), Piece::Destroy(10)],
+        hold: Hold::No,
+        faults: 3,
+        workers: WORKERS,
+        rounds: 1,
+        end: b'd',
+        received: 11,
+        ids: 11,
+        lost: 0b10_0000,
+        calls: 10,
+        last: None,
+        left: 0,
+    },
+    Row {
+        turns: &[Piece::Requests(0, 10), Piece::Destroy(10)],
+        hold: Hold::No,
+        faults: 4,
+        workers: WORKERS,
+        rounds: 1,
+        end: b'd',
+        received: 11,
+        ids: 11,
+        lost: 0b10_0000_0000,
+        calls: 10,
+        last: None,
+        left: 0,
+    },
+    Row {
+        turns: &[Piece::Requests(0, 10), Piece::Destroy(10)],
+        hold: Hold::No,
+        faults: 5,
+        workers: WORKERS,
+        rounds: 1,
+        end: b'd',
+        received: 11,
+        ids: 11,
+        lost: 0b100_0000_0000,
+        calls: 10,
+        last: None,
+        left: 0,
+    },
+    Row {
+        turns: &[Piece::Requests(0, 10), Piece::Destroy(10)],
+        hold: Hold::No,
+        faults: 6,
+        workers: WORKERS,
+        rounds: 1,
+        end: b'd',
+        received: 11,
+        ids: 11,
+        lost: 0b100_0011,
+        calls: 10,
+        last: None,
+        left: 0,
+    },
+    Row {
+        turns: &[Piece::Requests(0, 10), Piece::Destroy(10)],
+        hold: Hold::No,
+        faults: 7,
+        workers: WORKERS,
+        rounds: 1,
+        end: b'd',
+        received: 11,
+        ids: 11,
+        lost: 0b110_0011_0000,
+        calls: 10,
+        last: None,
+        left: 0,
+    },
+    Row {
+        turns: &[Piece::Requests(0, 10), Piece::Destroy(10)],
+        hold: Hold::No,
+        faults: 8,
+        workers: WORKERS,
+        rounds: 1,
+        end: b'd',
+        received: 11,
+        ids: 11,
+        lost: 0,
+        calls: 10,
+        last: None,
+        left: 0,
+    },
+];
+
+/// The sends that fail in a case, of those of ten replies and DESTROY's. The last case has one that never comes.
+fn faults_of(case: usize) -> &'static [(u64, Sending)]
+    ensures differ { NumbersDiffer result.now }
+    ensures fail { EachFails result.now }
+{
+    use Sending::{Absent, Failed};
+    match case {
+        0 => &[],
+        1 => &[(1, Absent)],
+        2 => &[(1, Failed)],
+        3 => &[(6, Failed)],
+        4 => &[(10, Absent)],
+        5 => &[(11, Absent)],
+        6 => &[(1, Failed), (2, Absent), (7, Failed)],
+        7 => &[(5, Absent), (6, Absent), (10, Failed), (11, Failed)],
+        _ => &[(12, Failed)],
     }
 }
 
-#[test]
-fn a_run_ends_by_its_last_turn(rt: HostRuntime) {
-    for (turns, end, received, frames) in ENDS {
-        expect_everywhere(&rt, turns, ended(*end, *received, *frames), 10);
+/// A sink in which the sends of this case fail.
+fn sink_of<R: AllocGlobal + Abort>(rt: &R, case: usize) -> MemorySink {
+    let faults = faults_of(case).to_vec(rt.alloc());
+    MemorySink::new(rt.alloc(), faults.expect(rt, "there is memory"))
+}
+
+/// Whether the next message of a source has this id. It is received into the buffer.
+fn gives(source: &mut MemorySource, buffer: &mut [u8], id: u64) -> bool
+    requires { length buffer.old ≡ BUFFER_SIZE }
+    ensures { length buffer.new ≡ BUFFER_SIZE }
+{
+    match source.receive(buffer) {
+        Received::Message(_) => u64_at(buffer, 8) == id,
+        _ => false,
     }
 }
 
-#[test]
-fn turns_that_give_nothing_change_nothing(rt: HostRuntime) {
-    for (turns, count) in PAUSES {
-        expect_everywhere(&rt, turns, ended(b'g', *count, *count), *count);
-    }
-}
-
-/// Whether these frames are empty replies to the ids from 0 on, in order.
-fn are_in_order(frames: &[Items<u8>]) -> bool {
-    let mut id: u64 = 0;
-    for frame in frames {
-        if replied_id(frame.as_slice()) != Some(id) {
+/// Whether the messages that a source still holds are those of so many ids from this one on.
+fn holds_from(source: &mut MemorySource, buffer: &mut [u8], first: u64, count: u64) -> bool
+    requires { length buffer.old ≡ BUFFER_SIZE }
+    ensures { length buffer.new ≡ BUFFER_SIZE }
+{
+    for id in first..first.saturating_add(count) {
+        if !gives(source, buffer, id) {
             return false;
         }
-        id = id.saturating_add(1);
     }
-    true
+    source.receive(buffer) == Received::Gone
 }
 
-/// What becomes of these turns, where each message comes once the frame of the one before it was sent, how often the work
-/// is called, and whether the frames are in their order.
-fn run_paced<R: Threads + Wait + AllocGlobal + Abort + Sync>(
+/// Whether just the messages are left in the source that a row says.
+fn are_left<R: AllocGlobal + Abort>(rt: &R, row: &Row, source: &mut MemorySource) -> bool {
+    let mut buffer = receive_buffer(rt.alloc()).expect(rt, "there is memory");
+    holds_from(source, &mut buffer, row.ids, row.left)
+}
+
+/// The id that the last frame replies to.
+fn last_replied(frames: &[Items<u8>]) -> Option<u64> {
+    match frames.last() {
+        Some(frame) => replied_id(frame.as_slice()),
+        None => None,
+    }
+}
+
+/// What became of a run, how often its work was called, the id of the last reply, and whether just the messages are left
+/// in the source that are to be.
+type Found = (Became, u64, Option<u64>, bool);
+
+/// Runs the turns of a row on so many workers, or on the thread of their caller.
+fn run_row<R: Threads + Wait + AllocGlobal + Abort + Sync>(
     rt: &R,
+    row: &Row,
     workers: Option<usize>,
-    turns: &[Piece],
-) -> (Became, u64, bool) {
-    let (source, sink) = paced(rt, turns);
+) -> Found {
     let buffers = Buffers::new(rt.alloc()).expect(rt, "there is memory");
-    let work = Answering::new(Hold::No);
+    let work = Answering::new(row.hold);
+    let (source, sink) = (source_of(rt, row.turns), sink_of(rt, row.faults));
     let RunEnd {
         end,
         transcript,
-        source,
+        mut source,
         sink,
         buffers,
     } = run_on(rt, &work, workers, source, sink, buffers);
     drop(buffers);
+    let became = outcome_of(rt, &end, transcript, sink.frames());
+    let last = last_replied(sink.frames());
+    drop(sink);
+    let are_left = are_left(rt, row, &mut source);
     drop(source);
-    let frames = sink.inner.frames();
-    let became = outcome_of(rt, &end, transcript, frames);
-    (became, work.calls(), are_in_order(frames))
+    (became, work.calls(), last, are_left)
 }
 
-#[test]
-fn a_message_is_answered_before_the_next_one_comes(rt: HostRuntime) {
-    for workers in WORKERS {
-        let found = run_paced(&rt, *workers, &[Piece::Requests(0, 1000)]);
-        let expected = (ended(b'g', 1000, 1000), 1000, true);
-        expect_same(&rt, &(*workers, found), &(*workers, expected));
+/// What a row says.
+fn expected_of(row: &Row) -> Found {
+    let lost = u64::from(row.lost.count_ones());
+    let replied = row.ids.saturating_sub(lost);
+    let became = Became {
+        end: row.end,
+        transcript: counts(row.received, replied, lost),
+        said: Said {
+            replied,
+            first: bits_below(row.ids) & !row.lost,
+            other: 0,
+        },
+    };
+    (became, row.calls, row.last, true)
+}
+
+/// What is looked at. On four workers, which answer in any order, it is not known which of the first ten replies are lost:
+/// their bits are counted. The last reply is looked at where a row names it.
+fn looked_at(row: &Row, workers: Option<usize>, found: Found) -> Found {
+    let (mut became, calls, last, are_left) = found;
+    if row.lost != 0 && workers == Some(4) {
+        let (ten, others) = (became.said.first & 0x3ff, became.said.first & !0x3ff);
+        became.said.first = others | u64::from(ten.count_ones());
+    }
+    let last = if row.last.is_some() { last } else { None };
+    (became, calls, last, are_left)
+}
+
+/// On so many workers this becomes of the run of a row, each time.
+fn expect_on<R: Threads + Wait + AllocGlobal + Abort + Sync>(
+    rt: &R,
+    row: &Row,
+    workers: Option<usize>,
+) {
+    let expected = looked_at(row, workers, expected_of(row));
+    for _round in 0..row.rounds {
+        let found = looked_at(row, workers, run_row(rt, row, workers));
+        expect_same(rt, &(workers, found), &(workers, expected));
     }
 }
 
-/// What becomes of so many messages and DESTROY, where each answer is held for a while, how often the work is called, and
-/// the id of the last reply.
-fn run_held<R: Threads + Wait + AllocGlobal + Abort + Sync>(
-    rt: &R,
-    workers: usize,
-    count: u64,
-) -> (Became, u64, Option<u64>) {
-    let turns = [Piece::Requests(0, count), Piece::Destroy(count)];
-    let ran = run_turns(rt, Hold::ById, Some(workers), &turns, taking(rt.alloc()));
-    let last = match ran.sink.frames().last() {
-        Some(frame) => replied_id(frame.as_slice()),
-        None => None,
-    };
-    let found = (ran.became, ran.calls, last);
-    drop(ran);
-    found
+/// The same on all numbers of workers that the row has.
+fn expect_row<R: Threads + Wait + AllocGlobal + Abort + Sync>(rt: &R, row: &Row) {
+    for workers in row.workers {
+        expect_on(rt, row, *workers);
+    }
 }
 
-/// On how many workers so many answers are held.
-const HELD: &[(usize, u64)] = &[(1, 8), (4, 8), (8, 8), (4, 100), (8, 100)];
+#[test]
+fn each_message_is_answered_and_the_last_turn_ends_the_run(rt: HostRuntime) {
+    for row in ANSWERED {
+        expect_row(&rt, row);
+    }
+}
 
 #[test]
-fn the_reply_to_destroy_is_the_last(rt: HostRuntime) {
-    for (workers, count) in HELD {
-        let all = count.saturating_add(1);
-        let expected = (ended(b'd', all, all), *count, Some(*count));
-        for _round in 0..20 {
-            let found = run_held(&rt, *workers, *count);
-            expect_same(&rt, &(*workers, found), &(*workers, expected));
-        }
+fn a_reply_that_the_sink_refuses_is_lost_and_no_other(rt: HostRuntime) {
+    for row in LOST {
+        expect_row(&rt, row);
+    }
+}
+
+#[test]
+fn what_comes_after_a_fault_of_the_source_is_not_taken(rt: HostRuntime) {
+    for place in 0..=10 {
+        let row = Row {
+            turns: &[
+                Piece::Requests(0, place),
+                Piece::Fault,
+                Piece::Requests(place, 10),
+            ],
+            hold: Hold::No,
+            faults: 0,
+            workers: WORKERS,
+            rounds: 1,
+            end: b'f',
+            received: place,
+            ids: place,
+            lost: 0,
+            calls: place,
+            last: None,
+            left: 10 - place,
+        };
+        expect_row(&rt, &row);
     }
 }

@@ -3,9 +3,7 @@ ghost use Rattle.std.specs.Prelude.{◌≡◌, false};
 ghost use Rattle.fuse_loop.specs.Lines.{IsUnused};
 
 use crate::frames::{Said, read_frames};
-use crate::turns::{Piece, source_of};
-use crate::works::{Answering, Hold};
-use fuse_wire::{Items, MemorySink, MemorySource, Sink, Source};
+use fuse_wire::{Items, MemorySink, Sink, Source};
 use fuse_workers::{Buffers, End, RunEnd, Transcript, Work, run_inline, run_workers};
 use std::alloc::{AllocGlobal, Global};
 use std::process::Abort;
@@ -92,52 +90,4 @@ pub(crate) fn run_on<
 /// A sink that takes everything.
 pub(crate) fn taking(alloc: Global) -> MemorySink {
     MemorySink::new(alloc, Vec::new(alloc))
-}
-
-/// What became of a run over memory, and how often its work was called. The devices come back.
-#[derive(Drop)]
-pub(crate) struct Ran {
-    pub(crate) became: Became,
-    pub(crate) calls: u64,
-    pub(crate) source: MemorySource,
-    pub(crate) sink: MemorySink,
-}
-
-/// Runs these turns on so many workers, or on the thread of their caller, where answers are held so.
-pub(crate) fn run_turns<R: Threads + Wait + AllocGlobal + Abort + Sync>(
-    rt: &R,
-    hold: Hold,
-    workers: Option<usize>,
-    turns: &[Piece],
-    sink: MemorySink,
-) -> Ran {
-    let buffers = Buffers::new(rt.alloc()).expect(rt, "there is memory");
-    let work = Answering::new(hold);
-    let RunEnd {
-        end,
-        transcript,
-        source,
-        sink,
-        buffers,
-    } = run_on(rt, &work, workers, source_of(rt, turns), sink, buffers);
-    drop(buffers);
-    Ran {
-        became: outcome_of(rt, &end, transcript, sink.frames()),
-        calls: work.calls(),
-        source,
-        sink,
-    }
-}
-
-/// The same over a sink that takes everything, where no device comes back.
-pub(crate) fn run_through<R: Threads + Wait + AllocGlobal + Abort + Sync>(
-    rt: &R,
-    hold: Hold,
-    workers: Option<usize>,
-    turns: &[Piece],
-) -> (Became, u64) {
-    let ran = run_turns(rt, hold, workers, turns, taking(rt.alloc()));
-    let found = (ran.became, ran.calls);
-    drop(ran);
-    found
 }

@@ -18,11 +18,11 @@ pub(crate) enum Piece {
     Fault,
 }
 
-/// A message with no arguments.
+/// A message with no arguments. Its opcode is below 256.
 fn message<R: AllocGlobal + Abort>(rt: &R, opcode: u32, id: u64) -> Turn {
     let mut bytes = vec![in rt.alloc(); 0; 40].expect(rt, "there is memory");
     bytes[0] = 40;
-    bytes[4..8].copy_from_slice(&opcode.to_le_bytes());
+    bytes[4] = opcode.to_le_bytes()[0];
     bytes[8..16].copy_from_slice(&id.to_le_bytes());
     Turn::Message(Items::from_vec(bytes))
 }
