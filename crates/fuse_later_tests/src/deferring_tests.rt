@@ -2,8 +2,8 @@
 use crate::asserts::expect_same;
 use crate::deferring::{Deferring, HELD, LAST, SOON, Shelf, Tally, close, shared_shelf};
 use crate::messages::{Frame, Message, are_after_init, differ_after_init, source_after_init};
-use crate::serving::{Rest, counts, rest_of};
-use fuse_config::{Config, SessionACL};
+use crate::serving::{Rest, counts, everybody, rest_of};
+use fuse_config::Config;
 use fuse_probing::Probing;
 use fuse_probing::test_messages::{ENOENT, ENOSYS};
 use fuse_session::{Ended, Filesystem, Session, SessionError, Transcript, mount};
@@ -194,14 +194,6 @@ fn serve_by<R: Threads + Wait + AllocGlobal + Sync, FS: Filesystem>(
 /// How a session ended, what it did, and the sink.
 type Ran = (Result<(), SessionError>, Transcript, MemorySink);
 
-/// A configuration by which so many threads serve everybody.
-fn served_by(alloc: Global, n_threads: usize) -> Config {
-    let mut config = Config::new(alloc);
-    config.acl = SessionACL::All;
-    config.n_threads = Some(n_threads);
-    config
-}
-
 /// Serves a filesystem that has a share of the shelf.
 fn serve_from<R: Threads + Wait + AllocGlobal + Abort + Send + Sync + Copy>(
     rt: &R,
@@ -212,7 +204,7 @@ fn serve_from<R: Threads + Wait + AllocGlobal + Abort + Send + Sync + Copy>(
     let probe = Deferring { rt: *rt, shelf };
     let source = source_after_init(rt, setup.messages);
     let sink = MemorySink::new(rt.alloc(), Vec::new(rt.alloc()));
-    let config = served_by(rt.alloc(), setup.n_threads);
+    let config = everybody(rt.alloc(), Some(setup.n_threads));
     let Rest {
         filesystem: Probing { probe },
         sink,

@@ -16,8 +16,8 @@ mod messages;
 #[cfg(test)]
 mod notice_tests;
 #[cfg(test)]
-mod polling;
-#[cfg(test)]
 mod serving;
+#[cfg(test)]
+mod telling;
 #[cfg(test)]
 mod worker_tests;

@@ -1,8 +1,8 @@
 // Notices, which are sent after the frame of the message that was answered last.
 use crate::asserts::expect_same;
 use crate::messages::{Frame, Message, differ_after_init, source_after_init};
-use crate::polling::Polling;
-use crate::serving::{Rest, counts, serve};
+use crate::serving::{counts, serve};
+use crate::telling::Telling;
 use fuse_probing::Probing;
 use fuse_probing::test_messages::ENOENT;
 use fuse_session::{SessionError, Transcript};
@@ -77,7 +77,7 @@ fn run_polls<R: Threads + Wait + AllocGlobal + Abort + Send + Sync + Copy>(
     frames: &[Frame],
     sink: MemorySink,
 ) -> Found {
-    let probe = Polling::new(*rt, rt.alloc());
+    let probe = Telling::new(*rt, rt.alloc(), None);
     let source = source_after_init(rt, messages);
     let rest = serve(rt, Probing { probe }, source, sink, None);
     let found = (

@@ -2,6 +2,7 @@
 use fuse_config::{Config, SessionACL};
 use fuse_session::{Ended, Filesystem, SessionError, Transcript, mount};
 use fuse_wire::{MemorySink, MemorySource};
+use std::alloc::Global;
 use std::sync::Wait;
 use std::thread::Threads;
 
@@ -32,6 +33,14 @@ pub(crate) fn rest_of<FS>(over: Ended<FS, MemorySource, MemorySink>) -> Rest<FS>
     }
 }
 
+/// A configuration by which so many threads serve everybody.
+pub(crate) fn everybody(alloc: Global, n_threads: Option<usize>) -> Config {
+    let mut config = Config::new(alloc);
+    config.acl = SessionACL::All;
+    config.n_threads = n_threads;
+    config
+}
+
 /// Serves everybody on so many threads, in a session of root with pages of 4096 bytes.
 pub(crate) fn serve<R: Threads + Wait + AllocGlobal + Sync, FS: Filesystem>(
     rt: &R,
@@ -40,9 +49,7 @@ pub(crate) fn serve<R: Threads + Wait + AllocGlobal + Sync, FS: Filesystem>(
     sink: MemorySink,
     n_threads: Option<usize>,
 ) -> Rest<FS> {
-    let mut config = Config::new(rt.alloc());
-    config.acl = SessionACL::All;
-    config.n_threads = n_threads;
+    let config = everybody(rt.alloc(), n_threads);
     rest_of(mount(rt, filesystem, source, sink, 0, 4096, &config))
 }
 

@@ -1,37 +1,79 @@
-// A filesystem for tests, whose polls are told of news.
+// A filesystem for tests, which tells of news, and may hold a lookup.
 ghost use Rattle.std.specs.Prelude.{false};
 
 use bitflags::Flags;
-use fuse_notify::PollNotifier;
+use fuse_notify::{Notifier, NotifyError, PollNotifier};
 use fuse_probing::{Argument, Probe};
-use fuse_reply::{Replied, ReplyAttr, ReplyPoll};
+use fuse_reply::{Replied, ReplyAttr, ReplyEntry, ReplyPoll};
 use fuse_request::Request;
-use fuse_wire::{Errno, FileHandle, INodeNo, PollEvents, PollFlags};
+use fuse_wire::{Errno, FileHandle, INodeNo, PollEvents, PollFlags, PollHandle};
 use std::alloc::Global;
-use std::sync::{Mutex, Wait};
+use std::sync::atomic::{AtomicBool, AtomicU64, Ordering};
+use std::sync::{Arc, Mutex, Wait};
+use std::thread;
+
+/// How often an answer is held at most.
+const MOST_TURNS: u64 = 1_000_000;
+
+/// How many notices a lookup sends, which is one more than the line of a session holds.
+const SENT: u64 = 65;
+
+/// Where a filesystem finds the notifier of its session, once there is one.
+pub(crate) type Slot = Arc<Mutex<Option<Notifier>>, Global>;
 
 /// A filesystem that is ready for reading, always. It tells of a poll at once, or where the kernel asks to be told, by the
-/// next GETATTR.
+/// next GETATTR. It answers a lookup of `a` only once one of `b` was called, by ENOENT, or where that does not come in time,
+/// by EIO. In any other lookup it sends notices, where it finds a notifier, and counts those that are queued, and those for
+/// which there is no place.
 #[derive(Drop)]
-pub(crate) struct Polling<R> {
+pub(crate) struct Telling<R> {
     rt: R,
     waiting: Mutex<Vec<PollNotifier>>,
+    is_b_called: AtomicBool,
+    slot: Option<Slot>,
+    queued: AtomicU64,
+    full: AtomicU64,
 }
 
-impl<R: Wait> Polling<R> {
-    /// No poll waits.
-    pub(crate) fn new(rt: R, alloc: Global) -> Polling<R> {
-        Polling {
+impl<R: Wait> Telling<R> {
+    /// No poll waits. It finds the notifier of its session in the slot, where there is one.
+    pub(crate) fn new(rt: R, alloc: Global, slot: Option<Slot>) -> Telling<R> {
+        Telling {
             rt,
             waiting: Mutex::new(Vec::new(alloc)),
+            is_b_called: AtomicBool::new(false),
+            slot,
+            queued: AtomicU64::new(0),
+            full: AtomicU64::new(0),
         }
     }
 
+    /// How many polls wait.
+    pub(crate) fn waiting(&self) -> usize {
+        self.waiting.lock(&self.rt).len()
+    }
+
+    /// How many notices of lookups were queued, and for how many there was no place.
+    pub(crate) fn sent(&self) -> (u64, u64) {
+        let queued = self.queued.load(Ordering::SeqCst);
+        (queued, self.full.load(Ordering::SeqCst))
+    }
+
+    /// What a lookup of `a` is answered by, once `b` was called, or it has taken too long.
+    fn await_b(&self) -> Errno {
+        for _turn in 0..MOST_TURNS {
+            if self.is_b_called.load(Ordering::SeqCst) {
+                return Errno::ENOENT;
+            }
+            thread::yield_now();
+        }
+        Errno::EIO
+    }
+}
+
+impl<R: Wait + AllocGlobal> Telling<R> {
     /// Tells of each poll that waits, the newest first, until there is no place for one.
-    fn tell(&self)
-    where
-        R: AllocGlobal,
-    {
+    fn tell(&self) {
         let mut waiting = self.waiting.lock(&self.rt);
         for _ in 0..waiting.len() {
             let Some(poll) = waiting.pop() else {
@@ -44,13 +86,45 @@ impl<R: Wait> Polling<R> {
         }
     }
 
-    /// How many polls wait.
-    pub(crate) fn waiting(&self) -> usize {
-        self.waiting.lock(&self.rt).len()
+    /// Sends a notice, and counts what became of it.
+    fn send(&self, notifier: &mut Notifier, handle: u64) {
+        match notifier.poll(&self.rt, PollHandle(handle)) {
+            Ok(()) => {
+                self.queued.fetch_add(1, Ordering::SeqCst);
+            }
+            Err(NotifyError::Full) => {
+                self.full.fetch_add(1, Ordering::SeqCst);
+            }
+            Err(_) => {}
+        }
+    }
+
+    /// Sends the notices of a lookup.
+    fn flood(&self, slot: &Slot) {
+        if let Some(notifier) = &mut *slot.lock(&self.rt) {
+            for handle in 0..SENT {
+                self.send(notifier, handle);
+            }
+        }
+    }
+
+    /// What a lookup of this name is answered by.
+    fn answer_to(&self, name: &[u8]) -> Errno {
+        if name == b"a".as_slice() {
+            return self.await_b();
+        }
+        if name == b"b".as_slice() {
+            self.is_b_called.store(true, Ordering::SeqCst);
+            return Errno::ENOENT;
+        }
+        if let Some(slot) = &self.slot {
+            self.flood(slot);
+        }
+        Errno::ENOSYS
     }
 }
 
-impl<R: Wait + AllocGlobal> Probe for Polling<R> {
+impl<R: Wait + AllocGlobal> Probe for Telling<R> {
     ghost own = { λ call answer. Unit {0} };
 
     const DEFERS: bool = false;
@@ -66,6 +140,16 @@ impl<R: Wait + AllocGlobal> Probe for Polling<R> {
         _arguments: &[Argument],
         _texts: &[&[u8]],
     ) {}
+
+    fn lookup(
+        &self,
+        _request: &Request,
+        _parent: INodeNo,
+        name: &[u8],
+        reply: ReplyEntry,
+    ) -> Replied {
+        reply.error(self.answer_to(name))
+    }
 
     fn getattr(
         &self,
