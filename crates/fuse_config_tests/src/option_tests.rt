@@ -1,5 +1,5 @@
 // Each option, its text there and back, and each pair of options.
-use crate::asserts::{expect, expect_same};
+use crate::asserts::expect_same;
 use fuse_config::{
     Config, Conflict, InvalidOption, MountOption, MountOptionGroup, OptionText, SessionACL,
     check_option_conflicts, conflicts_with, option_group, option_to_flag, option_to_string,
@@ -7,7 +7,6 @@ use fuse_config::{
 use fuse_wire::{Items, NoMemory};
 use std::alloc::Global;
 use std::process::Abort;
-use std::test::Fail;
 
 const KERNEL: MountOptionGroup = MountOptionGroup::KernelOption;
 
@@ -25,7 +24,7 @@ type Row = (
     &'static str,
 );
 
-const ROWS: [Row; 18] = [
+const ROWS: &[Row] = &[
     ("fsname=Blah", FUSERMOUNT, NONE, ""),
     ("subtype=Bloo", FUSERMOUNT, NONE, ""),
     ("bongos", KERNEL, NONE, ""),
@@ -70,36 +69,65 @@ fn option_at(alloc: Global, place: usize) -> Result<MountOption, NoMemory> {
     })
 }
 
-#[test]
-fn each_option_has_its_text_group_and_flag(rt: HostRuntime) -> Result<(), Fail> {
-    let alloc = rt.alloc();
-    for (place, (text, group, flag, _)) in ROWS.iter().enumerate() {
-        let option = option_at(alloc, place)?;
-        expect_same(&rt, &option_to_string(alloc, &option)?.as_str(), text);
-        expect_same(&rt, &MountOption::from_str(alloc, text)?, &option);
-        expect_same(
-            &rt,
-            &(option_group(&option), option_to_flag(&option)),
-            &(*group, *flag),
-        );
-    }
-    Ok(())
+/// The option has this text.
+fn expect_text(rt: &impl Abort, alloc: Global, option: &MountOption, text: &str) {
+    let found = option_to_string(alloc, option).expect(rt, "there is memory");
+    expect_same(rt, &found.as_str(), &text);
 }
 
-/// What these options are refused for.
-fn conflict_of(options: Vec<MountOption>, alloc: Global) -> Result<(), Conflict> {
+/// The option of this place is that of the row.
+fn expect_row(rt: &impl Abort, alloc: Global, place: usize, row: &Row) {
+    let (text, group, flag, _) = row;
+    let option = option_at(alloc, place).expect(rt, "there is memory");
+    expect_text(rt, alloc, &option, text);
+    let read = MountOption::from_str(alloc, text).expect(rt, "there is memory");
+    expect_same(rt, &read, &option);
+    let found = (option_group(&option), option_to_flag(&option));
+    expect_same(rt, &found, &(*group, *flag));
+}
+
+#[test]
+fn each_option_has_its_text_group_and_flag(rt: HostRuntime) {
+    for place in 0..ROWS.len() {
+        expect_row(&rt, rt.alloc(), place, &ROWS[place]);
+    }
+}
+
+/// The options of these rows.
+fn options_at(alloc: Global, places: &[usize]) -> Result<Vec<MountOption>, NoMemory> {
+    let mut options = Vec::new(alloc);
+    for place in places {
+        let Ok(()) = options.push(option_at(alloc, *place)?) else {
+            return Err(NoMemory);
+        };
+    }
+    Ok(options)
+}
+
+/// What the options of these rows are refused for.
+fn conflict_of(rt: &impl Abort, alloc: Global, places: &[usize]) -> Result<(), Conflict> {
+    let options = options_at(alloc, places).expect(rt, "there is memory");
     let mut config = Config::new(alloc);
     config.mount_options = Items::from_vec(options);
     check_option_conflicts(&config)
 }
 
+/// Whether the option of the second row is the one that conflicts with that of the first.
+fn are_contrary(alloc: Global, first: usize, second: usize) -> Result<bool, NoMemory> {
+    let option = option_at(alloc, first)?;
+    let other = option_at(alloc, second)?;
+    Ok(conflicts_with(&option) == Some(other))
+}
+
+/// Whether the first row names the second's text.
+fn names(first: &Row, second: &Row) -> bool {
+    first.3 == second.0
+}
+
 /// A pair of options conflicts where one row names the other's text, and so do both orders of it.
-fn tries_pair<R: Abort>(rt: &R, alloc: Global, first: usize, second: usize) -> Result<(), Fail> {
-    let (option, other) = (option_at(alloc, first)?, option_at(alloc, second)?);
-    let conflicting = match (ROWS.get(first), ROWS.get(second)) {
-        (Some((_, _, _, contrary)), Some((text, _, _, _))) => contrary == text,
-        _ => false,
-    };
+fn tries_pair(rt: &impl Abort, alloc: Global, places: [usize; 2], conflicting: bool) {
+    let [first, second] = places;
+    let contrary = are_contrary(alloc, first, second).expect(rt, "there is memory");
     let expected = if conflicting {
         Err(Conflict {
             first: 0,
@@ -108,61 +136,77 @@ fn tries_pair<R: Abort>(rt: &R, alloc: Global, first: usize, second: usize) -> R
     } else {
         Ok(())
     };
+    let found = conflict_of(rt, alloc, &places);
     expect_same(
         rt,
-        &(conflicts_with(&option) == Some(option_at(alloc, second)?)),
-        &conflicting,
+        &(places, contrary, found),
+        &(places, conflicting, expected),
     );
-    expect_same(
-        rt,
-        &conflict_of(vec![in alloc; option, other]?, alloc),
-        &expected,
-    );
-    Ok(())
+}
+
+/// The first option, with each of the rows.
+fn tries_pairs(rt: &(impl Abort + AllocGlobal), first: usize, row: &Row) {
+    for second in 0..ROWS.len() {
+        let conflicting = names(row, &ROWS[second]);
+        tries_pair(rt, rt.alloc(), [first, second], conflicting);
+    }
 }
 
 #[test]
-fn six_pairs_of_options_conflict(rt: HostRuntime) -> Result<(), Fail> {
-    let alloc = rt.alloc();
-    for first in 0..18 {
-        for second in 0..18 {
-            tries_pair(&rt, alloc, first, second)?;
-        }
+fn six_pairs_of_options_conflict(rt: HostRuntime) {
+    for first in 0..ROWS.len() {
+        tries_pairs(&rt, first, &ROWS[first]);
     }
-    Ok(())
 }
 
-/// The options of these rows.
-fn options_at(alloc: Global, places: &[usize]) -> Result<Vec<MountOption>, Fail> {
-    let mut options = Vec::new(alloc);
-    for place in places {
-        options.push(option_at(alloc, *place)?)?;
-    }
-    Ok(options)
-}
+/// The places of options, and why they are refused.
+const CONFLICTS: &[(&[usize], Result<(), Conflict>)] = &[
+    (&[], Ok(())),
+    (
+        &[9, 5, 6, 10],
+        Err(Conflict {
+            first: 0,
+            second: 3,
+        }),
+    ),
+    (&[7, 12], Ok(())),
+    (
+        &[7, 8],
+        Err(Conflict {
+            first: 0,
+            second: 1,
+        }),
+    ),
+    (
+        &[5, 5, 6, 6],
+        Err(Conflict {
+            first: 0,
+            second: 2,
+        }),
+    ),
+    (
+        &[16, 9, 10, 10],
+        Err(Conflict {
+            first: 1,
+            second: 2,
+        }),
+    ),
+    (
+        &[15, 0, 8, 3, 17, 7, 16],
+        Err(Conflict {
+            first: 2,
+            second: 5,
+        }),
+    ),
+    (&[5, 7, 10, 11, 13, 17, 5], Ok(())),
+];
 
 #[test]
-fn names_the_least_places_of_a_conflict(rt: HostRuntime) -> Result<(), Fail> {
-    let alloc = rt.alloc();
-    let at = |first: usize, second: usize| Err(Conflict { first, second });
-    let rows: [(&[usize], Result<(), Conflict>); 8] = [
-        (&[], Ok(())),
-        (&[9, 5, 6, 10], at(0, 3)),
-        (&[7, 12], Ok(())),
-        (&[7, 8], at(0, 1)),
-        (&[5, 5, 6, 6], at(0, 2)),
-        (&[16, 9, 10, 10], at(1, 2)),
-        (&[15, 0, 8, 3, 17, 7, 16], at(2, 5)),
-        (&[5, 7, 10, 11, 13, 17, 5], Ok(())),
-    ];
-    for (places, expected) in rows {
-        expect_same(
-            &rt,
-            &conflict_of(options_at(alloc, places)?, alloc),
-            &expected,
-        );
+fn names_the_least_places_of_a_conflict(rt: HostRuntime) {
+    for (places, expected) in CONFLICTS {
+        let found = conflict_of(&rt, rt.alloc(), places);
+        expect_same(&rt, &(*places, found), &(*places, *expected));
     }
-    Ok(())
 }
 
 /// Which of the three options with a text this is, and its text.
@@ -175,60 +219,69 @@ fn told(option: &MountOption) -> (char, &str) {
     }
 }
 
-#[test]
-fn reads_texts_that_nobody_wrote(rt: HostRuntime) -> Result<(), Fail> {
-    let alloc = rt.alloc();
-    let rows = [
-        ("", 'c', ""),
-        ("=", 'c', "="),
-        ("fsname", 'c', "fsname"),
-        ("fsname=", 'f', ""),
-        ("fsname=a=b", 'f', "a=b"),
-        ("fsname=ä€", 'f', "ä€"),
-        ("fsname=subtype=x", 'f', "subtype=x"),
-        ("subtype=", 's', ""),
-        ("subtype=ro", 's', "ro"),
-        ("Fsname=x", 'c', "Fsname=x"),
-        ("ro ", 'c', "ro "),
-        ("RO", 'c', "RO"),
-        ("nodev,ro", 'c', "nodev,ro"),
-        ("日本", 'c', "日本"),
-        ("dev\0", 'c', "dev\0"),
-        ("ro", '-', ""),
-    ];
-    for (text, kind, rest) in rows {
-        let option = MountOption::from_str(alloc, text)?;
-        expect_same(&rt, &told(&option), &(kind, rest));
-        expect_same(&rt, &option_to_string(alloc, &option)?.as_str(), &text);
-    }
-    Ok(())
+/// Texts, the options that are read from them, and the texts of these.
+const TEXTS: &[(&str, char, &str)] = &[
+    ("", 'c', ""),
+    ("=", 'c', "="),
+    ("fsname", 'c', "fsname"),
+    ("fsname=", 'f', ""),
+    ("fsname=a=b", 'f', "a=b"),
+    ("fsname=ä€", 'f', "ä€"),
+    ("fsname=subtype=x", 'f', "subtype=x"),
+    ("subtype=", 's', ""),
+    ("subtype=ro", 's', "ro"),
+    ("Fsname=x", 'c', "Fsname=x"),
+    ("ro ", 'c', "ro "),
+    ("RO", 'c', "RO"),
+    ("nodev,ro", 'c', "nodev,ro"),
+    ("日本", 'c', "日本"),
+    ("dev\0", 'c', "dev\0"),
+    ("ro", '-', ""),
+];
+
+/// This option is read from the text, and has it.
+fn expect_read(rt: &impl Abort, alloc: Global, text: &str, expected: (char, &str)) {
+    let option = MountOption::from_str(alloc, text).expect(rt, "there is memory");
+    expect_same(rt, &told(&option), &expected);
+    expect_text(rt, alloc, &option, text);
 }
 
 #[test]
-fn a_custom_text_may_name_another_option(rt: HostRuntime) -> Result<(), Fail> {
-    let alloc = rt.alloc();
-    for text in ["ro", "auto_unmount", "fsname=", "subtype=x"] {
-        let custom = MountOption::CUSTOM(OptionText::new(alloc, text)?);
-        let written = option_to_string(alloc, &custom)?;
-        expect_same(&rt, &written.as_str(), &text);
-        expect(
-            &rt,
-            "the text is another option",
-            MountOption::from_str(alloc, written.as_str())? != custom,
-        );
+fn reads_texts_that_nobody_wrote(rt: HostRuntime) {
+    for (text, kind, rest) in TEXTS {
+        expect_read(&rt, rt.alloc(), text, (*kind, rest));
     }
-    Ok(())
+}
+
+/// Texts that name other options.
+const OTHERS: &[&str] = &["ro", "auto_unmount", "fsname=", "subtype=x"];
+
+/// A custom option of this text has it, and the text is another option.
+fn expect_other(rt: &impl Abort, alloc: Global, text: &str) {
+    let custom = OptionText::new(alloc, text).expect(rt, "there is memory");
+    let custom = MountOption::CUSTOM(custom);
+    expect_text(rt, alloc, &custom, text);
+    let other = MountOption::from_str(alloc, text).expect(rt, "there is memory");
+    expect_same(rt, &(text, other == custom), &(text, false));
 }
 
 #[test]
-fn others_than_the_owner_ask_for_an_option(rt: HostRuntime) -> Result<(), Fail> {
-    let rows = [
-        (SessionACL::All, Some("allow_other")),
-        (SessionACL::RootAndOwner, Some("allow_other")),
-        (SessionACL::Owner, None),
-    ];
-    for (acl, option) in rows {
-        expect_same(&rt, &acl.to_mount_option(), &option);
+fn a_custom_text_may_name_another_option(rt: HostRuntime) {
+    for text in OTHERS {
+        expect_other(&rt, rt.alloc(), text);
     }
-    Ok(())
+}
+
+/// Who may use a filesystem, and the option that asks for it.
+const RULES: &[(SessionACL, Option<&str>)] = &[
+    (SessionACL::All, Some("allow_other")),
+    (SessionACL::RootAndOwner, Some("allow_other")),
+    (SessionACL::Owner, None),
+];
+
+#[test]
+fn others_than_the_owner_ask_for_an_option(rt: HostRuntime) {
+    for (acl, option) in RULES {
+        expect_same(&rt, &acl.to_mount_option(), option);
+    }
 }

@@ -1,58 +1,129 @@
 // The INIT reply's bytes, and a fresh configuration.
 use crate::asserts::expect_same;
+use crate::setter_tests::{Step, offered, set_all};
 use bitflags::Flags;
-use fuse_config::{Config, KernelConfig, SessionACL, version_reply};
-use fuse_wire::{InitFlags, Version};
+use fuse_config::{Config, SessionACL, version_reply};
+use fuse_wire::InitFlags;
+use std::process::Abort;
 
-#[test]
-fn writes_the_short_reply(rt: HostRuntime) {
-    let offered = InitFlags::from_bits_retain(0);
-    let config = KernelConfig::new(offered, 4096, Version(7, 8));
-    let (payload, length) = config.init_reply(offered, 8, 4096);
-    let expected = [
-        7, 0, 0, 0, 40, 0, 0, 0, 0, 16, 0, 0, 0, 0, 0, 0, 16, 0, 12, 0, 0, 0, 0, 1,
-    ];
-    expect_same(&rt, &length, &24);
-    expect_same(&rt, &payload.get(..24), &Some(expected.as_slice()));
+/// The minor version of a kernel, what it offers, how far it reads ahead, what is set then, the size of a page, the
+/// length of the reply, and what the reply has from this byte on.
+type Row = (
+    u32,
+    u64,
+    u32,
+    &'static [Step],
+    u32,
+    usize,
+    usize,
+    &'static [u8],
+);
+
+/// What is set before the last reply.
+const SET: &[Step] = &[
+    Step::MaxReadahead(65536, Ok(131072)),
+    Step::MaxBackground(64, Ok(16)),
+    Step::Threshold(20, Ok(48)),
+    Step::MaxWrite(1048576, Ok(16777216)),
+    Step::Granularity(1000, Ok(1)),
+    Step::StackDepth(1, Ok(0)),
+    Step::Capabilities(1 << 37, Ok(())),
+];
+
+/// The short reply, and the long one: fresh, with as many pages as it counts, with a threshold above the background, and
+/// with what was set.
+const REPLIES: &[Row] = &[
+    (
+        8,
+        0,
+        4096,
+        &[],
+        4096,
+        24,
+        0,
+        &[
+            7, 0, 0, 0, 40, 0, 0, 0, 0, 16, 0, 0, 0, 0, 0, 0, 16, 0, 12, 0, 0, 0, 0, 1,
+        ],
+    ),
+    (
+        40,
+        0x20_4040_0021,
+        131072,
+        &[],
+        4096,
+        64,
+        0,
+        &[
+            7, 0, 0, 0, 40, 0, 0, 0, 0, 0, 2, 0, 0x21, 0, 0x40, 0x40, 16, 0, 12, 0, 0, 0, 0, 1, 1,
+            0, 0, 0, 0, 16, 0, 0, 0, 0, 0, 0, 0, 0, 0, 0, 0, 0, 0, 0, 0, 0, 0, 0, 0, 0, 0, 0, 0, 0,
+            0, 0, 0, 0, 0, 0, 0, 0, 0, 0,
+        ],
+    ),
+    (40, 0x20_4040_0021, 131072, &[], 1, 64, 28, &[255, 255]),
+    (
+        40,
+        0,
+        131072,
+        &[Step::Threshold(20, Ok(12))],
+        4096,
+        64,
+        16,
+        &[16, 0, 16, 0],
+    ),
+    (
+        40,
+        0x20_4040_0021,
+        131072,
+        SET,
+        4096,
+        64,
+        0,
+        &[
+            7, 0, 0, 0, 40, 0, 0, 0, 0, 0, 1, 0, 0x21, 0, 0x40, 0x40, 64, 0, 20, 0, 0, 0, 16, 0,
+            0xe8, 3, 0, 0, 0, 1, 0, 0, 0x20, 0, 0, 0, 1, 0, 0, 0, 0, 0, 0, 0, 0, 0, 0, 0, 0, 0, 0,
+            0, 0, 0, 0, 0, 0, 0, 0, 0, 0, 0, 0, 0,
+        ],
+    ),
+];
+
+/// The reply is that of the row.
+fn expect_reply(rt: &impl Abort, row: &Row) {
+    let (minor, capabilities, readahead, steps, page, length, at, bytes) = row;
+    assert!(rt; *minor >= 6 && *page > 0);
+    let mut config = offered(*capabilities, *readahead, *minor);
+    set_all(rt, &mut config, steps);
+    let flags = InitFlags::from_bits_retain(*capabilities);
+    let (payload, found) = config.init_reply(flags, *minor, *page);
+    let part = payload.get(*at..at.saturating_add(bytes.len()));
+    expect_same(rt, &(found, part), &(*length, Some(*bytes)));
 }
 
 #[test]
-fn writes_the_long_reply(rt: HostRuntime) {
-    let offered = InitFlags::from_bits_retain(0x20_4040_0021);
-    let config = KernelConfig::new(offered, 131072, Version(7, 40));
-    let (payload, length) = config.init_reply(offered, 40, 4096);
-    let expected = [
-        7, 0, 0, 0, 40, 0, 0, 0, 0, 0, 2, 0, 0x21, 0, 0x40, 0x40, 16, 0, 12, 0, 0, 0, 0, 1, 1, 0,
-        0, 0, 0, 16, 0, 0,
-    ];
-    expect_same(&rt, &length, &64);
-    expect_same(&rt, &payload.get(..32), &Some(expected.as_slice()));
-    expect_same(&rt, &payload.get(32..), &Some([0; 32].as_slice()));
+fn each_reply_has_the_bytes_of_its_row(rt: HostRuntime) {
+    for row in REPLIES {
+        expect_reply(&rt, row);
+    }
 }
 
-#[test]
-fn counts_at_most_65535_pages(rt: HostRuntime) {
-    let offered = InitFlags::from_bits_retain(0x20_4040_0021);
-    let config = KernelConfig::new(offered, 131072, Version(7, 40));
-    let (payload, _) = config.init_reply(offered, 40, 1);
-    expect_same(&rt, &payload.get(28..30), &Some([255, 255].as_slice()));
-}
+/// The reply to a later version.
+const LATER: &[u8] = &[
+    7, 0, 0, 0, 40, 0, 0, 0, 0, 0, 0, 0, 0, 0, 0, 0, 0, 0, 0, 0, 0, 0, 0, 0, 0, 0, 0, 0, 0, 0, 0,
+    0, 0, 0, 0, 0, 0, 0, 0, 0, 0, 0, 0, 0, 0, 0, 0, 0, 0, 0, 0, 0, 0, 0, 0, 0, 0, 0, 0, 0, 0, 0, 0,
+    0,
+];
 
 #[test]
 fn answers_a_later_version(rt: HostRuntime) {
-    let payload = version_reply();
-    expect_same(&rt, &(&payload[..8]), &[7, 0, 0, 0, 40, 0, 0, 0].as_slice());
-    expect_same(&rt, &(&payload[8..]), &[0; 56].as_slice());
+    expect_same(&rt, &version_reply().as_slice(), &LATER);
 }
 
 #[test]
 fn serves_the_owner_by_one_thread(rt: HostRuntime) {
     let config = Config::new(rt.alloc());
-    expect_same(&rt, &config.acl, &SessionACL::Owner);
-    expect_same(&rt, &config.n_threads, &None);
+    let options = config.mount_options.as_slice().len();
     expect_same(
         &rt,
-        &(config.mount_options.as_slice().len(), config.clone_fd),
-        &(0, false),
+        &(config.acl, config.n_threads, options, config.clone_fd),
+        &(SessionACL::Owner, None, 0, false),
     );
 }
