@@ -1,12 +1,12 @@
 // Replies that come later than their methods.
-ghost use Rattle.std.specs.Prelude.{◌≡◌, ◌<◌, IfSome};
+ghost use Rattle.std.specs.Prelude.{◌≡◌, ◌<◌};
 ghost use Rattle.std.specs.Arc.{arc_value};
 ghost use Rattle.fuse_line.specs.declared.hand.Kind.TheVariants.{First};
 ghost use Rattle.fuse_reply.specs.Late.{IsFrameFor};
 
 use crate::asserts::expect_same;
+use crate::frames::ID;
 use crate::retire_each;
-use crate::tests::ID;
 use fuse_line::{Class, Line, Pass};
 use fuse_reply::{
     Door, EndMark, EndNote, LateRefusal, Later, NoDoor, Out, Parcel, Replied, ReplyDirectory,
@@ -20,22 +20,20 @@ use std::sync::{Arc, Wait};
 /// The number of the message that is answered.
 const SEQ: u64 = 4;
 
-/// A line, its first pass, the mark of its run's end with the Seal, and a door.
+/// A line, its first pass, and the mark of its run's end.
 #[derive(Drop)]
 struct Desk {
     line: Arc<Line<Parcel>, Global>,
     first: Pass<Parcel>,
     mark: EndMark,
-    seal: Seal,
-    door: Door,
 }
 
-/// One whose line has so many places.
-fn desk_of<A: Abort>(rt: &A, alloc: Global, places: usize) -> Desk
+/// One whose line has so many places, the Seal of the mark, and a door.
+fn desk_of(rt: &impl Abort, alloc: Global, places: usize) -> (Desk, Seal, Door)
     requires { 0 < places }
-    ensures line { result.first.line ≡ arc_value result.line }
-    ensures first { result.first.hand.kind ≡ First }
-    ensures mark { (result.seal ≡ result.mark.name) × (result.door.mark.name ≡ result.mark.name) }
+    ensures line { result.0.first.line ≡ arc_value result.0.line }
+    ensures first { result.0.first.hand.kind ≡ First }
+    ensures mark { (result.1 ≡ result.0.mark.name) × (result.2.mark.name ≡ result.0.mark.name) }
 {
     let (line, mut first) = Line::new(alloc, places).expect(rt, "there is memory");
     let pass = line.split(&mut first, true);
@@ -46,22 +44,24 @@ fn desk_of<A: Abort>(rt: &A, alloc: Global, places: usize) -> Desk
     let shared = Arc::try_clone(&line).expect(rt, "there is memory");
     let share = mark.share().expect(rt, "there is memory");
     let door = Door::new(SEQ, shared, pass, share);
-    Desk {
-        line,
-        first,
-        mark,
-        seal,
-        door,
+    (Desk { line, first, mark }, seal, door)
+}
+
+/// The number and id of the mark that stands for a reply.
+fn mark_of(out: &Out) -> Option<(u64, RequestId)> {
+    match out {
+        Out::Deferred(seq, id) => Some((*seq, *id)),
+        _ => None,
     }
 }
 
-/// What goes out at once of a reply, or why it can't be put off. Where it can, its frame is sent.
-fn put_off<R: Wait>(rt: &R, reply: ReplyEmpty) -> Result<Out, NoDoor> {
+/// The mark that goes out at once for a reply, or why it can't be put off. Where it can, its frame is sent.
+fn put_off<R: Wait>(rt: &R, reply: ReplyEmpty) -> Result<Option<(u64, RequestId)>, NoDoor> {
     match reply.defer() {
         Ok((replied, later)) => {
             let (reply, token) = later.reply();
             token.send_or_retire(rt, reply.ok());
-            Ok(replied.into_out())
+            Ok(mark_of(&replied.into_out()))
         }
         Err((reply, none)) => {
             drop(reply.ok().into_out());
@@ -70,110 +70,81 @@ fn put_off<R: Wait>(rt: &R, reply: ReplyEmpty) -> Result<Out, NoDoor> {
     }
 }
 
-/// Sends a frame where the line is full, and again after the run's end, which was marked by this number. This is
-/// whether the line was full, and the number that the note knows.
-fn refuse<R: Wait>(
+/// The same of a listing, which fails later.
+fn fail_later<R: Wait>(rt: &R, reply: ReplyDirectory) -> Result<Option<(u64, RequestId)>, NoDoor> {
+    match reply.defer() {
+        Ok((replied, later)) => {
+            let (reply, token) = later.reply();
+            token.send_or_retire(rt, reply.error(Errno::EINTR));
+            Ok(mark_of(&replied.into_out()))
+        }
+        Err((reply, none)) => {
+            drop(reply.ok().into_out());
+            Err(none)
+        }
+    }
+}
+
+/// Sends a frame where the line is full, and again after the run's end, which was marked by this number. This is the
+/// number that the note knows.
+fn refuse<R: Wait + Abort>(
     rt: &R,
     mark: &mut EndMark,
     seal: Seal,
     taken: u64,
     reply: ReplyEmpty,
-) -> Option<(bool, Option<u64>)>
+) -> Option<u64>
     requires { seal ≡ mark.old.name }
 {
-    match reply.defer() {
-        Ok((replied, later)) => {
-            drop(replied.into_out());
-            let (reply, token) = later.reply();
-            match token.send(rt, reply.ok()) {
-                Ok(()) => Some((false, None)),
-                Err(LateRefusal::Full(token, replied)) => {
-                    mark.set(seal, taken);
-                    let note = token.send_or_retire(rt, replied);
-                    Some((true, note.map(|note| note.taken())))
-                }
-                Err(LateRefusal::Closed(token, replied, note)) => {
-                    token.retire(replied, &note);
-                    Some((false, None))
-                }
-            }
+    let (replied, later) = match reply.defer() {
+        Ok(put) => put,
+        Err(_back) => panic!(rt; "there is a door"),
+    };
+    drop(replied.into_out());
+    let (reply, token) = later.reply();
+    match token.send(rt, reply.ok()) {
+        Err(LateRefusal::Full(token, replied)) => {
+            mark.set(seal, taken);
+            let note = token.send_or_retire(rt, replied)?;
+            Some(note.taken())
         }
-        Err((reply, _)) => {
-            drop(reply.ok().into_out());
-            None
-        }
+        _other => panic!(rt; "the line is full"),
     }
 }
 
 /// What comes back of a reply that is put off, and sent once its run has ended. The end was marked by this number.
-fn refused_at_the_end<R: Wait>(
+fn refused_at_the_end<R: Wait + Abort>(
     rt: &R,
     alloc: Global,
-    desk: Desk,
     taken: u64,
-) -> Option<(Later<()>, Replied, EndNote)>
-    requires { desk.seal ≡ desk.mark.name }
-    ensures replied { IfSome result (λ back. IsFrameFor back.0.id.0 back.1) }
-    ensures ended { IfSome result (λ back. back.2.name ≡ back.0.door.mark.name) }
+) -> (Later<()>, Replied, EndNote)
+    ensures replied { IsFrameFor result.0.id.0 result.1 }
+    ensures ended { result.2.name ≡ result.0.door.mark.name }
 {
-    let Desk {
-        line,
-        first,
-        mut mark,
-        seal,
-        door,
-    } = desk;
-    drop((line, first));
-    mark.set(seal, taken);
-    drop(mark);
-    match ReplyEmpty::new(alloc, ID).with_door(Ok(door)).defer() {
-        Ok((replied, later)) => {
-            drop(replied.into_out());
-            let (reply, token) = later.reply();
-            match token.send(rt, reply.ok()) {
-                Ok(()) => None,
-                Err(LateRefusal::Full(token, replied)) => {
-                    token.send_or_retire(rt, replied);
-                    None
-                }
-                Err(LateRefusal::Closed(token, replied, note)) => Some((token, replied, note)),
-            }
-        }
-        Err((reply, _)) => {
-            drop(reply.ok().into_out());
-            None
-        }
+    let (mut desk, seal, door) = desk_of(rt, alloc, 1);
+    desk.mark.set(seal, taken);
+    drop(desk);
+    let (replied, later) = match ReplyEmpty::new(alloc, ID).with_door(Ok(door)).defer() {
+        Ok(put) => put,
+        Err(_back) => panic!(rt; "there is a door"),
+    };
+    drop(replied.into_out());
+    let (reply, token) = later.reply();
+    match token.send(rt, reply.ok()) {
+        Err(LateRefusal::Closed(token, replied, note)) => (token, replied, note),
+        _other => panic!(rt; "the run has ended"),
     }
-}
-
-/// Why a reply could not be put off.
-fn why_not(put_off: &Result<Out, NoDoor>) -> Option<&NoDoor> {
-    put_off.as_ref().err()
 }
 
 #[test]
 fn a_reply_without_a_door_comes_back(rt: HostRuntime) {
     let alloc = rt.alloc();
-    let shut = put_off(&rt, ReplyEmpty::new(alloc, ID));
-    let starved = put_off(
-        &rt,
-        ReplyEmpty::new(alloc, ID).with_door(Err(NoDoor::Starved)),
-    );
-    expect_same(
-        &rt,
-        &(why_not(&shut), why_not(&starved)),
-        &(Some(&NoDoor::Shut), Some(&NoDoor::Starved)),
-    );
-    drop(shut);
-    drop(starved);
-}
-
-/// The number and id of the mark that stands for a reply.
-fn mark_of(put_off: &Result<Out, NoDoor>) -> Option<(u64, RequestId)> {
-    match put_off {
-        Ok(Out::Deferred(seq, id)) => Some((*seq, *id)),
-        _ => None,
-    }
+    let starved = ReplyEmpty::new(alloc, ID).with_door(Err(NoDoor::Starved));
+    let found = [
+        put_off(&rt, ReplyEmpty::new(alloc, ID)),
+        put_off(&rt, starved),
+    ];
+    expect_same(&rt, &found, &[Err(NoDoor::Shut), Err(NoDoor::Starved)]);
 }
 
 /// The number and id of the late frame that waits, and whether it counts as an inner item.
@@ -190,116 +161,63 @@ fn late_in(waits: &Option<Parcel>) -> Option<(u64, RequestId, bool)> {
     }
 }
 
-#[test]
-fn a_late_frame_is_queued_under_its_number(rt: HostRuntime) {
-    let alloc = rt.alloc();
-    let Desk {
-        line,
-        mut first,
-        mark,
-        seal,
-        door,
-    } = desk_of(&rt, alloc, 2);
-    let out = put_off(&rt, ReplyEmpty::new(alloc, ID).with_door(Ok(door)));
-    let waits = line.pop(&rt, &mut first);
+/// The mark of a reply that is put off through this door: of one without bytes, or of a listing with an entry.
+fn put_off_through<R: Wait + Abort>(
+    rt: &R,
+    alloc: Global,
+    door: Door,
+    lists: bool,
+) -> Result<Option<(u64, RequestId)>, NoDoor> {
+    if !lists {
+        return put_off(rt, ReplyEmpty::new(alloc, ID).with_door(Ok(door)));
+    }
+    let mut reply = ReplyDirectory::new(alloc, ID, 100).with_door(Ok(door));
+    let added = reply.add(INodeNo(5), 1, FileType::RegularFile, b"a");
+    expect_same(rt, &added, &Ok(false));
+    fail_later(rt, reply)
+}
+
+/// The mark of such a reply goes out at once, and its frame is queued, both under the message's number.
+fn expect_queued<R: Wait + Abort>(rt: &R, alloc: Global, lists: bool) {
+    let (mut desk, seal, door) = desk_of(rt, alloc, 2);
+    drop(seal);
+    let mark = put_off_through(rt, alloc, door, lists);
+    let waits = desk.line.pop(rt, &mut desk.first);
     expect_same(
-        &rt,
-        &(mark_of(&out), late_in(&waits)),
-        &(Some((SEQ, ID)), Some((SEQ, ID, false))),
+        rt,
+        &(mark, late_in(&waits)),
+        &(Ok(Some((SEQ, ID))), Some((SEQ, ID, false))),
     );
-    drop(out);
-    drop(waits);
-    drop((line, first));
-    drop((mark, seal));
+}
+
+#[test]
+fn late_frames_are_queued_under_their_numbers(rt: HostRuntime) {
+    expect_queued(&rt, rt.alloc(), false);
+    expect_queued(&rt, rt.alloc(), true);
 }
 
 #[test]
 fn a_full_line_and_the_end_of_a_run_refuse_it(rt: HostRuntime) {
     let alloc = rt.alloc();
-    let Desk {
-        line,
-        mut first,
-        mut mark,
-        seal,
-        door,
-    } = desk_of(&rt, alloc, 1);
-    let pushed = line.push(&rt, &mut first, Parcel::Prompt(0, Out::note(ID, 0)));
-    let is_full = pushed.is_ok();
+    let (mut desk, seal, door) = desk_of(&rt, alloc, 1);
+    let parcel = Parcel::Prompt(0, Out::note(ID, 0));
+    let is_pushed = desk.line.push(&rt, &mut desk.first, parcel).is_ok();
     let reply = ReplyEmpty::new(alloc, ID).with_door(Ok(door));
-    let refused = refuse(&rt, &mut mark, seal, u64::MAX, reply);
-    expect_same(
-        &rt,
-        &(is_full, refused),
-        &(true, Some((true, Some(u64::MAX - 1)))),
-    );
-    drop((line, first));
-    drop(mark);
-}
-
-/// Puts a listing off, and fails it later. This is whether it could be put off.
-fn fail_later<R: Wait>(rt: &R, reply: ReplyDirectory) -> bool {
-    match reply.defer() {
-        Ok((replied, later)) => {
-            drop(replied.into_out());
-            let (reply, token) = later.reply();
-            token.send_or_retire(rt, reply.error(Errno::EINTR));
-            true
-        }
-        Err((reply, _)) => {
-            drop(reply.ok().into_out());
-            false
-        }
-    }
-}
-
-#[test]
-fn a_listing_is_put_off_with_its_entries(rt: HostRuntime) {
-    let alloc = rt.alloc();
-    let Desk {
-        line,
-        mut first,
-        mark,
-        seal,
-        door,
-    } = desk_of(&rt, alloc, 2);
-    let mut reply = ReplyDirectory::new(alloc, ID, 100).with_door(Ok(door));
-    let added = reply.add(INodeNo(5), 1, FileType::RegularFile, b"a");
-    let is_late = fail_later(&rt, reply);
-    let waits = line.pop(&rt, &mut first);
-    expect_same(
-        &rt,
-        &(added, is_late, late_in(&waits)),
-        &(Ok(false), true, Some((SEQ, ID, false))),
-    );
-    drop(waits);
-    drop((line, first));
-    drop((mark, seal));
+    let refused = refuse(&rt, &mut desk.mark, seal, u64::MAX, reply);
+    expect_same(&rt, &(is_pushed, refused), &(true, Some(u64::MAX - 1)));
 }
 
 #[test]
 fn replies_to_two_runs_are_let_go_by_their_own_notes(rt: HostRuntime) {
-    let alloc = rt.alloc();
-    let first = desk_of(&rt, alloc, 1);
-    let second = desk_of(&rt, alloc, 1);
-    let one = refused_at_the_end(&rt, alloc, first, 3);
-    let other = refused_at_the_end(&rt, alloc, second, 5);
-    let told = match (one, other) {
-        (Some((token, replied, note)), Some((other_token, other_replied, other_note))) => {
-            retire_each(
-                token,
-                replied,
-                &note,
-                other_token,
-                other_replied,
-                &other_note,
-            );
-            Some((note.taken(), other_note.taken()))
-        }
-        (Some((token, replied, note)), None) | (None, Some((token, replied, note))) => {
-            token.retire(replied, &note);
-            None
-        }
-        (None, None) => None,
-    };
-    expect_same(&rt, &told, &Some((3, 5)));
+    let (token, replied, note) = refused_at_the_end(&rt, rt.alloc(), 3);
+    let (other_token, other_replied, other_note) = refused_at_the_end(&rt, rt.alloc(), 5);
+    retire_each(
+        token,
+        replied,
+        &note,
+        other_token,
+        other_replied,
+        &other_note,
+    );
+    expect_same(&rt, &(note.taken(), other_note.taken()), &(3, 5));
 }

@@ -1,153 +1,182 @@
 // What directory replies carry, as bytes.
-ghost use Rattle.std.specs.Prelude.{◌<◌, ◌^◌, length};
-
 use crate::asserts::expect_same;
-use crate::tests::{ATTRIBUTES, ID, attributes, carries, sends_frame, sent, told};
+use crate::frames::{ATTRIBUTES, BLOCK_SIZE, ENTRY_FRONT, ID, Parts, attributes, carries, short};
 use fuse_reply::laws::{listings_give_their_entries_back, plus_listings_split_in_one_way};
-use fuse_reply::{Out, OutEnd, ReplyDirectory, ReplyDirectoryPlus};
-use fuse_wire::{Duration, Errno, FileType, Generation, INodeNo, NoMemory};
-use std::alloc::Global;
+use fuse_reply::{ReplyDirectory, ReplyDirectoryPlus};
+use fuse_wire::{Duration, FileType, Generation, INodeNo, NoMemory};
+use std::alloc::{AllocError, Global};
 use std::process::Abort;
 
-#[test]
-fn lists_entries_of_a_directory(rt: HostRuntime) {
-    let alloc = rt.alloc();
-    let mut reply = ReplyDirectory::new(alloc, ID, 4096);
-    let taken = (
-        reply.add(INodeNo(0xaabb), 1, FileType::Directory, b"hello"),
-        reply.add(INodeNo(0xccdd), 2, FileType::RegularFile, b"world.rs"),
-    );
-    expect_same(&rt, &taken, &(Ok(false), Ok(false)));
-    let payload = [
-        0xbb, 0xaa, 0, 0, 0, 0, 0, 0, 1, 0, 0, 0, 0, 0, 0, 0, 5, 0, 0, 0, 4, 0, 0, 0, 0x68, 0x65,
-        0x6c, 0x6c, 0x6f, 0, 0, 0, 0xdd, 0xcc, 0, 0, 0, 0, 0, 0, 2, 0, 0, 0, 0, 0, 0, 0, 8, 0, 0,
-        0, 8, 0, 0, 0, 0x77, 0x6f, 0x72, 0x6c, 0x64, 0x2e, 0x72, 0x73,
-    ];
-    carries(&rt, alloc, reply.ok().into_out(), &payload);
+/// An entry that a listing is to take: its inode, the offset after it, what kind of file it is, its name, and whether it
+/// does not fit.
+type Entry = (u64, u64, FileType, &'static [u8], bool);
+
+/// How many bytes a listing may have, the entries that it is to take, and its payload then.
+type Listing = (usize, &'static [Entry], Parts);
+
+/// Listings of no entries, of two, and of two of five, of which a shorter one fits where another did not; and of each
+/// kind of file.
+const LISTINGS: &[Listing] = &[
+    (0, &[(1, 1, FileType::Directory, b"", true)], &[]),
+    (
+        4096,
+        &[
+            (0xaabb, 1, FileType::Directory, b"hello", false),
+            (0xccdd, 2, FileType::RegularFile, b"world.rs", false),
+        ],
+        &[&[
+            0xbb, 0xaa, 0, 0, 0, 0, 0, 0, 1, 0, 0, 0, 0, 0, 0, 0, 5, 0, 0, 0, 4, 0, 0, 0, 0x68,
+            0x65, 0x6c, 0x6c, 0x6f, 0, 0, 0, 0xdd, 0xcc, 0, 0, 0, 0, 0, 0, 2, 0, 0, 0, 0, 0, 0, 0,
+            8, 0, 0, 0, 8, 0, 0, 0, 0x77, 0x6f, 0x72, 0x6c, 0x64, 0x2e, 0x72, 0x73,
+        ]],
+    ),
+    (
+        56,
+        &[
+            (0xaabb, 1, FileType::Directory, b"hello", false),
+            (0xccdd, 2, FileType::RegularFile, b"world.rs", true),
+            (0x11, 3, FileType::Symlink, b"", false),
+            (0x11, 4, FileType::Symlink, b"", true),
+            (0xaabb, 5, FileType::Directory, b"hello", true),
+        ],
+        &[&[
+            0xbb, 0xaa, 0, 0, 0, 0, 0, 0, 1, 0, 0, 0, 0, 0, 0, 0, 5, 0, 0, 0, 4, 0, 0, 0, 0x68,
+            0x65, 0x6c, 0x6c, 0x6f, 0, 0, 0, 0x11, 0, 0, 0, 0, 0, 0, 0, 3, 0, 0, 0, 0, 0, 0, 0, 0,
+            0, 0, 0, 10, 0, 0, 0,
+        ]],
+    ),
+    (
+        24,
+        &[(0, 0, FileType::NamedPipe, b"", false)],
+        &[&[0; 20], &[1, 0, 0, 0]],
+    ),
+    (
+        24,
+        &[(0, 0, FileType::CharDevice, b"", false)],
+        &[&[0; 20], &[2, 0, 0, 0]],
+    ),
+    (
+        24,
+        &[(0, 0, FileType::Directory, b"", false)],
+        &[&[0; 20], &[4, 0, 0, 0]],
+    ),
+    (
+        24,
+        &[(0, 0, FileType::BlockDevice, b"", false)],
+        &[&[0; 20], &[6, 0, 0, 0]],
+    ),
+    (
+        24,
+        &[(0, 0, FileType::RegularFile, b"", false)],
+        &[&[0; 20], &[8, 0, 0, 0]],
+    ),
+    (
+        24,
+        &[(0, 0, FileType::Symlink, b"", false)],
+        &[&[0; 20], &[10, 0, 0, 0]],
+    ),
+    (
+        24,
+        &[(0, 0, FileType::Socket, b"", false)],
+        &[&[0; 20], &[12, 0, 0, 0]],
+    ),
+];
+
+/// Listings of one entry, whose name is padded to a multiple of eight bytes, and of a byte less, in which it does not fit.
+const PADDED: &[Listing] = &[
+    (
+        24,
+        &[(u64::MAX, u64::MAX, FileType::Socket, b"", false)],
+        &[&[0xff; 16], &[0, 0, 0, 0, 12, 0, 0, 0]],
+    ),
+    (
+        23,
+        &[(u64::MAX, u64::MAX, FileType::Socket, b"", true)],
+        &[],
+    ),
+    (
+        32,
+        &[(u64::MAX, u64::MAX, FileType::Socket, &[7], false)],
+        &[&[0xff; 16], &[1, 0, 0, 0, 12, 0, 0, 0], &[7], &[0; 7]],
+    ),
+    (
+        31,
+        &[(u64::MAX, u64::MAX, FileType::Socket, &[7], true)],
+        &[],
+    ),
+    (
+        32,
+        &[(u64::MAX, u64::MAX, FileType::Socket, &[7; 7], false)],
+        &[&[0xff; 16], &[7, 0, 0, 0, 12, 0, 0, 0], &[7; 7], &[0]],
+    ),
+    (
+        31,
+        &[(u64::MAX, u64::MAX, FileType::Socket, &[7; 7], true)],
+        &[],
+    ),
+    (
+        32,
+        &[(u64::MAX, u64::MAX, FileType::Socket, &[7; 8], false)],
+        &[&[0xff; 16], &[8, 0, 0, 0, 12, 0, 0, 0], &[7; 8]],
+    ),
+    (
+        31,
+        &[(u64::MAX, u64::MAX, FileType::Socket, &[7; 8], true)],
+        &[],
+    ),
+    (
+        40,
+        &[(u64::MAX, u64::MAX, FileType::Socket, &[7; 9], false)],
+        &[&[0xff; 16], &[9, 0, 0, 0, 12, 0, 0, 0], &[7; 9], &[0; 7]],
+    ),
+    (
+        39,
+        &[(u64::MAX, u64::MAX, FileType::Socket, &[7; 9], true)],
+        &[],
+    ),
+    (
+        280,
+        &[(u64::MAX, u64::MAX, FileType::Socket, &[7; 255], false)],
+        &[&[0xff; 16], &[255, 0, 0, 0, 12, 0, 0, 0], &[7; 255], &[0]],
+    ),
+    (
+        279,
+        &[(u64::MAX, u64::MAX, FileType::Socket, &[7; 255], true)],
+        &[],
+    ),
+];
+
+/// The entry is taken, or does not fit, as its row says.
+fn add(rt: &impl Abort, reply: &mut ReplyDirectory, entry: &Entry) {
+    let (ino, offset, kind, name, full) = entry;
+    let found = reply.add(INodeNo(*ino), *offset, *kind, short(rt, name));
+    expect_same(rt, &(*name, found), &(*name, Ok(*full)));
+}
+
+/// The listing of so many bytes that was to take these entries.
+fn listed(rt: &impl Abort, alloc: Global, size: usize, entries: &[Entry]) -> ReplyDirectory {
+    let mut reply = ReplyDirectory::new(alloc, ID, size);
+    for entry in entries {
+        add(rt, &mut reply, entry);
+    }
+    expect_same(rt, &reply.size(), &size);
+    reply
+}
+
+/// Each listing carries its payload.
+fn expect_listings(rt: &(impl Abort + AllocGlobal), rows: &[Listing]) {
+    for (size, entries, payload) in rows {
+        let reply = listed(rt, rt.alloc(), *size, entries);
+        carries(rt, rt.alloc(), reply.ok(), payload);
+    }
 }
 
 #[test]
-fn a_shorter_entry_may_fit_where_another_did_not(rt: HostRuntime) {
-    let alloc = rt.alloc();
-    let mut reply = ReplyDirectory::new(alloc, ID, 56);
-    let became = (
-        reply.add(INodeNo(0xaabb), 1, FileType::Directory, b"hello"),
-        reply.add(INodeNo(0xccdd), 2, FileType::RegularFile, b"world.rs"),
-        reply.add(INodeNo(0x11), 3, FileType::Symlink, b""),
-        reply.add(INodeNo(0x11), 4, FileType::Symlink, b""),
-        reply.add(INodeNo(0xaabb), 5, FileType::Directory, b"hello"),
-    );
-    expect_same(
-        &rt,
-        &became,
-        &(Ok(false), Ok(true), Ok(false), Ok(true), Ok(true)),
-    );
-    expect_same(&rt, &reply.size(), &56);
-    let payload = [
-        0xbb, 0xaa, 0, 0, 0, 0, 0, 0, 1, 0, 0, 0, 0, 0, 0, 0, 5, 0, 0, 0, 4, 0, 0, 0, 0x68, 0x65,
-        0x6c, 0x6c, 0x6f, 0, 0, 0, 0x11, 0, 0, 0, 0, 0, 0, 0, 3, 0, 0, 0, 0, 0, 0, 0, 0, 0, 0, 0,
-        10, 0, 0, 0,
-    ];
-    carries(&rt, alloc, reply.ok().into_out(), &payload);
-}
-
-#[test]
-fn a_directory_without_entries_is_a_status(rt: HostRuntime) {
+fn each_listing_carries_the_entries_that_fit(rt: HostRuntime) {
     listings_give_their_entries_back();
     plus_listings_split_in_one_way();
-    let alloc = rt.alloc();
-    let mut reply = ReplyDirectory::new(alloc, ID, 0);
-    let full = reply.add(INodeNo(1), 1, FileType::Directory, b"");
-    expect_same(&rt, &full, &Ok(true));
-    carries(&rt, alloc, reply.ok().into_out(), &[]);
-    let failed = [
-        16, 0, 0, 0, 0xfe, 0xff, 0xff, 0xff, 0xef, 0xbe, 0xad, 0xde, 0, 0, 0, 0,
-    ];
-    let error = ReplyDirectory::new(alloc, ID, 9).error(Errno::ENOENT);
-    sends_frame(&rt, alloc, error.into_out(), &failed);
-    let error = ReplyDirectoryPlus::new(alloc, ID, 9).error(Errno::ENOENT);
-    sends_frame(&rt, alloc, error.into_out(), &failed);
-}
-
-/// Whether an entry with this name was left out of a listing of so many bytes, and the listing.
-fn list_one(alloc: Global, size: usize, name: &[u8]) -> (Result<bool, NoMemory>, Out)
-    requires { length name.now < 2 ^ 32 }
-{
-    let mut reply = ReplyDirectory::new(alloc, ID, size);
-    let full = reply.add(INodeNo(u64::MAX), u64::MAX, FileType::Socket, name);
-    (full, reply.ok().into_out())
-}
-
-/// An entry with so many sevens as its name, and zeros behind it.
-fn entry_of_sevens(count: u8) -> [u8; 280] {
-    let mut entry = [0; 280];
-    entry[..16].copy_from_slice(&[0xff; 16]);
-    entry[16] = count;
-    entry[20] = 12;
-    for byte in entry.iter_mut().skip(24).take(usize::from(count)) {
-        *byte = 7;
-    }
-    entry
-}
-
-/// An entry with this name, so many sevens, takes just the bytes of its front and so many more.
-fn is_padded_to(rt: &impl Abort, alloc: Global, name: &[u8], count: u8, padded: usize)
-    requires { length name.now < 2 ^ 32 }
-{
-    let size = padded.saturating_add(24);
-    let (full, out) = list_one(alloc, size, name);
-    expect_same(rt, &full, &Ok(false));
-    let entry = entry_of_sevens(count);
-    carries(rt, alloc, out, entry.get(..size).unwrap_or(&[]));
-    let (full, out) = list_one(alloc, size.saturating_sub(1), name);
-    expect_same(rt, &full, &Ok(true));
-    carries(rt, alloc, out, &[]);
-}
-
-#[test]
-fn pads_each_name_to_a_multiple_of_eight(rt: HostRuntime) {
-    let alloc = rt.alloc();
-    is_padded_to(&rt, alloc, &[], 0, 0);
-    is_padded_to(&rt, alloc, &[7], 1, 8);
-    is_padded_to(&rt, alloc, &[7; 7], 7, 8);
-    is_padded_to(&rt, alloc, &[7; 8], 8, 8);
-    is_padded_to(&rt, alloc, &[7; 9], 9, 16);
-    is_padded_to(&rt, alloc, &[7; 255], 255, 256);
-}
-
-#[test]
-fn tells_what_kind_of_file_each_entry_is(rt: HostRuntime) {
-    let alloc = rt.alloc();
-    for (kind, typ) in [
-        (FileType::NamedPipe, 1),
-        (FileType::CharDevice, 2),
-        (FileType::Directory, 4),
-        (FileType::BlockDevice, 6),
-        (FileType::RegularFile, 8),
-        (FileType::Symlink, 10),
-        (FileType::Socket, 12),
-    ] {
-        let mut reply = ReplyDirectory::new(alloc, ID, 24);
-        let taken = reply.add(INodeNo(0), 0, kind, b"");
-        expect_same(&rt, &taken, &Ok(false));
-        let mut payload = [0; 24];
-        payload[20] = typ;
-        carries(&rt, alloc, reply.ok().into_out(), &payload);
-    }
-}
-
-/// The bytes of entry `i`, whose name is that number in four digits.
-fn numbered(i: u16) -> [u8; 32] {
-    let mut entry = [0; 32];
-    let [low, high] = i.to_le_bytes();
-    entry[0] = low;
-    entry[1] = high;
-    entry[8] = low;
-    entry[9] = high;
-    entry[16] = 4;
-    entry[20] = 8;
-    entry[24..28].copy_from_slice(&digits(i));
-    entry
+    expect_listings(&rt, LISTINGS);
+    expect_listings(&rt, PADDED);
 }
 
 /// The last four decimal digits of a number.
@@ -160,43 +189,64 @@ fn digits(i: u16) -> [u8; 4] {
     ]
 }
 
+/// The bytes of entry `i`, whose name is that number in four digits.
+fn numbered(i: u16) -> [u8; 32] {
+    let [low, high] = i.to_le_bytes();
+    let [d0, d1, d2, d3] = digits(i);
+    [
+        low, high, 0, 0, 0, 0, 0, 0, low, high, 0, 0, 0, 0, 0, 0, 4, 0, 0, 0, 8, 0, 0, 0, d0, d1,
+        d2, d3, 0, 0, 0, 0,
+    ]
+}
+
+/// The bytes of so many entries.
+fn all_numbered(alloc: Global, count: u16) -> Result<Vec<u8>, AllocError> {
+    let mut entries = Vec::new(alloc);
+    for i in 0..count {
+        entries.extend_from_slice(&numbered(i))?;
+    }
+    Ok(entries)
+}
+
+/// Adds entry `i`.
+fn add_numbered(reply: &mut ReplyDirectory, i: u16) -> Result<bool, NoMemory> {
+    let place = u64::from(i);
+    reply.add(INodeNo(place), place, FileType::RegularFile, &digits(i))
+}
+
 /// Adds a thousand entries of 32 bytes each, and tells how many were taken before the first that was not.
-fn list_thousand(reply: &mut ReplyDirectory) -> Result<usize, NoMemory> {
+fn list_thousand(reply: &mut ReplyDirectory) -> Result<u16, NoMemory> {
     for i in 0..1000 {
-        let ino = INodeNo(i as u64);
-        if reply.add(ino, i as u64, FileType::RegularFile, &digits(i))? {
-            return Ok(i as usize);
+        if add_numbered(reply, i)? {
+            return Ok(i);
         }
     }
     Ok(1000)
 }
 
-/// The first entry of 32 bytes that is not the one of its place, and its place.
-fn first_other(listing: &[u8]) -> Option<(u16, &[u8])> {
-    for (i, entry) in (0..1000).zip(listing.chunks_exact(32)) {
-        if entry != numbered(i).as_slice() {
-            return Some((i, entry));
-        }
-    }
-    None
+/// The listing carries so many entries, which are so many bytes.
+fn carries_numbered(
+    rt: &impl Abort,
+    alloc: Global,
+    reply: ReplyDirectory,
+    count: u16,
+    length: usize,
+) {
+    let entries = all_numbered(alloc, count).expect(rt, "there is memory");
+    expect_same(rt, &entries.len(), &length);
+    carries(rt, alloc, reply.ok(), &[&entries]);
 }
 
-/// Lists a thousand entries in so many bytes. So many are taken, they take so many bytes, and each is in its place.
-fn expect_cut<A: Abort>(rt: &A, alloc: Global, size: usize, entries: usize, length: usize) {
+/// Of a thousand entries so many are taken in so many bytes, and they take so many bytes.
+fn expect_cut(rt: &impl Abort, alloc: Global, size: usize, entries: u16, length: usize) {
     let mut reply = ReplyDirectory::new(alloc, ID, size);
     let taken = list_thousand(&mut reply);
-    let (sink, end) = sent(alloc, reply.ok().into_out());
-    let (end, frame, _) = told(&sink, end);
-    let listing = frame.unwrap_or(&[]).get(16..).unwrap_or(&[]);
-    expect_same(
-        rt,
-        &(taken, end, listing.len(), first_other(listing)),
-        &(Ok(entries), OutEnd::Written, length, None),
-    );
+    expect_same(rt, &(size, taken), &(size, Ok(entries)));
+    carries_numbered(rt, alloc, reply, entries, length);
 }
 
 /// So many bytes for entries, how many entries are taken, and how many bytes these take.
-const CUTS: &[(usize, usize, usize)] = &[
+const CUTS: &[(usize, u16, usize)] = &[
     (31, 0, 0),
     (32, 1, 32),
     (63, 1, 32),
@@ -223,34 +273,17 @@ fn a_long_directory_is_cut_at_its_size(rt: HostRuntime) {
 fn list_five(alloc: Global) -> (ReplyDirectory, Result<bool, NoMemory>) {
     let mut reply = ReplyDirectory::new(alloc, ID, 4096);
     for i in 0..4 {
-        let _ = reply.add(
-            INodeNo(i as u64),
-            i as u64,
-            FileType::RegularFile,
-            &digits(i),
-        );
+        let _ = add_numbered(&mut reply, i);
     }
-    let fifth = reply.add(INodeNo(4), 4, FileType::RegularFile, &digits(4));
+    let fifth = add_numbered(&mut reply, 4);
     (reply, fifth)
-}
-
-/// How long the frame of a listing is, and the first entry that is not the one of its place.
-fn listed(alloc: Global, reply: ReplyDirectory) -> (usize, Option<u16>) {
-    let (sink, end) = sent(alloc, reply.ok().into_out());
-    let (_, frame, _) = told(&sink, end);
-    let frame = frame.unwrap_or(&[]);
-    let other = first_other(frame.get(16..).unwrap_or(&[]));
-    (frame.len(), other.map(|(place, _)| place))
 }
 
 #[test]
 fn lists_more_than_is_held_inline(rt: HostRuntime) {
     let (reply, fifth) = list_five(rt.alloc());
-    expect_same(
-        &rt,
-        &(fifth, listed(rt.alloc(), reply)),
-        &(Ok(false), (176, None)),
-    );
+    expect_same(&rt, &fifth, &Ok(false));
+    carries_numbered(&rt, rt.alloc(), reply, 5, 160);
 }
 
 /// Takes the fifth entry, and that it is left out. Where the script `checks/refused-memory` refuses the memory, it is
@@ -258,40 +291,57 @@ fn lists_more_than_is_held_inline(rt: HostRuntime) {
 #[test]
 fn lists_more_than_is_held_inline_or_leaves_it_out(rt: HostRuntime) {
     let (reply, fifth) = list_five(rt.alloc());
-    let length = if fifth == Ok(false) { 176 } else { 144 };
-    expect_same(&rt, &listed(rt.alloc(), reply), &(length, None));
+    let (count, length) = if fifth == Ok(false) {
+        (5, 160)
+    } else {
+        (4, 128)
+    };
+    carries_numbered(&rt, rt.alloc(), reply, count, length);
+}
+
+/// An entry that a listing with lookups is to take: the offset after it, its name, and whether it does not fit.
+type PlusEntry = (u64, &'static [u8], bool);
+
+/// Three entries, of which the second does not fit behind the first.
+const PLUS_ENTRIES: &[PlusEntry] = &[(1, b"hello", false), (2, b"hello", true), (3, b"", false)];
+
+/// What a listing of 319 bytes carries of them.
+const PLUS_LISTING: Parts = &[
+    ENTRY_FRONT,
+    ATTRIBUTES,
+    BLOCK_SIZE,
+    &[
+        0x11, 0, 0, 0, 0, 0, 0, 0, 1, 0, 0, 0, 0, 0, 0, 0, 5, 0, 0, 0, 8, 0, 0, 0, 0x68, 0x65,
+        0x6c, 0x6c, 0x6f, 0, 0, 0,
+    ],
+    ENTRY_FRONT,
+    ATTRIBUTES,
+    BLOCK_SIZE,
+    &[
+        0x11, 0, 0, 0, 0, 0, 0, 0, 3, 0, 0, 0, 0, 0, 0, 0, 0, 0, 0, 0, 8, 0, 0, 0,
+    ],
+];
+
+/// The entry is taken, or does not fit, as its row says.
+fn add_plus(rt: &impl Abort, reply: &mut ReplyDirectoryPlus, entry: &PlusEntry) {
+    let (offset, name, full) = entry;
+    let ttl = Duration::new(0x8765, 0x4321);
+    let found = reply.add(
+        INodeNo(0x99),
+        *offset,
+        short(rt, name),
+        &ttl,
+        &attributes(),
+        Generation(0xaa),
+    );
+    expect_same(rt, &(*name, found), &(*name, Ok(*full)));
 }
 
 #[test]
 fn lists_entries_with_what_a_lookup_answers(rt: HostRuntime) {
-    let alloc = rt.alloc();
-    let ttl = Duration::new(0x8765, 0x4321);
-    let attr = attributes();
-    let generation = Generation(0xaa);
-    let mut reply = ReplyDirectoryPlus::new(alloc, ID, 319);
-    let became = (
-        reply.add(INodeNo(0x99), 1, b"hello", &ttl, &attr, generation),
-        reply.add(INodeNo(0x99), 2, b"hello", &ttl, &attr, generation),
-        reply.add(INodeNo(0x99), 3, b"", &ttl, &attr, generation),
-    );
-    expect_same(&rt, &became, &(Ok(false), Ok(true), Ok(false)));
-    let front = [
-        0x11, 0, 0, 0, 0, 0, 0, 0, 0xaa, 0, 0, 0, 0, 0, 0, 0, 0x65, 0x87, 0, 0, 0, 0, 0, 0, 0x65,
-        0x87, 0, 0, 0, 0, 0, 0, 0x21, 0x43, 0, 0, 0x21, 0x43, 0, 0,
-    ];
-    let hello = [
-        0x11, 0, 0, 0, 0, 0, 0, 0, 1, 0, 0, 0, 0, 0, 0, 0, 5, 0, 0, 0, 8, 0, 0, 0, 0x68, 0x65,
-        0x6c, 0x6c, 0x6f, 0, 0, 0,
-    ];
-    let unnamed = [
-        0x11, 0, 0, 0, 0, 0, 0, 0, 3, 0, 0, 0, 0, 0, 0, 0, 0, 0, 0, 0, 8, 0, 0, 0,
-    ];
-    let mut payload = [0; 312];
-    payload[..40].copy_from_slice(&front);
-    payload[40..128].copy_from_slice(&ATTRIBUTES);
-    payload[128..160].copy_from_slice(&hello);
-    payload[160..200].copy_from_slice(&front);
-    payload[200..288].copy_from_slice(&ATTRIBUTES);
-    payload[288..].copy_from_slice(&unnamed);
-    carries(&rt, alloc, reply.ok().into_out(), &payload);
+    let mut reply = ReplyDirectoryPlus::new(rt.alloc(), ID, 319);
+    for entry in PLUS_ENTRIES {
+        add_plus(&rt, &mut reply, entry);
+    }
+    carries(&rt, rt.alloc(), reply.ok(), PLUS_LISTING);
 }

@@ -1,180 +1,257 @@
 // What replies of fixed size, of ioctls and of extended attributes carry, as bytes.
-use crate::tests::{ATTRIBUTES, ID, attributes, carries};
+ghost use Rattle.std.specs.Prelude.{◌≡◌, bit_and};
+ghost use Rattle.fuse_reply.specs.Payload.{FOPEN_PASSTHROUGH};
+
+use crate::frames::{ATTRIBUTES, ENTRY_FRONT, ID, Parts, attributes, carries, short};
 use bitflags::Flags;
 use fuse_reply::{
-    ReplyBmap, ReplyCreate, ReplyIoctl, ReplyLock, ReplyLseek, ReplyOpen, ReplyPoll, ReplyStatfs,
-    ReplyWrite, ReplyXattr,
+    Replied, ReplyBmap, ReplyCreate, ReplyIoctl, ReplyLock, ReplyLseek, ReplyOpen, ReplyPoll,
+    ReplyStatfs, ReplyWrite, ReplyXattr,
 };
 use fuse_wire::{Duration, FileHandle, FopenFlags, Generation, PollEvents};
+use std::alloc::Global;
+use std::process::Abort;
 
-#[test]
-fn answers_by_an_open_file(rt: HostRuntime) {
-    let alloc = rt.alloc();
-    let flags = FopenFlags::from_bits_retain(0x33);
-    let reply = ReplyOpen::new(alloc, ID).opened(FileHandle(0x1122), flags);
-    let payload = [0x22, 0x11, 0, 0, 0, 0, 0, 0, 0x33, 0, 0, 0, 0, 0, 0, 0];
-    carries(&rt, alloc, reply.into_out(), &payload);
-    let none = FopenFlags::from_bits_retain(0);
-    let reply = ReplyOpen::new(alloc, ID).opened(FileHandle(0), none);
-    carries(&rt, alloc, reply.into_out(), &[0; 16]);
-    let all = FopenFlags::from_bits_retain(0xffff_ff7f);
-    let reply = ReplyOpen::new(alloc, ID).opened(FileHandle(u64::MAX), all);
-    let payload = [
-        0xff, 0xff, 0xff, 0xff, 0xff, 0xff, 0xff, 0xff, 0x7f, 0xff, 0xff, 0xff, 0, 0, 0, 0,
-    ];
-    carries(&rt, alloc, reply.into_out(), &payload);
+/// What a request is answered by.
+enum Answer {
+    /// A new file of these flags.
+    Created(u32),
+    /// The handle of an open file, and its flags.
+    Opened(u64, u32),
+    /// How much was written.
+    Written(u32),
+    /// How long an extended attribute is.
+    Size(u32),
+    /// What a file is ready for.
+    Ready(u32),
+    /// Where a block lies.
+    Block(u64),
+    /// Where data was found.
+    Offset(i64),
+    /// The fill of a filesystem.
+    Fill([u64; 5], [u32; 3]),
+    /// A lock.
+    Lock(u64, u64, i32, u32),
+    /// The result of an ioctl, and the bytes that it gives back.
+    Ioctl(i32, &'static [u8]),
+    /// An extended attribute.
+    Attribute(&'static [u8]),
 }
 
-#[test]
-fn answers_by_a_new_file(rt: HostRuntime) {
-    let alloc = rt.alloc();
+/// Flags of an open file. None of them is `FOPEN_PASSTHROUGH`.
+fn open_flags(rt: &impl Abort, bits: u32) -> FopenFlags
+    ensures { bit_and result.0 FOPEN_PASSTHROUGH ≡ 0 }
+{
+    assert!(rt; bits & 0x80 == 0);
+    FopenFlags::from_bits_retain(bits)
+}
+
+/// A new file of these flags, whose blocks have 0xdd bytes.
+fn created(alloc: Global, flags: FopenFlags) -> Replied
+    requires { bit_and flags.0 FOPEN_PASSTHROUGH ≡ 0 }
+{
     let mut attr = attributes();
     attr.blksize = 0xdd;
     let ttl = Duration::new(0x8765, 0x4321);
-    let flags = FopenFlags::from_bits_retain(0x0c);
-    let reply = ReplyCreate::new(alloc, ID).created(
-        &ttl,
-        &attr,
-        Generation(0xaa),
-        FileHandle(0xbb),
-        flags,
-    );
-    let front = [
-        0x11, 0, 0, 0, 0, 0, 0, 0, 0xaa, 0, 0, 0, 0, 0, 0, 0, 0x65, 0x87, 0, 0, 0, 0, 0, 0, 0x65,
-        0x87, 0, 0, 0, 0, 0, 0, 0x21, 0x43, 0, 0, 0x21, 0x43, 0, 0,
-    ];
-    let mut payload = [0; 144];
-    payload[..40].copy_from_slice(&front);
-    payload[40..128].copy_from_slice(&ATTRIBUTES);
-    payload[120] = 0xdd;
-    payload[128] = 0xbb;
-    payload[136] = 0x0c;
-    carries(&rt, alloc, reply.into_out(), &payload);
+    ReplyCreate::new(alloc, ID).created(&ttl, &attr, Generation(0xaa), FileHandle(0xbb), flags)
 }
 
-#[test]
-fn answers_by_one_number(rt: HostRuntime) {
-    let alloc = rt.alloc();
-    for (n, payload) in [
-        (0, [0; 8]),
-        (0x1122, [0x22, 0x11, 0, 0, 0, 0, 0, 0]),
-        (0x1234_5678, [0x78, 0x56, 0x34, 0x12, 0, 0, 0, 0]),
-        (u32::MAX, [0xff, 0xff, 0xff, 0xff, 0, 0, 0, 0]),
-    ] {
-        let written = ReplyWrite::new(alloc, ID).written(n);
-        carries(&rt, alloc, written.into_out(), &payload);
-        let size = ReplyXattr::new(alloc, ID).size(n);
-        carries(&rt, alloc, size.into_out(), &payload);
-        let ready = ReplyPoll::new(alloc, ID).poll(PollEvents::from_bits_retain(n));
-        carries(&rt, alloc, ready.into_out(), &payload);
+/// The reply, spent by its own kind.
+fn replied(rt: &impl Abort, alloc: Global, answer: &Answer) -> Replied {
+    match answer {
+        Answer::Created(flags) => created(alloc, open_flags(rt, *flags)),
+        Answer::Opened(fh, flags) => {
+            ReplyOpen::new(alloc, ID).opened(FileHandle(*fh), open_flags(rt, *flags))
+        }
+        Answer::Written(size) => ReplyWrite::new(alloc, ID).written(*size),
+        Answer::Size(size) => ReplyXattr::new(alloc, ID).size(*size),
+        Answer::Ready(events) => {
+            ReplyPoll::new(alloc, ID).poll(PollEvents::from_bits_retain(*events))
+        }
+        Answer::Block(block) => ReplyBmap::new(alloc, ID).bmap(*block),
+        Answer::Offset(offset) => ReplyLseek::new(alloc, ID).offset(*offset),
+        Answer::Fill([blocks, bfree, bavail, files, ffree], [bsize, namelen, frsize]) => {
+            ReplyStatfs::new(alloc, ID).statfs(
+                *blocks, *bfree, *bavail, *files, *ffree, *bsize, *namelen, *frsize,
+            )
+        }
+        Answer::Lock(start, end, typ, pid) => {
+            ReplyLock::new(alloc, ID).locked(*start, *end, *typ, *pid)
+        }
+        Answer::Ioctl(code, bytes) => ReplyIoctl::new(alloc, ID).ioctl(*code, short(rt, bytes)),
+        Answer::Attribute(bytes) => ReplyXattr::new(alloc, ID).data(short(rt, bytes)),
+    }
+}
+
+/// Answers by files, fills and locks, and their payloads.
+const RECORDS: &[(Answer, Parts)] = &[
+    (
+        Answer::Created(0x0c),
+        &[
+            ENTRY_FRONT,
+            ATTRIBUTES,
+            &[0xdd, 0, 0, 0, 0, 0, 0, 0],
+            &[0xbb, 0, 0, 0, 0, 0, 0, 0, 0x0c, 0, 0, 0, 0, 0, 0, 0],
+        ],
+    ),
+    (
+        Answer::Opened(0x1122, 0x33),
+        &[&[0x22, 0x11, 0, 0, 0, 0, 0, 0, 0x33, 0, 0, 0, 0, 0, 0, 0]],
+    ),
+    (Answer::Opened(0, 0), &[&[0; 16]]),
+    (
+        Answer::Opened(u64::MAX, 0xffff_ff7f),
+        &[&[
+            0xff, 0xff, 0xff, 0xff, 0xff, 0xff, 0xff, 0xff, 0x7f, 0xff, 0xff, 0xff, 0, 0, 0, 0,
+        ]],
+    ),
+    (
+        Answer::Fill([0x11, 0x22, 0x33, 0x44, 0x55], [0x66, 0x77, 0x88]),
+        &[
+            &[0x11, 0, 0, 0, 0, 0, 0, 0],
+            &[0x22, 0, 0, 0, 0, 0, 0, 0],
+            &[0x33, 0, 0, 0, 0, 0, 0, 0],
+            &[0x44, 0, 0, 0, 0, 0, 0, 0],
+            &[0x55, 0, 0, 0, 0, 0, 0, 0],
+            &[0x66, 0, 0, 0, 0x77, 0, 0, 0, 0x88, 0, 0, 0],
+            &[0; 28],
+        ],
+    ),
+    (
+        Answer::Fill([u64::MAX; 5], [u32::MAX; 3]),
+        &[&[0xff; 52], &[0; 28]],
+    ),
+    (
+        Answer::Lock(0x11, 0x22, 0x33, 0x44),
+        &[&[
+            0x11, 0, 0, 0, 0, 0, 0, 0, 0x22, 0, 0, 0, 0, 0, 0, 0, 0x33, 0, 0, 0, 0x44, 0, 0, 0,
+        ]],
+    ),
+    (
+        Answer::Lock(0, u64::MAX, -2, u32::MAX),
+        &[
+            &[0; 8],
+            &[0xff; 8],
+            &[0xfe, 0xff, 0xff, 0xff, 0xff, 0xff, 0xff, 0xff],
+        ],
+    ),
+];
+
+/// Answers by one number of 32 bits, and their payloads.
+const WORDS: &[(Answer, Parts)] = &[
+    (Answer::Written(0), &[&[0; 8]]),
+    (Answer::Size(0), &[&[0; 8]]),
+    (Answer::Ready(0), &[&[0; 8]]),
+    (Answer::Written(0x1122), &[&[0x22, 0x11, 0, 0, 0, 0, 0, 0]]),
+    (Answer::Size(0x1122), &[&[0x22, 0x11, 0, 0, 0, 0, 0, 0]]),
+    (Answer::Ready(0x1122), &[&[0x22, 0x11, 0, 0, 0, 0, 0, 0]]),
+    (
+        Answer::Written(0x1234_5678),
+        &[&[0x78, 0x56, 0x34, 0x12, 0, 0, 0, 0]],
+    ),
+    (
+        Answer::Size(0x1234_5678),
+        &[&[0x78, 0x56, 0x34, 0x12, 0, 0, 0, 0]],
+    ),
+    (
+        Answer::Ready(0x1234_5678),
+        &[&[0x78, 0x56, 0x34, 0x12, 0, 0, 0, 0]],
+    ),
+    (
+        Answer::Written(u32::MAX),
+        &[&[0xff, 0xff, 0xff, 0xff, 0, 0, 0, 0]],
+    ),
+    (
+        Answer::Size(u32::MAX),
+        &[&[0xff, 0xff, 0xff, 0xff, 0, 0, 0, 0]],
+    ),
+    (
+        Answer::Ready(u32::MAX),
+        &[&[0xff, 0xff, 0xff, 0xff, 0, 0, 0, 0]],
+    ),
+];
+
+/// Answers by one number of 64 bits, and their payloads.
+const PLACES: &[(Answer, Parts)] = &[
+    (Answer::Block(0), &[&[0; 8]]),
+    (Answer::Offset(0), &[&[0; 8]]),
+    (Answer::Block(0x1234), &[&[0x34, 0x12, 0, 0, 0, 0, 0, 0]]),
+    (Answer::Offset(0x1234), &[&[0x34, 0x12, 0, 0, 0, 0, 0, 0]]),
+    (
+        Answer::Block(0x7fff_ffff_ffff_ffff),
+        &[&[0xff, 0xff, 0xff, 0xff, 0xff, 0xff, 0xff, 0x7f]],
+    ),
+    (
+        Answer::Offset(i64::MAX),
+        &[&[0xff, 0xff, 0xff, 0xff, 0xff, 0xff, 0xff, 0x7f]],
+    ),
+    (
+        Answer::Block(0x8000_0000_0000_0000),
+        &[&[0, 0, 0, 0, 0, 0, 0, 0x80]],
+    ),
+    (Answer::Offset(i64::MIN), &[&[0, 0, 0, 0, 0, 0, 0, 0x80]]),
+    (Answer::Block(u64::MAX), &[&[0xff; 8]]),
+    (Answer::Offset(-1), &[&[0xff; 8]]),
+];
+
+/// What stands in front of the bytes that an ioctl of the result 9 gives back.
+const NINE: &[u8] = &[9, 0, 0, 0, 0, 0, 0, 0, 1, 0, 0, 0, 1, 0, 0, 0];
+
+/// Answers by ioctls of each result and of each length, and their payloads.
+const IOCTLS: &[(Answer, Parts)] = &[
+    (
+        Answer::Ioctl(0, &[7]),
+        &[&[0, 0, 0, 0, 0, 0, 0, 0, 1, 0, 0, 0, 1, 0, 0, 0, 7]],
+    ),
+    (
+        Answer::Ioctl(i32::MAX, &[7]),
+        &[&[
+            0xff, 0xff, 0xff, 0x7f, 0, 0, 0, 0, 1, 0, 0, 0, 1, 0, 0, 0, 7,
+        ]],
+    ),
+    (
+        Answer::Ioctl(-2, &[7]),
+        &[&[
+            0xfe, 0xff, 0xff, 0xff, 0, 0, 0, 0, 1, 0, 0, 0, 1, 0, 0, 0, 7,
+        ]],
+    ),
+    (
+        Answer::Ioctl(i32::MIN, &[7]),
+        &[&[0, 0, 0, 0x80, 0, 0, 0, 0, 1, 0, 0, 0, 1, 0, 0, 0, 7]],
+    ),
+    (Answer::Ioctl(9, &[]), &[NINE]),
+    (Answer::Ioctl(9, &[7; 127]), &[NINE, &[7; 127]]),
+    (Answer::Ioctl(9, &[7; 128]), &[NINE, &[7; 128]]),
+    (Answer::Ioctl(9, &[7; 129]), &[NINE, &[7; 129]]),
+    (Answer::Ioctl(9, &[7; 200]), &[NINE, &[7; 200]]),
+];
+
+/// Answers by extended attributes, which are their payloads.
+const EXTENDED: &[(Answer, Parts)] = &[
+    (
+        Answer::Attribute(&[0x11, 0x22, 0x33, 0x44]),
+        &[&[0x11, 0x22, 0x33, 0x44]],
+    ),
+    (Answer::Attribute(&[]), &[]),
+    (Answer::Attribute(&[7]), &[&[7]]),
+    (Answer::Attribute(&[7; 143]), &[&[7; 143]]),
+    (Answer::Attribute(&[7; 144]), &[&[7; 144]]),
+    (Answer::Attribute(&[7; 145]), &[&[7; 145]]),
+    (Answer::Attribute(&[7; 200]), &[&[7; 200]]),
+];
+
+/// Each answer carries its payload.
+fn expect_payloads(rt: &(impl Abort + AllocGlobal), rows: &[(Answer, Parts)]) {
+    for (answer, payload) in rows {
+        carries(rt, rt.alloc(), replied(rt, rt.alloc(), answer), payload);
     }
 }
 
 #[test]
-fn answers_by_a_block_or_a_place(rt: HostRuntime) {
-    let alloc = rt.alloc();
-    for (block, offset, payload) in [
-        (0, 0, [0; 8]),
-        (0x1234, 0x1234, [0x34, 0x12, 0, 0, 0, 0, 0, 0]),
-        (
-            0x7fff_ffff_ffff_ffff,
-            i64::MAX,
-            [0xff, 0xff, 0xff, 0xff, 0xff, 0xff, 0xff, 0x7f],
-        ),
-        (0x8000_0000_0000_0000, i64::MIN, [0, 0, 0, 0, 0, 0, 0, 0x80]),
-        (u64::MAX, -1, [0xff; 8]),
-    ] {
-        let lies = ReplyBmap::new(alloc, ID).bmap(block);
-        carries(&rt, alloc, lies.into_out(), &payload);
-        let found = ReplyLseek::new(alloc, ID).offset(offset);
-        carries(&rt, alloc, found.into_out(), &payload);
-    }
-}
-
-#[test]
-fn answers_by_the_fill_of_a_filesystem(rt: HostRuntime) {
-    let alloc = rt.alloc();
-    let fill = ReplyStatfs::new(alloc, ID).statfs(0x11, 0x22, 0x33, 0x44, 0x55, 0x66, 0x77, 0x88);
-    let mut payload = [0; 80];
-    let places = [
-        (0, 0x11),
-        (8, 0x22),
-        (16, 0x33),
-        (24, 0x44),
-        (32, 0x55),
-        (40, 0x66),
-        (44, 0x77),
-        (48, 0x88),
-    ];
-    for (at, byte) in places {
-        payload[at] = byte;
-    }
-    carries(&rt, alloc, fill.into_out(), &payload);
-    let most = ReplyStatfs::new(alloc, ID).statfs(
-        u64::MAX,
-        u64::MAX,
-        u64::MAX,
-        u64::MAX,
-        u64::MAX,
-        u32::MAX,
-        u32::MAX,
-        u32::MAX,
-    );
-    let mut payload = [0xff; 80];
-    payload[52..].copy_from_slice(&[0; 28]);
-    carries(&rt, alloc, most.into_out(), &payload);
-}
-
-#[test]
-fn answers_by_a_lock(rt: HostRuntime) {
-    let alloc = rt.alloc();
-    let lock = ReplyLock::new(alloc, ID).locked(0x11, 0x22, 0x33, 0x44);
-    let payload = [
-        0x11, 0, 0, 0, 0, 0, 0, 0, 0x22, 0, 0, 0, 0, 0, 0, 0, 0x33, 0, 0, 0, 0x44, 0, 0, 0,
-    ];
-    carries(&rt, alloc, lock.into_out(), &payload);
-    let lock = ReplyLock::new(alloc, ID).locked(0, u64::MAX, -2, u32::MAX);
-    let payload = [
-        0, 0, 0, 0, 0, 0, 0, 0, 0xff, 0xff, 0xff, 0xff, 0xff, 0xff, 0xff, 0xff, 0xfe, 0xff, 0xff,
-        0xff, 0xff, 0xff, 0xff, 0xff,
-    ];
-    carries(&rt, alloc, lock.into_out(), &payload);
-}
-
-#[test]
-fn answers_by_the_result_of_an_ioctl(rt: HostRuntime) {
-    let alloc = rt.alloc();
-    for (code, front) in [
-        (0, [0, 0, 0, 0]),
-        (i32::MAX, [0xff, 0xff, 0xff, 0x7f]),
-        (-2, [0xfe, 0xff, 0xff, 0xff]),
-        (i32::MIN, [0, 0, 0, 0x80]),
-    ] {
-        let reply = ReplyIoctl::new(alloc, ID).ioctl(code, &[7]);
-        let mut payload = [0, 0, 0, 0, 0, 0, 0, 0, 1, 0, 0, 0, 1, 0, 0, 0, 7];
-        payload[..4].copy_from_slice(&front);
-        carries(&rt, alloc, reply.into_out(), &payload);
-    }
-}
-
-#[test]
-fn answers_by_what_an_ioctl_gives_back(rt: HostRuntime) {
-    let alloc = rt.alloc();
-    for (count, length) in [(0, 16), (127, 143), (128, 144), (129, 145), (200, 216)] {
-        let reply = ReplyIoctl::new(alloc, ID).ioctl(9, &[7; 200][..count]);
-        let mut payload = [7; 216];
-        payload[..16].copy_from_slice(&[9, 0, 0, 0, 0, 0, 0, 0, 1, 0, 0, 0, 1, 0, 0, 0]);
-        carries(&rt, alloc, reply.into_out(), &payload[..length]);
-    }
-}
-
-#[test]
-fn answers_by_an_extended_attribute(rt: HostRuntime) {
-    let alloc = rt.alloc();
-    let reply = ReplyXattr::new(alloc, ID).data(&[0x11, 0x22, 0x33, 0x44]);
-    carries(&rt, alloc, reply.into_out(), &[0x11, 0x22, 0x33, 0x44]);
-    for count in [0, 1, 143, 144, 145, 200] {
-        let reply = ReplyXattr::new(alloc, ID).data(&[7; 200][..count]);
-        carries(&rt, alloc, reply.into_out(), &[7; 200][..count]);
-    }
+fn each_answer_carries_its_payload(rt: HostRuntime) {
+    expect_payloads(&rt, RECORDS);
+    expect_payloads(&rt, WORDS);
+    expect_payloads(&rt, PLACES);
+    expect_payloads(&rt, IOCTLS);
+    expect_payloads(&rt, EXTENDED);
 }

@@ -13,6 +13,8 @@ mod end_mark_tests;
 #[cfg(test)]
 mod fixed_tests;
 #[cfg(test)]
+mod frames;
+#[cfg(test)]
 mod stream_tests;
 #[cfg(test)]
 mod tests;

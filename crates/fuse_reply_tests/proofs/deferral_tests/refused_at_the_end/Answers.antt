@@ -13,16 +13,8 @@ send-requires g c =
     frame_for c.reply-reply.result.1.id.0 Empty c.ok.result
     (c.ok.ensures ∙ ap (λ (n : ℕ). Frame (reply n Empty)) c.reply-reply.ensures.id) tt
 
-pub send_or_retire-requires : goal.send_or_retire-requires
-send_or_retire-requires g c =
-    let same : c.in-Err-Full.token.id.0 ≡ c.reply-reply.result.1.id.0 = search rules in
-    let is : c.in-Err-Full.replied ≡ c.ok.result = search rules in
-    let sent : IsFrameFor c.reply-reply.result.1.id.0 c.ok.result = frame_for c.reply-reply.result.1.id.0 Empty c.ok.result
-    (c.ok.ensures ∙ ap (λ (n : ℕ). Frame (reply n Empty)) c.reply-reply.ensures.id) tt in
-    came_back c.reply-reply.result.1.id.0 c.in-Err-Full.token.id.0 c.ok.result c.in-Err-Full.replied same is sent
-
-pub returns-in-Err-Closed-clause-replied : goal.returns-in-Err-Closed-clause-replied
-returns-in-Err-Closed-clause-replied g c =
+pub returns-clause-replied : goal.returns-clause-replied
+returns-clause-replied g c =
     let same : c.in-Err-Closed.token.id.0 ≡ c.reply-reply.result.1.id.0 = search rules in
     let is : c.in-Err-Closed.replied ≡ c.ok.result = search rules in
     let sent : IsFrameFor c.reply-reply.result.1.id.0 c.ok.result = frame_for c.reply-reply.result.1.id.0 Empty c.ok.result
