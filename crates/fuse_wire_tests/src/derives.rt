@@ -22,64 +22,18 @@ fn is_equal<T: Eq + Debug>() {}
 fn is_shown<T: Debug>() {}
 
 #[test]
-fn numbers_and_times_are_ordered() {
-    is_ordered::<Generation>();
-    is_ordered::<RequestId>();
-    is_ordered::<INodeNo>();
-    is_ordered::<FileHandle>();
-    is_ordered::<LockOwner>();
-    is_ordered::<PollHandle>();
-    is_ordered::<Version>();
-    is_ordered::<SystemTime>();
-    is_ordered::<Duration>();
-}
-
-#[test]
-fn kinds_and_flags_are_hashed() {
-    is_hashed::<FileType>();
-    is_hashed::<TimeOrNow>();
-    is_hashed::<OpenAccMode>();
-    is_hashed::<OpenFlags>();
-    is_hashed::<AccessFlags>();
-    is_hashed::<BsdFileFlags>();
-    is_hashed::<PollEvents>();
-    is_hashed::<RenameFlags>();
-    is_hashed::<CopyFileRangeFlags>();
-    is_hashed::<FopenFlags>();
-    is_hashed::<FsyncFlags>();
-    is_hashed::<InitFlags>();
-    is_hashed::<IoctlFlags>();
-    is_hashed::<PollFlags>();
-    is_hashed::<WriteFlags>();
-    is_hashed::<CuseInitFlags>();
-    is_hashed::<FattrFlags>();
-    is_hashed::<GetattrFlags>();
-    is_hashed::<ReadFlags>();
-    is_hashed::<ReleaseFlags>();
-}
-
-#[test]
-fn errors_attributes_and_answers_are_compared() {
-    is_compared::<Errno>();
-    is_compared::<FileAttr>();
-    is_compared::<NoMemory>();
-    is_compared::<Received>();
-    is_compared::<Sending>();
-    is_compared::<Noting>();
-    is_compared::<ByteRead>();
-    is_compared::<ByteWrite>();
+fn types_are_what_they_derive() {
+    is_ordered::<(Generation, RequestId, INodeNo, FileHandle)>();
+    is_ordered::<(LockOwner, PollHandle, Version, SystemTime, Duration)>();
+    is_hashed::<(FileType, TimeOrNow, OpenAccMode, OpenFlags, AccessFlags)>();
+    is_hashed::<(BsdFileFlags, PollEvents, RenameFlags, CopyFileRangeFlags)>();
+    is_hashed::<(FopenFlags, FsyncFlags, InitFlags, IoctlFlags, PollFlags)>();
+    is_hashed::<(WriteFlags, CuseInitFlags, FattrFlags, GetattrFlags)>();
+    is_hashed::<(ReadFlags, ReleaseFlags)>();
+    is_compared::<(Errno, FileAttr, NoMemory, Received)>();
+    is_compared::<(Sending, Noting, ByteRead, ByteWrite)>();
     is_equal::<Items<u8>>();
-}
-
-#[test]
-fn devices_are_shown() {
-    is_shown::<Turn>();
-    is_shown::<MemorySource>();
-    is_shown::<MemorySink>();
-    is_shown::<MemoryBytes>();
-    is_shown::<MemoryOut>();
-    is_shown::<StdSource<Empty>>();
-    is_shown::<StdSink<Sink>>();
-    is_shown::<StreamSource<MemoryBytes>>();
-    is_shown::<StreamSink<MemoryOut>>();
+    is_shown::<(Turn, MemorySource, MemorySink, MemoryBytes, MemoryOut)>();
+    is_shown::<(StdSource<Empty>, StdSink<Sink>)>();
+    is_shown::<(StreamSource<MemoryBytes>, StreamSink<MemoryOut>)>();
 }

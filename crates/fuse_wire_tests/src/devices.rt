@@ -1,5 +1,4 @@
 //! Devices in memory, those of std, and frames on a stream.
-ghost use Rattle.std.specs.Prelude.{◌≤◌};
 ghost use Rattle.fuse_wire.specs.MemorySink.{EachFails, NumbersDiffer};
 
 use crate::asserts::expect_same;
@@ -7,54 +6,10 @@ use fuse_wire::{
     ByteRead, ByteSink, ByteSource, ByteWrite, Items, MemoryBytes, MemoryOut, MemorySink, Noting,
     RequestId, Sending, Sink, StdSink, StdSource, StreamSink,
 };
-use std::alloc::{AllocError, Global};
+use std::alloc::Global;
 use std::io;
 use std::io::{Cursor, Read, Write};
 use std::process::Abort;
-
-/// How many bytes are read at once, and what each of five reads gives, with the piece that it reads into. The second
-/// read fails.
-const READS: &[(usize, &[(ByteRead, [u8; 4])])] = &[
-    (
-        1,
-        &[
-            (ByteRead::Got(1), [1, 0, 0, 0]),
-            (ByteRead::Failed, [0; 4]),
-            (ByteRead::Got(1), [2, 0, 0, 0]),
-            (ByteRead::Got(1), [3, 0, 0, 0]),
-            (ByteRead::End, [0; 4]),
-        ],
-    ),
-    (
-        7,
-        &[
-            (ByteRead::Got(3), [1, 2, 3, 0]),
-            (ByteRead::Failed, [0; 4]),
-            (ByteRead::End, [0; 4]),
-            (ByteRead::End, [0; 4]),
-            (ByteRead::End, [0; 4]),
-        ],
-    ),
-    (
-        2,
-        &[
-            (ByteRead::Got(2), [1, 2, 0, 0]),
-            (ByteRead::Failed, [0; 4]),
-            (ByteRead::Got(1), [3, 0, 0, 0]),
-            (ByteRead::End, [0; 4]),
-            (ByteRead::End, [0; 4]),
-        ],
-    ),
-];
-
-/// Three bytes, so many at once, of which the second read fails.
-fn failing_bytes(alloc: Global, step: usize) -> Result<MemoryBytes, AllocError>
-    requires { 1 ≤ step }
-{
-    let bytes = Vec::from_slice(alloc, &[1, 2, 3])?;
-    let faults = Vec::from_slice(alloc, &[9, 2, 2])?;
-    Ok(MemoryBytes::new(bytes, step, faults))
-}
 
 /// What a read gives, with a piece of four bytes.
 fn read(stream: &mut MemoryBytes) -> (ByteRead, [u8; 4]) {
@@ -63,68 +18,18 @@ fn read(stream: &mut MemoryBytes) -> (ByteRead, [u8; 4]) {
     (answer, piece)
 }
 
-/// Three bytes, so many at once, are read so.
-fn expect_reads(
-    rt: &(impl Abort + AllocGlobal),
-    step: usize,
-    reads: &[(ByteRead, [u8; 4])],
-) -> Result<(), AllocError> {
-    let mut stream = failing_bytes(rt.alloc(), step.max(1))?;
+/// The stream is read so.
+fn expect_reads(rt: &impl Abort, stream: &mut MemoryBytes, reads: &[(ByteRead, [u8; 4])]) {
     for expected in reads {
-        let found = read(&mut stream);
-        expect_same(rt, &(step, found), &(step, *expected));
+        expect_same(rt, &read(stream), expected);
     }
-    Ok(())
 }
 
-#[test]
-fn fails_at_the_reads_that_are_listed(rt: HostRuntime) -> Result<(), AllocError> {
-    for (step, reads) in READS {
-        expect_reads(&rt, *step, reads)?;
-    }
-    Ok(())
-}
-
-/// How many bytes are written at once, what each of four writes of three bytes does, and the bytes that were written.
-const WRITES: &[(usize, [ByteWrite; 4], &[u8])] = &[
-    (
-        1,
-        [
-            ByteWrite::Wrote(1),
-            ByteWrite::Failed,
-            ByteWrite::Wrote(1),
-            ByteWrite::Failed,
-        ],
-        &[1, 1],
-    ),
-    (
-        2,
-        [
-            ByteWrite::Wrote(2),
-            ByteWrite::Failed,
-            ByteWrite::Wrote(2),
-            ByteWrite::Failed,
-        ],
-        &[1, 2, 1, 2],
-    ),
-    (
-        7,
-        [
-            ByteWrite::Wrote(3),
-            ByteWrite::Failed,
-            ByteWrite::Wrote(3),
-            ByteWrite::Failed,
-        ],
-        &[1, 2, 3, 1, 2, 3],
-    ),
-];
-
-/// A stream that takes so many bytes at once, of which the second and the fourth write fail.
-fn failing_out(alloc: Global, step: usize) -> Result<MemoryOut, AllocError>
-    requires { 1 ≤ step }
-{
-    let faults = Vec::from_slice(alloc, &[4, 2])?;
-    Ok(MemoryOut::new(alloc, step, faults))
+/// Three bytes, so many at once, of which the second read fails, are read so.
+fn expect_failing(rt: &impl Abort, alloc: Global, step: usize, reads: &[(ByteRead, [u8; 4])]) {
+    let bytes = Vec::from_slice(alloc, &[1, 2, 3]).expect(rt, "there is memory");
+    let faults = Vec::from_slice(alloc, &[9, 2, 2]).expect(rt, "there is memory");
+    expect_reads(rt, &mut MemoryBytes::new(bytes, step.max(1), faults), reads);
 }
 
 /// What four writes of three bytes do.
@@ -137,15 +42,22 @@ fn four_writes(stream: &mut MemoryOut) -> [ByteWrite; 4] {
     ]
 }
 
-#[test]
-fn a_write_that_fails_keeps_the_bytes_before(rt: HostRuntime) -> Result<(), AllocError> {
-    for (step, answers, written) in WRITES {
-        let mut stream = failing_out(rt.alloc(), (*step).max(1))?;
-        let found = four_writes(&mut stream);
-        expect_same(&rt, &(*step, found), &(*step, *answers));
-        expect_same(&rt, &(stream.bytes(), stream.starved()), &(*written, 0));
-    }
-    Ok(())
+/// A stream that takes so many bytes at once, of which the second and the fourth write fail, is written so.
+fn expect_writes(
+    rt: &impl Abort,
+    alloc: Global,
+    step: usize,
+    answers: &[ByteWrite; 4],
+    written: &[u8],
+) {
+    let faults = Vec::from_slice(alloc, &[4, 2]).expect(rt, "there is memory");
+    let mut stream = MemoryOut::new(alloc, step.max(1), faults);
+    let found = four_writes(&mut stream);
+    expect_same(
+        rt,
+        &(found, stream.bytes(), stream.starved()),
+        &(*answers, written, 0),
+    );
 }
 
 /// Sends a frame and a note.
@@ -155,23 +67,31 @@ fn frame_and_note(sink: &mut MemorySink) -> (Sending, Noting) {
     (sink.send(&header, &[7, 8]), sink.note(RequestId(3), 4))
 }
 
-/// The one frame that the sink took. Else none.
-fn one_frame(sink: &MemorySink) -> &[u8] {
-    match sink.frames() {
+/// The frames that the sink took, and no other, are these.
+fn expect_frame(rt: &impl Abort, sink: &MemorySink, expected: &[u8]) {
+    let frame = match sink.frames() {
         [frame] => frame.as_slice(),
         _ => &[],
-    }
+    };
+    expect_same(rt, &frame, &expected);
 }
+
+/// The notes that it took.
+const NOTES: &[(RequestId, u64)] = &[(RequestId(3), 4)];
+
+/// The frame that it took.
+const FRAME: &[u8] = &[18, 0, 0, 0, 1, 1, 1, 1, 1, 1, 1, 1, 1, 1, 1, 1, 7, 8];
 
 #[test]
 fn keeps_frames_and_notes(rt: HostRuntime) {
     let mut sink = MemorySink::new(rt.alloc(), Vec::new(rt.alloc()));
-    let answers = frame_and_note(&mut sink);
-    expect_same(&rt, &answers, &(Sending::Sent, Noting::Sent));
-    let notes = [(RequestId(3), 4)];
-    expect_same(&rt, &(sink.notes(), sink.starved()), &(notes.as_slice(), 0));
-    let expected = [18, 0, 0, 0, 1, 1, 1, 1, 1, 1, 1, 1, 1, 1, 1, 1, 7, 8];
-    expect_same(&rt, &one_frame(&sink), &expected.as_slice());
+    let (sent, noted) = frame_and_note(&mut sink);
+    expect_same(
+        &rt,
+        &(sent, noted, sink.notes(), sink.starved()),
+        &(Sending::Sent, Noting::Sent, NOTES, 0),
+    );
+    expect_frame(&rt, &sink, FRAME);
 }
 
 /// What a note and a send after it are answered.
@@ -206,46 +126,37 @@ fn three_sends(sink: &mut MemorySink) -> [(Noting, Sending); 3] {
     ]
 }
 
-/// Three sends of one payload byte each are answered so, with a note before each, where these fail; the bytes that were
-/// taken are these.
-fn expect_answers(
-    rt: &impl Abort,
-    alloc: Global,
-    faults: &[(u64, Sending)],
-    answers: [(Noting, Sending); 3],
-    taken: &[u8],
-) -> Result<(), AllocError>
+/// How three sends are answered, and the bytes of those that were taken.
+type Answers = ([(Noting, Sending); 3], &'static [u8]);
+
+/// Three sends of one payload byte each are answered so, with a note before each, where these fail.
+fn expect_answers(rt: &impl Abort, alloc: Global, faults: &[(u64, Sending)], answers: &Answers)
     requires numbers { NumbersDiffer faults.now }
     requires answers { EachFails faults.now }
 {
-    let faults = Vec::from_slice(alloc, faults)?;
+    let faults = Vec::from_slice(alloc, faults).expect(rt, "there is memory");
     let mut sink = MemorySink::new(alloc, faults);
-    expect_same(rt, &three_sends(&mut sink), &answers);
-    expect_taken(rt, &sink, taken);
-    Ok(())
+    expect_same(rt, &three_sends(&mut sink), &answers.0);
+    expect_taken(rt, &sink, answers.1);
 }
 
+const ALL_SENT: &Answers = &([SENT, SENT, SENT], &[0, 1, 2]);
+
+const SECOND_FAILED: &Answers = &([SENT, FAILED, SENT], &[0, 2]);
+
+const SECOND_ABSENT: &Answers = &([SENT, ABSENT, SENT], &[0, 2]);
+
+const SECOND_ALONE_SENT: &Answers = &([ABSENT, SENT, FAILED], &[1]);
+
 #[test]
-fn answers_as_the_list_says(rt: HostRuntime) -> Result<(), AllocError> {
+fn answers_as_the_list_says(rt: HostRuntime) {
     use Sending::{Absent, Failed};
     let alloc = rt.alloc();
-    expect_answers(&rt, alloc, &[], [SENT, SENT, SENT], &[0, 1, 2])?;
-    expect_answers(&rt, alloc, &[(2, Failed)], [SENT, FAILED, SENT], &[0, 2])?;
-    expect_answers(&rt, alloc, &[(2, Absent)], [SENT, ABSENT, SENT], &[0, 2])?;
-    expect_answers(
-        &rt,
-        alloc,
-        &[(3, Failed), (1, Absent)],
-        [ABSENT, SENT, FAILED],
-        &[1],
-    )?;
-    expect_answers(
-        &rt,
-        alloc,
-        &[(0, Failed), (4, Failed)],
-        [SENT, SENT, SENT],
-        &[0, 1, 2],
-    )
+    expect_answers(&rt, alloc, &[], ALL_SENT);
+    expect_answers(&rt, alloc, &[(2, Failed)], SECOND_FAILED);
+    expect_answers(&rt, alloc, &[(2, Absent)], SECOND_ABSENT);
+    expect_answers(&rt, alloc, &[(3, Failed), (1, Absent)], SECOND_ALONE_SENT);
+    expect_answers(&rt, alloc, &[(0, Failed), (4, Failed)], ALL_SENT);
 }
 
 /// Sends a frame, a note and a frame without a payload, and says whether the stream is broken then.
@@ -261,24 +172,26 @@ fn two_frames(sink: &mut StreamSink<MemoryOut>) -> (Sending, Noting, Sending, bo
     )
 }
 
-#[test]
-fn writes_frames_joined(rt: HostRuntime) {
-    for step in [1, 1000] {
-        let out = MemoryOut::new(rt.alloc(), step, Vec::new(rt.alloc()));
-        let mut sink = StreamSink::new(out);
-        let answers = two_frames(&mut sink);
-        expect_same(
-            &rt,
-            &answers,
-            &(Sending::Sent, Noting::Sent, Sending::Sent, false),
-        );
-        let expected = [
-            18, 0, 0, 0, 1, 1, 1, 1, 1, 1, 1, 1, 1, 1, 1, 1, 7, 8, 16, 0, 0, 0, 2, 2, 2, 2, 2, 2,
-            2, 2, 2, 2, 2, 2,
-        ];
-        let found = sink.into_inner();
-        expect_same(&rt, &(step, found.bytes()), &(step, expected.as_slice()));
-    }
+/// What stands on the stream then.
+const TWO_FRAMES: &[u8] = &[
+    18, 0, 0, 0, 1, 1, 1, 1, 1, 1, 1, 1, 1, 1, 1, 1, 7, 8, 16, 0, 0, 0, 2, 2, 2, 2, 2, 2, 2, 2, 2,
+    2, 2, 2,
+];
+
+/// The frames stand joined on a stream that takes so many bytes at once.
+fn expect_joined(rt: &impl Abort, alloc: Global, step: usize) {
+    let out = MemoryOut::new(alloc, step.max(1), Vec::new(alloc));
+    let mut sink = StreamSink::new(out);
+    let answers = two_frames(&mut sink);
+    let found = sink.into_inner();
+    expect_same(
+        rt,
+        &(answers, found.bytes()),
+        &(
+            (Sending::Sent, Noting::Sent, Sending::Sent, false),
+            TWO_FRAMES,
+        ),
+    );
 }
 
 /// What stands on the stream where all of three frames were written.
@@ -308,47 +221,143 @@ fn three_frames(sink: &mut StreamSink<MemoryOut>) -> [Sending; 3] {
     ]
 }
 
-/// Sends the three frames over a stream that takes so many bytes before a write fails: the frames that end there
-/// were sent, each later send is refused, and just these bytes stand on the stream.
-fn expect_written(rt: &impl Abort, out: MemoryOut, written: usize) {
-    let mut sink = StreamSink::new(out);
+/// Sends the three frames over a stream that takes so many bytes at once, where this write fails: the frames that end
+/// in the bytes before it were sent, each later send is refused, and just these bytes stand on the stream.
+fn expect_written(rt: &impl Abort, alloc: Global, step: usize, fault: u64, written: usize) {
+    let faults = Vec::from_slice(alloc, &[fault]).expect(rt, "there is memory");
+    let mut sink = StreamSink::new(MemoryOut::new(alloc, step.max(1), faults));
     let answers = three_frames(&mut sink);
-    let expected = [sent(18, written), sent(34, written), sent(52, written)];
     let broken = sink.broken();
     let found = sink.into_inner();
-    expect_same(rt, &(answers, broken), &(expected, written < 52));
-    expect_same(rt, &Some(found.bytes()), &FRAMES.get(..written));
+    let expected = [sent(18, written), sent(34, written), sent(52, written)];
+    expect_same(
+        rt,
+        &(answers, broken, Some(found.bytes())),
+        &(expected, written < 52, FRAMES.get(..written)),
+    );
 }
 
-/// How many bytes are written at once, the write that fails, and how many bytes are written before it.
-const FAULTS: &[(usize, u64, usize)] = &[
-    (1000, 1, 0),
-    (1000, 2, 16),
-    (1000, 3, 18),
-    (1000, 4, 34),
-    (1000, 5, 50),
-    (1000, 6, 52),
-    (7, 1, 0),
-    (7, 2, 7),
-    (7, 3, 14),
-    (7, 4, 16),
-    (7, 5, 18),
-    (7, 6, 25),
-    (7, 9, 41),
+/// What a device does that takes or gives so many bytes at once.
+enum Case {
+    /// Five reads of three bytes give this, with the piece that each reads into. The second fails.
+    Reads(usize, &'static [(ByteRead, [u8; 4])]),
+    /// Four writes of three bytes do this, of which the second and the fourth fail, and these bytes are written.
+    Writes(usize, [ByteWrite; 4], &'static [u8]),
+    /// Two frames stand joined on the stream.
+    Frames(usize),
+    /// This write of three frames fails, and so many bytes are written before it.
+    Fault(usize, u64, usize),
+}
+
+const STREAMS: &[Case] = &[
+    Case::Reads(
+        1,
+        &[
+            (ByteRead::Got(1), [1, 0, 0, 0]),
+            (ByteRead::Failed, [0; 4]),
+            (ByteRead::Got(1), [2, 0, 0, 0]),
+            (ByteRead::Got(1), [3, 0, 0, 0]),
+            (ByteRead::End, [0; 4]),
+        ],
+    ),
+    Case::Reads(
+        7,
+        &[
+            (ByteRead::Got(3), [1, 2, 3, 0]),
+            (ByteRead::Failed, [0; 4]),
+            (ByteRead::End, [0; 4]),
+            (ByteRead::End, [0; 4]),
+            (ByteRead::End, [0; 4]),
+        ],
+    ),
+    Case::Reads(
+        2,
+        &[
+            (ByteRead::Got(2), [1, 2, 0, 0]),
+            (ByteRead::Failed, [0; 4]),
+            (ByteRead::Got(1), [3, 0, 0, 0]),
+            (ByteRead::End, [0; 4]),
+            (ByteRead::End, [0; 4]),
+        ],
+    ),
+    Case::Writes(
+        1,
+        [
+            ByteWrite::Wrote(1),
+            ByteWrite::Failed,
+            ByteWrite::Wrote(1),
+            ByteWrite::Failed,
+        ],
+        &[1, 1],
+    ),
+    Case::Writes(
+        2,
+        [
+            ByteWrite::Wrote(2),
+            ByteWrite::Failed,
+            ByteWrite::Wrote(2),
+            ByteWrite::Failed,
+        ],
+        &[1, 2, 1, 2],
+    ),
+    Case::Writes(
+        7,
+        [
+            ByteWrite::Wrote(3),
+            ByteWrite::Failed,
+            ByteWrite::Wrote(3),
+            ByteWrite::Failed,
+        ],
+        &[1, 2, 3, 1, 2, 3],
+    ),
+    Case::Frames(1),
+    Case::Frames(1000),
 ];
 
+const FAULTS: &[Case] = &[
+    Case::Fault(1000, 1, 0),
+    Case::Fault(1000, 2, 16),
+    Case::Fault(1000, 3, 18),
+    Case::Fault(1000, 4, 34),
+    Case::Fault(1000, 5, 50),
+    Case::Fault(1000, 6, 52),
+    Case::Fault(7, 1, 0),
+    Case::Fault(7, 2, 7),
+    Case::Fault(7, 3, 14),
+    Case::Fault(7, 4, 16),
+    Case::Fault(7, 5, 18),
+    Case::Fault(7, 6, 25),
+    Case::Fault(7, 9, 41),
+];
+
+/// The device does what the case says.
+fn expect_case(rt: &impl Abort, alloc: Global, case: &Case) {
+    match case {
+        Case::Reads(step, reads) => expect_failing(rt, alloc, *step, reads),
+        Case::Writes(step, answers, written) => expect_writes(rt, alloc, *step, answers, written),
+        Case::Frames(step) => expect_joined(rt, alloc, *step),
+        Case::Fault(step, fault, written) => expect_written(rt, alloc, *step, *fault, *written),
+    }
+}
+
+/// Each device does what its case says.
+fn expect_cases(rt: &(impl Abort + AllocGlobal), cases: &[Case]) {
+    for case in cases {
+        expect_case(rt, rt.alloc(), case);
+    }
+}
+
 #[test]
-fn nothing_is_written_after_a_write_that_failed(rt: HostRuntime) -> Result<(), AllocError> {
-    let alloc = rt.alloc();
-    for (step, fault, written) in FAULTS {
-        let faults = Vec::from_slice(alloc, &[*fault])?;
-        expect_written(&rt, MemoryOut::new(alloc, (*step).max(1), faults), *written);
-    }
+fn streams_fail_where_they_are_to(rt: HostRuntime) {
+    expect_cases(&rt, STREAMS);
+    expect_cases(&rt, FAULTS);
+}
+
+#[test]
+fn each_byte_is_a_write_that_may_fail(rt: HostRuntime) {
     for written in 0..=52 {
-        let faults = Vec::from_slice(alloc, &[written as u64 + 1])?;
-        expect_written(&rt, MemoryOut::new(alloc, 1, faults), written);
+        expect_written(&rt, rt.alloc(), 1, written as u64 + 1, written);
     }
-    Ok(())
 }
 
 #[test]
@@ -357,9 +366,15 @@ fn reads_a_slice(rt: HostRuntime) {
     let mut source = StdSource::new(bytes);
     let mut piece = [0; 2];
     let first = (source.read(&mut piece), piece);
-    expect_same(&rt, &first, &(ByteRead::Got(2), [1, 2]));
     let second = (source.read(&mut piece), piece[0], source.read(&mut piece));
-    expect_same(&rt, &second, &(ByteRead::Got(1), 3, ByteRead::End));
+    expect_same(
+        &rt,
+        &(first, second),
+        &(
+            (ByteRead::Got(2), [1, 2]),
+            (ByteRead::Got(1), 3, ByteRead::End),
+        ),
+    );
 }
 
 /// A reader whose first read is interrupted, and that gives a byte at each later one.
@@ -416,8 +431,14 @@ fn writes_to_a_vector(rt: HostRuntime) {
     let mut bytes = Vec::new(rt.alloc());
     let mut sink = StdSink::new(&mut bytes);
     let answers = [sink.write(&[1, 2]), sink.write(&[3])];
-    expect_same(&rt, &answers, &[ByteWrite::Wrote(2), ByteWrite::Wrote(1)]);
-    expect_same(&rt, &bytes.as_slice(), &[1, 2, 3].as_slice());
+    expect_same(
+        &rt,
+        &(answers, bytes.as_slice()),
+        &(
+            [ByteWrite::Wrote(2), ByteWrite::Wrote(1)],
+            [1, 2, 3].as_slice(),
+        ),
+    );
 }
 
 #[test]

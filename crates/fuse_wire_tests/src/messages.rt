@@ -10,215 +10,230 @@ use fuse_wire::{
 use std::alloc::{AllocError, Global};
 use std::process::Abort;
 
-/// The length field of each message, and how many bytes of it there are: one is shorter than a header says that it is,
-/// one longer than the others, and the last ends where the stream does.
-const MESSAGES: &[(u32, usize)] = &[(48, 48), (39, 40), (1000, 1000), (64, 50)];
+/// What a source answers, and the length field of the message, where it gives one.
+type Answer = (u32, Received);
 
-/// The bytes of one message.
-fn message(alloc: Global, field: u32, size: usize) -> Result<Vec<u8>, AllocError> {
-    let mut bytes = Vec::new(alloc);
+/// Puts the bytes of a message behind others.
+fn push_message(bytes: &mut Vec<u8>, field: u32, size: usize) -> Result<(), AllocError> {
     bytes.extend_from_slice(&field.to_le_bytes())?;
     for place in 4..size {
         bytes.push((place % 251) as u8)?;
     }
-    Ok(bytes)
-}
-
-/// The messages of the table.
-fn messages(alloc: Global) -> Result<Vec<Vec<u8>>, AllocError> {
-    let mut messages = Vec::new(alloc);
-    for (field, size) in MESSAGES {
-        messages.push(message(alloc, *field, *size)?)?;
-    }
-    Ok(messages)
-}
-
-/// The source gives this message.
-fn expect_message<S: Source>(rt: &impl Abort, source: &mut S, buffer: &mut [u8], message: &[u8])
-    requires { length buffer.old ≡ BUFFER_SIZE }
-    ensures { length buffer.new ≡ BUFFER_SIZE }
-{
-    let answer = source.receive(buffer);
-    expect_same(rt, &answer, &Message(message.len()));
-    expect_same(rt, &buffer.get(..message.len()), &Some(message));
-}
-
-/// The source gives these messages, and then no more.
-fn expect_messages<S: Source>(
-    rt: &impl Abort,
-    source: &mut S,
-    buffer: &mut [u8],
-    messages: &[Vec<u8>],
-)
-    requires { length buffer.old ≡ BUFFER_SIZE }
-{
-    for message in messages {
-        expect_message(rt, source, buffer, message);
-    }
-    expect_same(rt, &source.receive(buffer), &Gone);
-}
-
-/// The bytes of the messages, joined.
-fn joined(alloc: Global, messages: &[Vec<u8>]) -> Result<Vec<u8>, AllocError> {
-    let mut bytes = Vec::new(alloc);
-    for message in messages {
-        bytes.extend_from_slice(message)?;
-    }
-    Ok(bytes)
-}
-
-/// These bytes, so many at a time, are cut into these messages.
-fn expect_cut(
-    rt: &impl Abort,
-    alloc: Global,
-    step: usize,
-    buffer: &mut [u8],
-    messages: &[Vec<u8>],
-) -> Result<(), AllocError>
-    requires { length buffer.old ≡ BUFFER_SIZE }
-    ensures { length buffer.new ≡ BUFFER_SIZE }
-{
-    let stream = MemoryBytes::new(joined(alloc, messages)?, step.max(1), Vec::new(alloc));
-    let mut source = StreamSource::new(stream);
-    expect_messages(rt, &mut source, buffer, messages);
-    drop(source.into_inner());
     Ok(())
 }
 
-#[test]
-fn a_stream_is_cut_by_its_length_fields(rt: HostRuntime) {
-    let alloc = rt.alloc();
-    let messages = messages(alloc).expect(&rt, "there is memory");
-    let mut room = receive_buffer(alloc).expect(&rt, "there is memory");
-    let buffer = room.as_mut_slice();
-    for step in [1, 7, 1000] {
-        expect_cut(&rt, alloc, step, buffer, &messages).expect(&rt, "there is memory");
-    }
-}
-
-/// A source of these messages.
-fn source_of(alloc: Global, messages: &[Vec<u8>]) -> Result<MemorySource, AllocError> {
-    let mut turns = Vec::new(alloc);
-    for message in messages {
-        turns.push(Turn::Message(Items::from_vec(message.clone()?)))?;
-    }
-    Ok(MemorySource::new(turns))
-}
-
-#[test]
-fn memory_gives_its_turns(rt: HostRuntime) {
-    let messages = messages(rt.alloc()).expect(&rt, "there is memory");
-    let mut source = source_of(rt.alloc(), &messages).expect(&rt, "there is memory");
-    let mut buffer = receive_buffer(rt.alloc()).expect(&rt, "there is memory");
-    expect_messages(&rt, &mut source, &mut buffer, &messages);
-}
-
-/// What each turn of a source in memory gives: a Retry before a message changes nothing, and a Fail takes no message.
-/// After the last turn there is no more.
-const ANSWERS: &[&[Received]] = &[
-    &[Retry, Message(48), Retry, Message(40), Retry, Gone, Gone],
-    &[Message(48), Retry, Failed, Gone, Gone],
-    &[Failed, Gone, Gone],
-    &[Message(40), Failed, Message(48), Failed, Gone, Gone],
-    &[Failed, Failed, Retry, Message(1000), Gone, Gone],
-    &[Gone, Gone],
-];
-
-/// The turns of a source in memory that give these answers.
-fn turns(alloc: Global, answers: &[Received]) -> Result<Vec<Turn>, AllocError> {
-    let mut turns = Vec::new(alloc);
-    for answer in answers {
-        turns.push(match answer {
-            Message(size) => Turn::Message(Items::from_vec(message(alloc, 7, *size)?)),
-            Retry => Turn::Retry,
-            Failed => Turn::Fail,
-            Gone => continue,
-        })?;
-    }
-    Ok(turns)
+/// The bytes of one message.
+fn message(rt: &impl Abort, alloc: Global, field: u32, size: usize) -> Vec<u8> {
+    let mut bytes = Vec::new(alloc);
+    push_message(&mut bytes, field, size).expect(rt, "there is memory");
+    bytes
 }
 
 /// The source answers so, and a message is the bytes of its size.
-fn expect_answer(
+fn expect_answer<S: Source>(
     rt: &impl Abort,
     alloc: Global,
-    source: &mut MemorySource,
+    source: &mut S,
     buffer: &mut [u8],
-    answer: Received,
-) -> Result<(), AllocError>
+    answer: &Answer,
+)
     requires { length buffer.old ≡ BUFFER_SIZE }
+    ensures { length buffer.new ≡ BUFFER_SIZE }
 {
-    expect_same(rt, &source.receive(buffer), &answer);
+    let (field, answer) = answer;
+    expect_same(rt, &source.receive(buffer), answer);
     if let Message(size) = answer {
-        let message = message(alloc, 7, size)?;
-        expect_same(rt, &buffer.get(..size), &Some(message.as_slice()));
+        let message = message(rt, alloc, *field, *size);
+        expect_same(rt, &buffer.get(..*size), &Some(message.as_slice()));
     }
-    Ok(())
+}
+
+/// The source gives these answers.
+fn expect_answers<S: Source>(
+    rt: &impl Abort,
+    alloc: Global,
+    source: &mut S,
+    buffer: &mut [u8],
+    answers: &[Answer],
+)
+    requires { length buffer.old ≡ BUFFER_SIZE }
+    ensures { length buffer.new ≡ BUFFER_SIZE }
+{
+    for answer in answers {
+        expect_answer(rt, alloc, source, buffer, answer);
+    }
+}
+
+/// Messages whose bytes stand on a stream: one is shorter than a header says that it is, one longer than the others,
+/// and the last ends where the stream does.
+const MESSAGES: &[Answer] = &[
+    (48, Message(48)),
+    (39, Message(40)),
+    (1000, Message(1000)),
+    (64, Message(50)),
+    (0, Gone),
+];
+
+/// The bytes of the messages, joined.
+fn joined(alloc: Global, answers: &[Answer]) -> Result<Vec<u8>, AllocError> {
+    let mut bytes = Vec::new(alloc);
+    for (field, answer) in answers {
+        if let Message(size) = answer {
+            push_message(&mut bytes, *field, *size)?;
+        }
+    }
+    Ok(bytes)
+}
+
+/// A stream of the messages, so many bytes at a time, is cut into them.
+fn expect_cut(rt: &impl Abort, alloc: Global, step: usize, buffer: &mut [u8])
+    requires { length buffer.old ≡ BUFFER_SIZE }
+    ensures { length buffer.new ≡ BUFFER_SIZE }
+{
+    let bytes = joined(alloc, MESSAGES).expect(rt, "there is memory");
+    let stream = MemoryBytes::new(bytes, step.max(1), Vec::new(alloc));
+    let mut source = StreamSource::new(stream);
+    expect_answers(rt, alloc, &mut source, buffer, MESSAGES);
+    drop(source.into_inner());
+}
+
+/// The turn of a source in memory that gives this answer. At its end there is none.
+fn turn(rt: &impl Abort, alloc: Global, answer: &Answer) -> Option<Turn> {
+    match answer {
+        (field, Message(size)) => {
+            let message = message(rt, alloc, *field, *size);
+            Some(Turn::Message(Items::from_vec(message)))
+        }
+        (_, Retry) => Some(Turn::Retry),
+        (_, Failed) => Some(Turn::Fail),
+        (_, Gone) => None,
+    }
+}
+
+/// The turns of a source in memory that give these answers.
+fn turns(rt: &impl Abort, alloc: Global, answers: &[Answer]) -> Vec<Turn> {
+    let mut turns = Vec::new(alloc);
+    for answer in answers {
+        if let Some(turn) = turn(rt, alloc, answer) {
+            turns.push(turn).expect(rt, "there is memory");
+        }
+    }
+    turns
 }
 
 /// A source in memory gives these answers.
-fn expect_answers(
+fn expect_turns(rt: &impl Abort, alloc: Global, buffer: &mut [u8], answers: &[Answer])
+    requires { length buffer.old ≡ BUFFER_SIZE }
+    ensures { length buffer.new ≡ BUFFER_SIZE }
+{
+    let mut source = MemorySource::new(turns(rt, alloc, answers));
+    expect_answers(rt, alloc, &mut source, buffer, answers);
+}
+
+/// What three calls of a source give.
+fn three_answers<S: Source>(source: &mut S, buffer: &mut [u8]) -> [Received; 3]
+    requires { length buffer.old ≡ BUFFER_SIZE }
+    ensures { length buffer.new ≡ BUFFER_SIZE }
+{
+    [
+        source.receive(buffer),
+        source.receive(buffer),
+        source.receive(buffer),
+    ]
+}
+
+/// A stream of one message of 48 bytes gives these answers, where this read fails.
+fn expect_failing(
     rt: &impl Abort,
     alloc: Global,
     buffer: &mut [u8],
+    call: u64,
     answers: &[Received],
-) -> Result<(), AllocError>
+)
     requires { length buffer.old ≡ BUFFER_SIZE }
     ensures { length buffer.new ≡ BUFFER_SIZE }
 {
-    let mut source = MemorySource::new(turns(alloc, answers)?);
-    for answer in answers {
-        expect_answer(rt, alloc, &mut source, buffer, *answer)?;
-    }
-    Ok(())
+    let faults = Vec::from_slice(alloc, &[call]).expect(rt, "there is memory");
+    let stream = MemoryBytes::new(message(rt, alloc, 48, 48), 1000, faults);
+    let mut source = StreamSource::new(stream);
+    let found = three_answers(&mut source, buffer);
+    drop(source.into_inner());
+    expect_same(rt, &(call, found.as_slice()), &(call, answers));
 }
 
-#[test]
-fn turns_are_answered_in_order(rt: HostRuntime) {
-    let alloc = rt.alloc();
-    let mut room = receive_buffer(alloc).expect(&rt, "there is memory");
-    let buffer = room.as_mut_slice();
-    for answers in ANSWERS {
-        expect_answers(&rt, alloc, buffer, answers).expect(&rt, "there is memory");
-    }
+/// What a source gives.
+enum Case {
+    /// The messages, of a stream that gives so many bytes at a time.
+    Cut(usize),
+    /// These answers, of a source in memory. A Retry before a message changes nothing, and a Fail takes no message.
+    /// After the last turn there is no more.
+    Turns(&'static [Answer]),
+    /// These answers, of a stream of one message of 48 bytes, where it is read in three calls and this one fails.
+    Failing(u64, &'static [Received]),
 }
 
-/// What a stream of one message of 48 bytes gives, where it is read in three calls and one of these fails.
-const FAILING_READS: &[(u64, &[Received])] = &[
-    (1, &[Failed, Message(48), Gone]),
-    (2, &[Failed, Message(8), Gone]),
-    (3, &[Message(48), Failed, Gone]),
-    (4, &[Message(48), Gone, Failed]),
+const CASES: &[Case] = &[
+    Case::Cut(1),
+    Case::Cut(7),
+    Case::Cut(1000),
+    Case::Turns(MESSAGES),
+    Case::Turns(&[
+        (0, Retry),
+        (7, Message(48)),
+        (0, Retry),
+        (7, Message(40)),
+        (0, Retry),
+        (0, Gone),
+        (0, Gone),
+    ]),
+    Case::Turns(&[
+        (7, Message(48)),
+        (0, Retry),
+        (0, Failed),
+        (0, Gone),
+        (0, Gone),
+    ]),
+    Case::Turns(&[(0, Failed), (0, Gone), (0, Gone)]),
+    Case::Turns(&[
+        (7, Message(40)),
+        (0, Failed),
+        (7, Message(48)),
+        (0, Failed),
+        (0, Gone),
+        (0, Gone),
+    ]),
+    Case::Turns(&[
+        (0, Failed),
+        (0, Failed),
+        (0, Retry),
+        (7, Message(1000)),
+        (0, Gone),
+        (0, Gone),
+    ]),
+    Case::Turns(&[(0, Gone), (0, Gone)]),
+    Case::Failing(1, &[Failed, Message(48), Gone]),
+    Case::Failing(2, &[Failed, Message(8), Gone]),
+    Case::Failing(3, &[Message(48), Failed, Gone]),
+    Case::Failing(4, &[Message(48), Gone, Failed]),
 ];
 
-/// One message of 48 bytes, of which this read fails.
-fn failing_stream(alloc: Global, call: u64) -> Result<MemoryBytes, AllocError> {
-    let faults = Vec::from_slice(alloc, &[call])?;
-    Ok(MemoryBytes::new(message(alloc, 48, 48)?, 1000, faults))
-}
-
-/// What three calls of a source of one message give, of which this read fails.
-fn three_answers(alloc: Global, call: u64, buffer: &mut [u8]) -> Result<[Received; 3], AllocError>
+/// The source gives what the case says.
+fn expect_case(rt: &impl Abort, alloc: Global, buffer: &mut [u8], case: &Case)
     requires { length buffer.old ≡ BUFFER_SIZE }
     ensures { length buffer.new ≡ BUFFER_SIZE }
 {
-    let mut source = StreamSource::new(failing_stream(alloc, call)?);
-    let answers = [
-        source.receive(buffer),
-        source.receive(buffer),
-        source.receive(buffer),
-    ];
-    drop(source.into_inner());
-    Ok(answers)
+    match case {
+        Case::Cut(step) => expect_cut(rt, alloc, *step, buffer),
+        Case::Turns(answers) => expect_turns(rt, alloc, buffer, answers),
+        Case::Failing(call, answers) => expect_failing(rt, alloc, buffer, *call, answers),
+    }
 }
 
 #[test]
-fn a_read_that_fails_is_a_fault_of_the_source(rt: HostRuntime) {
-    let alloc = rt.alloc();
-    let mut room = receive_buffer(alloc).expect(&rt, "there is memory");
+fn each_source_gives_what_its_case_says(rt: HostRuntime) {
+    let mut room = receive_buffer(rt.alloc()).expect(&rt, "there is memory");
     let buffer = room.as_mut_slice();
-    for (call, answers) in FAILING_READS {
-        let found = three_answers(alloc, *call, buffer).expect(&rt, "there is memory");
-        expect_same(&rt, &(*call, found.as_slice()), &(*call, *answers));
+    for case in CASES {
+        expect_case(&rt, rt.alloc(), buffer, case);
     }
 }

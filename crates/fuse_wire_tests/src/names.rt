@@ -1,12 +1,11 @@
 //! Errors and flags: the names and values of `errno.h`, `fuse.h`, `poll(2)`, `renameat2(2)` and `access(2)`.
-use crate::asserts::expect_same;
+use crate::asserts::{expect_same, expect_text};
 use bitflags::{Flag, Flags};
 use fuse_wire::{
     AccessFlags, BsdFileFlags, CopyFileRangeFlags, CuseInitFlags, Errno, FattrFlags, FopenFlags,
     FsyncFlags, GetattrFlags, InitFlags, IoctlFlags, PollEvents, PollFlags, ReadFlags,
     ReleaseFlags, RenameFlags, WriteFlags,
 };
-use std::alloc::{AllocError, Global};
 use std::process::Abort;
 
 // The row at a place of a table: the constant of this name, and the number of Linux. A match costs less to prove than an
@@ -342,19 +341,22 @@ fn init_flags() -> &'static [(&'static str, InitFlags, u64)] {
     INIT_FLAGS
 }
 
-/// Whether a flag of a set has this name, and both it and the constant have these bits.
-fn is_named<F: Flags>(flag: &Flag<F>, row: &(&'static str, F, <F as Flags>::Bits)) -> bool {
+/// The flag of a set has this name, and both it and the constant have these bits.
+fn expect_named<F: Flags>(
+    rt: &impl Abort,
+    flag: &Flag<F>,
+    row: &(&'static str, F, <F as Flags>::Bits),
+) {
     let (name, constant, bits) = row;
-    flag.name() == *name && flag.value().bits() == *bits && constant.bits() == *bits
+    let alike = [flag.value().bits() == *bits, constant.bits() == *bits];
+    expect_same(rt, &(flag.name(), alike), &(*name, [true; 2]));
 }
 
 /// The set has just these flags, in this order, and each constant has the bits of its name.
 fn expect_names<F: Flags>(rt: &impl Abort, rows: &[(&'static str, F, <F as Flags>::Bits)]) {
-    let flags = F::flags();
-    assert_eq!(rt; flags.len(), rows.len());
-    for i in 0..rows.len() {
-        let named = is_named(&flags[i], &rows[i]);
-        expect_same(rt, &(rows[i].0, named), &(rows[i].0, true));
+    expect_same(rt, &F::flags().len(), &rows.len());
+    for (flag, row) in F::flags().iter().zip(rows) {
+        expect_named(rt, flag, row);
     }
 }
 
@@ -392,44 +394,17 @@ fn what_access_asks_has_the_numbers_of_linux(rt: HostRuntime) {
 }
 
 #[test]
-fn errors_of_other_numbers_are_others(rt: HostRuntime) {
-    let related = [
-        Errno::EIO != Errno::EINVAL,
-        Errno::EAGAIN == Errno::EWOULDBLOCK,
-        PollEvents::POLLIN != PollEvents::POLLPRI,
-    ];
-    expect_same(&rt, &related, &[true; 3]);
-}
-
-/// The texts of some flags.
-fn some_texts(alloc: Global) -> Result<String, AllocError> {
-    format!(in alloc;
-        "{} {} {} {}",
-        AccessFlags::from_bits_retain(-2),
-        PollEvents::POLLWRBAND,
-        RenameFlags::all(),
-        CuseInitFlags::all()
-    )
-}
-
-/// The texts of other flags.
-fn other_texts(alloc: Global) -> Result<String, AllocError> {
-    format!(in alloc;
-        "{} {} {} {}",
-        FsyncFlags::empty(),
-        IoctlFlags::FUSE_IOCTL_32BIT,
-        PollFlags::from_bits_retain(4294967295),
-        ReleaseFlags::all()
-    )
-}
-
-#[test]
-fn texts_are_decimal(rt: HostRuntime) -> Result<(), AllocError> {
-    let some = some_texts(rt.alloc())?;
-    expect_same(&rt, &some.as_str(), &"-2 512 7 1");
-    let other = other_texts(rt.alloc())?;
-    expect_same(&rt, &other.as_str(), &"0 8 4294967295 3");
-    Ok(())
+fn texts_are_decimal(rt: HostRuntime) {
+    let alloc = rt.alloc();
+    expect_text(&rt, alloc, &AccessFlags::from_bits_retain(-2), "-2");
+    expect_text(&rt, alloc, &PollEvents::POLLWRBAND, "512");
+    expect_text(&rt, alloc, &RenameFlags::all(), "7");
+    expect_text(&rt, alloc, &CuseInitFlags::all(), "1");
+    expect_text(&rt, alloc, &FsyncFlags::empty(), "0");
+    expect_text(&rt, alloc, &IoctlFlags::FUSE_IOCTL_32BIT, "8");
+    let odd = PollFlags::from_bits_retain(4294967295);
+    expect_text(&rt, alloc, &odd, "4294967295");
+    expect_text(&rt, alloc, &ReleaseFlags::all(), "3");
 }
 
 /// A bit without a name, and that of the size.
@@ -466,33 +441,52 @@ fn sets_without_names_hold_nothing(rt: HostRuntime) {
     expect_same(&rt, &nothing, &(0, true));
 }
 
-#[test]
-fn sets_hold_their_parts(rt: HostRuntime) {
+/// How a set of flags relates to others.
+fn parts_of_attributes() -> [bool; 6] {
     let size = FattrFlags::FATTR_SIZE;
-    let related = [
+    [
         odd().contains(size),
         size.contains(odd()),
         size.intersects(odd()),
         FattrFlags::from_bits_retain(0x17ff).is_all(),
         odd().is_all(),
         BsdFileFlags::empty().is_all(),
-    ];
-    expect_same(&rt, &related, &[true, false, true, true, false, true]);
+    ]
 }
 
-#[test]
-fn a_union_holds_both_parts(rt: HostRuntime) {
+/// How a union relates to its parts.
+fn parts_of_a_union() -> [bool; 4] {
     let read = AccessFlags::R_OK;
     let read_write = read.union(AccessFlags::W_OK);
-    let held = [
+    [
         read_write.contains(read),
         read_write.contains(AccessFlags::empty()),
         read.contains(read_write),
         read_write.contains(AccessFlags::X_OK),
+    ]
+}
+
+#[test]
+fn sets_hold_their_parts(rt: HostRuntime) {
+    let union = AccessFlags::R_OK.union(AccessFlags::W_OK);
+    let others = [
+        Errno::EIO != Errno::EINVAL,
+        Errno::EAGAIN == Errno::EWOULDBLOCK,
+        PollEvents::POLLIN != PollEvents::POLLPRI,
     ];
     expect_same(
         &rt,
-        &(read_write.bits(), held),
-        &(6, [true, true, false, false]),
+        &(
+            parts_of_attributes(),
+            parts_of_a_union(),
+            union.bits(),
+            others,
+        ),
+        &(
+            [true, false, true, true, false, true],
+            [true, true, false, false],
+            6,
+            [true; 3],
+        ),
     );
 }
