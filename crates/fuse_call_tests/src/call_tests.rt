@@ -7,7 +7,7 @@ use crate::recording::{Recorded, Recording};
 use fuse_config::{Config, SessionACL};
 use fuse_probing::Probing;
 use fuse_probing::test_messages::{ACCEPTED, INIT_7_8};
-use fuse_session::{Ended, SessionError, Transcript, mount};
+use fuse_session::{Ended, mount};
 use fuse_wire::{Items, MemorySink, MemorySource, RequestId, Turn};
 use std::process::Abort;
 use std::sync::Wait;
@@ -39,51 +39,43 @@ fn put_turn(rt: &impl Abort, turns: &mut Vec<Turn>, message: Vec<u8>) {
     turns.push(turn).expect(rt, "there is memory");
 }
 
-/// Whether what was recorded is this call of the request with this lowest byte of its id.
-fn is_call(recorded: &Recorded, id: u8, call: &Call) -> bool {
+/// What was recorded is this call of the request with this lowest byte of its id.
+fn is_call(rt: &impl Abort, recorded: &Recorded, id: u8, call: &Call) {
     let (method, arguments, texts) = call;
-    (recorded.method, recorded.asker) == (*method, asker(id))
-        && recorded.arguments.as_slice() == *arguments
-        && recorded.texts.as_slice() == *texts
+    let found = (recorded.method, recorded.asker, recorded.texts.as_slice());
+    expect_same(rt, &found, &(*method, asker(id), *texts));
+    expect_same(rt, &recorded.arguments.as_slice(), arguments);
 }
 
-/// What was recorded after these calls of the request with this lowest byte of its id. None: they do not stand first.
-fn after_calls<'a>(recorded: &'a [Recorded], id: u8, calls: &[Call]) -> Option<&'a [Recorded]> {
-    let first = recorded.get(..calls.len())?;
-    if first
-        .iter()
-        .zip(calls)
-        .all(|(one, call)| is_call(one, id, call))
-    {
-        recorded.get(calls.len()..)
-    } else {
-        None
+/// What was recorded from this place on is these calls of the request with this lowest byte of its id. The place behind
+/// them comes back.
+fn are_calls(
+    rt: &impl Abort,
+    recorded: &[Recorded],
+    place: usize,
+    id: u8,
+    calls: &[Call],
+) -> usize {
+    let mut next = place;
+    for call in calls {
+        is_call(rt, recorded.get(next).expect(rt, "a call"), id, call);
+        next = next.saturating_add(1);
     }
-}
-
-/// The first row whose calls are not recorded next. After the last row it is recorded that the session is over, and
-/// nothing more; else this is the number of the rows.
-fn first_unmet(recorded: &[Recorded], rows: &[Row]) -> Option<usize> {
-    let mut left = recorded;
-    for (place, row) in rows.iter().enumerate() {
-        match after_calls(left, id_at(place), row.calls) {
-            Some(rest) => left = rest,
-            None => return Some(place),
-        }
-    }
-    if left.len() == 1 && left[0].method == "destroy" {
-        None
-    } else {
-        Some(rows.len())
-    }
+    next
 }
 
 /// What reached the filesystem is INIT, then what the rows say, in order, and then that the session is over.
-fn reached<R: Abort>(rt: &R, recorded: &[Recorded], rows: &[Row]) {
+fn reached(rt: &impl Abort, recorded: &[Recorded], rows: &[Row]) {
     let asker = (0xdead_beef_baad_f00d, 0xc001_d00d, 0xc001_cafe, 0xc0de_ba5e);
-    let (init, others) = recorded.split_first().expect(rt, "INIT");
+    let init = recorded.first().expect(rt, "INIT");
     expect_same(rt, &(init.method, init.asker), &("init", asker));
-    expect_same(rt, &first_unmet(others, rows), &None);
+    let mut next = 1;
+    for (place, row) in rows.iter().enumerate() {
+        next = are_calls(rt, recorded, next, id_at(place), row.calls);
+    }
+    let last = recorded.last().expect(rt, "the end");
+    let found = (last.method, recorded.len());
+    expect_same(rt, &found, &("destroy", next.saturating_add(1)));
 }
 
 /// The frames that the sink takes for INIT and the messages of these rows.
@@ -124,63 +116,34 @@ fn replied<R: AllocGlobal + Abort>(rt: &R, sink: &MemorySink, rows: &[Row]) {
     expect_same(rt, &sink.notes(), &notes.as_slice());
 }
 
-/// What a session came to: what reached its filesystem, the sink, and how it ended and what it did.
-#[derive(Drop)]
-struct Served {
-    recorded: Vec<Recorded>,
-    sink: MemorySink,
-    outcome: Result<(), SessionError>,
-    transcript: Transcript,
-}
-
-/// Takes what reached the filesystem of a session that has ended.
-fn served_by<R: Wait + Drop>(
-    over: Ended<Probing<Recording<R>>, MemorySource, MemorySink>,
-) -> Served {
-    let Ended {
-        filesystem,
-        source,
-        sink,
-        outcome,
-        transcript,
-    } = over;
-    drop(source);
-    let recorded = filesystem.probe.take();
-    drop(filesystem);
-    Served {
-        recorded,
-        sink,
-        outcome,
-        transcript,
-    }
-}
+/// What is left of a session.
+type Over<R> = Ended<Probing<Recording<R>>, MemorySource, MemorySink>;
 
 /// Serves these messages.
 fn serve_rows<R: Threads + Wait + AllocGlobal + Abort + Send + Sync + Copy>(
     rt: &R,
     rows: &[Row],
-) -> Served {
+) -> Over<R> {
     let alloc = rt.alloc();
     let source = source_of_rows(rt, rows);
     let sink = MemorySink::new(alloc, Vec::new(alloc));
     let probe = Recording::new(*rt, alloc);
     let mut config = Config::new(alloc);
     config.acl = SessionACL::All;
-    served_by(mount(rt, Probing { probe }, source, sink, 0, 4096, &config))
+    mount(rt, Probing { probe }, source, sink, 0, 4096, &config)
 }
 
 /// Serves these messages: they come to the calls and the replies that they say, and to no other.
 fn comes_to<R: Threads + Wait + AllocGlobal + Abort + Send + Sync + Copy>(rt: &R, rows: &[Row]) {
-    let served = serve_rows(rt, rows);
+    let over = serve_rows(rt, rows);
     let messages = rows.len().saturating_add(1) as u64;
-    expect_same(
-        rt,
-        &(served.outcome, served.transcript.received),
-        &(Ok(()), messages),
-    );
-    reached(rt, served.recorded.as_slice(), rows);
-    replied(rt, &served.sink, rows);
-    drop(served);
+    let found = (over.outcome, over.transcript.received);
+    expect_same(rt, &found, &(Ok(()), messages));
+    let recorded = over.filesystem.probe.take();
+    reached(rt, recorded.as_slice(), rows);
+    drop(recorded);
+    replied(rt, &over.sink, rows);
+    drop(over);
 }
 
 #[test]
