@@ -75,15 +75,19 @@ fn expect_text(rt: &impl Abort, alloc: Global, option: &MountOption, text: &str)
     expect_same(rt, &found.as_str(), &text);
 }
 
+/// Whether this option is the one that the text names.
+fn is_named(rt: &impl Abort, alloc: Global, option: &MountOption, text: &str) -> bool {
+    MountOption::from_str(alloc, text).expect(rt, "there is memory") == *option
+}
+
 /// The option of this place is that of the row.
 fn expect_row(rt: &impl Abort, alloc: Global, place: usize, row: &Row) {
     let (text, group, flag, _) = row;
     let option = option_at(alloc, place).expect(rt, "there is memory");
     expect_text(rt, alloc, &option, text);
-    let read = MountOption::from_str(alloc, text).expect(rt, "there is memory");
-    expect_same(rt, &read, &option);
-    let found = (option_group(&option), option_to_flag(&option));
-    expect_same(rt, &found, &(*group, *flag));
+    let named = is_named(rt, alloc, &option, text);
+    let found = (named, option_group(&option), option_to_flag(&option));
+    expect_same(rt, &found, &(true, *group, *flag));
 }
 
 #[test]
@@ -94,29 +98,27 @@ fn each_option_has_its_text_group_and_flag(rt: HostRuntime) {
 }
 
 /// The options of these rows.
-fn options_at(alloc: Global, places: &[usize]) -> Result<Vec<MountOption>, NoMemory> {
+fn options_at(rt: &impl Abort, alloc: Global, places: &[usize]) -> Vec<MountOption> {
     let mut options = Vec::new(alloc);
     for place in places {
-        let Ok(()) = options.push(option_at(alloc, *place)?) else {
-            return Err(NoMemory);
-        };
+        let option = option_at(alloc, *place).expect(rt, "there is memory");
+        options.push(option).expect(rt, "there is memory");
     }
-    Ok(options)
+    options
 }
 
 /// What the options of these rows are refused for.
 fn conflict_of(rt: &impl Abort, alloc: Global, places: &[usize]) -> Result<(), Conflict> {
-    let options = options_at(alloc, places).expect(rt, "there is memory");
     let mut config = Config::new(alloc);
-    config.mount_options = Items::from_vec(options);
+    config.mount_options = Items::from_vec(options_at(rt, alloc, places));
     check_option_conflicts(&config)
 }
 
 /// Whether the option of the second row is the one that conflicts with that of the first.
-fn are_contrary(alloc: Global, first: usize, second: usize) -> Result<bool, NoMemory> {
-    let option = option_at(alloc, first)?;
-    let other = option_at(alloc, second)?;
-    Ok(conflicts_with(&option) == Some(other))
+fn are_contrary(rt: &impl Abort, alloc: Global, first: usize, second: usize) -> bool {
+    let option = option_at(alloc, first).expect(rt, "there is memory");
+    let other = option_at(alloc, second).expect(rt, "there is memory");
+    conflicts_with(&option) == Some(other)
 }
 
 /// Whether the first row names the second's text.
@@ -127,7 +129,7 @@ fn names(first: &Row, second: &Row) -> bool {
 /// A pair of options conflicts where one row names the other's text, and so do both orders of it.
 fn tries_pair(rt: &impl Abort, alloc: Global, places: [usize; 2], conflicting: bool) {
     let [first, second] = places;
-    let contrary = are_contrary(alloc, first, second).expect(rt, "there is memory");
+    let contrary = are_contrary(rt, alloc, first, second);
     let expected = if conflicting {
         Err(Conflict {
             first: 0,
@@ -261,8 +263,8 @@ fn expect_other(rt: &impl Abort, alloc: Global, text: &str) {
     let custom = OptionText::new(alloc, text).expect(rt, "there is memory");
     let custom = MountOption::CUSTOM(custom);
     expect_text(rt, alloc, &custom, text);
-    let other = MountOption::from_str(alloc, text).expect(rt, "there is memory");
-    expect_same(rt, &(text, other == custom), &(text, false));
+    let named = is_named(rt, alloc, &custom, text);
+    expect_same(rt, &(text, named), &(text, false));
 }
 
 #[test]

@@ -30,8 +30,8 @@ const SET: &[Step] = &[
     Step::Capabilities(1 << 37, Ok(())),
 ];
 
-/// The short reply, and the long one: fresh, with as many pages as it counts, with a threshold above the background, and
-/// with what was set.
+/// The short reply, and the long one: fresh, with as many pages as it counts, with a threshold above the background,
+/// and with what was set.
 const REPLIES: &[Row] = &[
     (
         8,
