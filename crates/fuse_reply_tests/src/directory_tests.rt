@@ -7,8 +7,8 @@ use fuse_wire::{Duration, FileType, Generation, INodeNo, NoMemory};
 use std::alloc::{AllocError, Global};
 use std::process::Abort;
 
-/// An entry that a listing is to take: its inode, the offset after it, what kind of file it is, its name, and whether it
-/// does not fit.
+/// An entry that a listing is to take: its inode, the offset after it, what kind of file it is, its name, and whether
+/// it does not fit.
 type Entry = (u64, u64, FileType, &'static [u8], bool);
 
 /// How many bytes a listing may have, the entries that it is to take, and its payload then.
@@ -82,7 +82,8 @@ const LISTINGS: &[Listing] = &[
     ),
 ];
 
-/// Listings of one entry, whose name is padded to a multiple of eight bytes, and of a byte less, in which it does not fit.
+/// Listings of one entry, whose name is padded to a multiple of eight bytes, and of a byte less, in which it does not
+/// fit.
 const PADDED: &[Listing] = &[
     (
         24,

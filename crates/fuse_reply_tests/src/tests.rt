@@ -350,7 +350,8 @@ fn whole_or_starved(frame: Option<&[u8]>) -> Parts {
     }
 }
 
-/// Takes the whole frame, and the error's. Where the script `checks/refused-memory` refuses the memory, it is the error's.
+/// Takes the whole frame, and the error's. Where the script `checks/refused-memory` refuses the memory, it is the
+/// error's.
 #[test]
 fn answers_by_many_bytes_whole_or_by_the_want_of_memory(rt: HostRuntime) {
     let alloc = rt.alloc();
