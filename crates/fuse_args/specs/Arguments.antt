@@ -1,5 +1,5 @@
 -- What stands at the front of a body, and the bytes after it: the structs of `fuse.h` field by field.
-use Rattle.std.specs.Prelude.{◌≡◌, ◌==◌, ◌+◌, ℕ, List, Option, None, Some, option_map, position, length, take, drop}
+use Rattle.std.specs.Prelude.{◌≡◌, ◌==◌, ◌+◌, ℕ, List, [], Option, None, Some, option_map, position, length, take, drop}
 use Rattle.std.specs.Prelude.{◌*◌, nat_le, if◌then◌else◌}
 use Rattle.std.specs.Borrow.{Bor}
 use Rattle.fuse_wire.specs.Numbers.{number}
@@ -22,6 +22,14 @@ fixed size fields bytes = if nat_le size (length bytes) then Some (fields bytes,
 -- a name: the bytes in front of the least zero byte, and the bytes after that zero; none where no byte is zero
 abbrev pub name_at : List ℕ → Option (List ℕ × List ℕ)
 name_at bytes = option_map (λ zero_at. (take zero_at bytes, drop (zero_at + 1) bytes)) (position (λ byte. byte == 0) bytes)
+
+-- all bytes, where there are exactly so many
+abbrev pub exactly : ℕ → List ℕ → Option (List ℕ × List ℕ)
+exactly size bytes = if length bytes == size then Some (bytes, []) else None
+
+-- the first bytes, where there are so many
+abbrev pub at_least : ℕ → List ℕ → Option (List ℕ × List ℕ)
+at_least size bytes = if nat_le size (length bytes) then Some (take size bytes, []) else None
 
 -- so many rows of 16 bytes (`struct fuse_forget_one`), and the bytes after them; none where they are not all there
 abbrev pub rows_at : ℕ → List ℕ → Option (List ℕ × List ℕ)

@@ -1,7 +1,7 @@
 // The cursor over a body.
 ghost use Rattle.std.specs.Prelude.{◌≡◌, ◌==◌, [], drop, length, position};
-ghost use Rattle.fuse_args.specs.Arguments.{Fetches, FetchesSlice, cuse_init_at, fixed, init_at, name_at, rows_at};
-ghost use Rattle.fuse_args.specs.Arguments.{u64_first};
+ghost use Rattle.fuse_args.specs.Arguments.{Fetches, FetchesSlice, at_least, cuse_init_at, exactly, fixed, init_at};
+ghost use Rattle.fuse_args.specs.Arguments.{name_at, rows_at, u64_first};
 
 mod devices;
 mod files;
@@ -85,6 +85,30 @@ impl<'a> ArgumentIterator<'a> {
         let all = self.rest;
         self.rest = &[];
         all
+    }
+
+    /// All bytes that are left, where there are exactly so many: what WRITE and SETXATTR end with. None where there are
+    /// fewer or more.
+    #[inline(always)]
+    pub fn fetch_exactly(&mut self, size: u32) -> Option<&'a [u8]>
+        ensures { FetchesSlice result self.old self.new (exactly size self.old) }
+    {
+        if self.len() != size as usize {
+            return None;
+        }
+        Some(self.fetch_all())
+    }
+
+    /// The first of the bytes that are left, where there are so many: what IOCTL ends with. Those behind them are
+    /// passed too. None where there are fewer.
+    #[inline(always)]
+    pub fn fetch_at_least(&mut self, size: u32) -> Option<&'a [u8]>
+        ensures { FetchesSlice result self.old self.new (at_least size self.old) }
+    {
+        if self.len() < size as usize {
+            return None;
+        }
+        Some(&self.fetch_all()[..size as usize])
     }
 
     /// So many rows of 16 bytes, as BATCH_FORGET has them. None where fewer are left.

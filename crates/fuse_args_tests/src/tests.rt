@@ -101,6 +101,27 @@ fn fetches_names(rt: HostRuntime) {
 }
 
 #[test]
+fn fetches_what_a_size_counts(rt: HostRuntime) {
+    let cases: [(u32, Option<&[u8]>, Option<&[u8]>); 5] = [
+        (0, None, Some(b"")),
+        (2, None, Some(b"fo")),
+        (3, Some(b"foo"), Some(b"foo")),
+        (4, None, None),
+        (u32::MAX, None, None),
+    ];
+    for (size, exactly, at_least) in cases {
+        let mut arguments = ArgumentIterator::new(b"foo");
+        expect_same_in(&rt, &size, &arguments.fetch_exactly(size), &exactly);
+        let left = if exactly.is_some() { 0 } else { 3 };
+        expect_same_in(&rt, &size, &arguments.len(), &left);
+        let mut arguments = ArgumentIterator::new(b"foo");
+        expect_same_in(&rt, &size, &arguments.fetch_at_least(size), &at_least);
+        let left = if at_least.is_some() { 0 } else { 3 };
+        expect_same_in(&rt, &size, &arguments.len(), &left);
+    }
+}
+
+#[test]
 fn fetches_one_after_another(rt: HostRuntime) {
     let bytes = b"foo\0bar\0ba";
     let names: [&[u8]; 2] = [b"foo", b"bar"];

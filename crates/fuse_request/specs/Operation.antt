@@ -1,8 +1,8 @@
 -- What a message asks, by its opcode and body (`enum fuse_opcode` of `fuse.h`, and the struct of each).
-use Rattle.std.specs.Prelude.{◌≡◌, ◌==◌, ⊤, ℕ, Bool, true, false, List, [], Option, None, Some, Result, Ok, Err}
-use Rattle.std.specs.Prelude.{IfSome, length, take, nat_le, nat_lt, if◌then◌else◌}
+use Rattle.std.specs.Prelude.{◌≡◌, ◌==◌, ⊤, ℕ, Bool, true, false, List, Option, None, Some, Result, Ok, Err}
+use Rattle.std.specs.Prelude.{IfSome, nat_lt, if◌then◌else◌}
 use Rattle.fuse_wire.specs.declared.newtypes.INodeNo.{INodeNo}
-use Rattle.fuse_args.specs.Arguments.{cuse_init_at, init_at, name_at, rows_at, u64_first}
+use Rattle.fuse_args.specs.Arguments.{at_least, cuse_init_at, exactly, init_at, name_at, rows_at, u64_first}
 use Rattle.fuse_args.specs.DeviceParts.{bmap_at, getlk_at, ioctl_at, poll_at}
 use Rattle.fuse_args.specs.FileParts.{copy_file_range_at, create_at, fallocate_at, flush_at, fsync_at, lseek_at}
 use Rattle.fuse_args.specs.FileParts.{open_at, read_at, release_at, write_at}
@@ -111,14 +111,6 @@ named part make = after part (λ front rest. taking (name_at rest) (λ name. mak
 -- an operation of that part and of the two names after it
 abbrev pub twice_named : {X : Type 0} → Option (X × List ℕ) → (X → List ℕ → List ℕ → Op) → Result Op RequestError
 twice_named part make = after part (λ front rest. named (name_at rest) (λ name other. make front name other))
-
--- all bytes, where there are exactly so many
-abbrev pub exactly : ℕ → List ℕ → Option (List ℕ × List ℕ)
-exactly size bytes = if length bytes == size then Some (bytes, []) else None
-
--- the first bytes, where there are so many
-abbrev pub at_least : ℕ → List ℕ → Option (List ℕ × List ℕ)
-at_least size bytes = if nat_le size (length bytes) then Some (take size bytes, []) else None
 
 -- an operation of that part, and of a name and a value after it, which is as long as the part says
 abbrev pub valued : Option (SetXAttrArguments × List ℕ) → (SetXAttrArguments → List ℕ → List ℕ → Op)

@@ -12,7 +12,6 @@ use crate::opcode::{
     FUSE_RELEASEDIR, FUSE_REMOVEXATTR, FUSE_RENAME, FUSE_RENAME2, FUSE_RMDIR, FUSE_SETATTR,
     FUSE_SETLK, FUSE_SETLKW, FUSE_SETXATTR, FUSE_STATFS, FUSE_SYMLINK, FUSE_UNLINK, FUSE_WRITE,
 };
-use crate::parts::{at_least, exactly};
 use crate::{
     Access, BMap, BatchForget, CopyFileRange, Create, CuseInit, Destroy, FAllocate, FSync,
     FSyncDir, Flush, Forget, GetAttr, GetLk, GetXAttr, Init, Interrupt, IoCtl, Link, ListXAttr,
@@ -131,7 +130,7 @@ pub(crate) fn open_to_flush(opcode: u32, body: &[u8]) -> Result<Operation<'_>, R
         }
         FUSE_WRITE => {
             whole!(arguments = parts.fetch_write());
-            whole!(written = exactly(&mut parts, arguments.size));
+            whole!(written = parts.fetch_exactly(arguments.size));
             Operation::Write(Write { arguments, written })
         }
         FUSE_STATFS => Operation::StatFs(StatFs),
@@ -152,7 +151,7 @@ pub(crate) fn open_to_flush(opcode: u32, body: &[u8]) -> Result<Operation<'_>, R
         FUSE_SETXATTR => {
             whole!(arguments = parts.fetch_setxattr());
             whole!(name = parts.fetch_str());
-            whole!(value = exactly(&mut parts, arguments.size));
+            whole!(value = parts.fetch_exactly(arguments.size));
             Operation::SetXAttr(SetXAttr {
                 arguments,
                 name,
@@ -279,7 +278,7 @@ pub(crate) fn destroy_to_cuse_init<'a>(
         FUSE_DESTROY => Operation::Destroy(Destroy),
         FUSE_IOCTL => {
             whole!(arguments = parts.fetch_ioctl());
-            whole!(in_bytes = at_least(&mut parts, arguments.in_size));
+            whole!(in_bytes = parts.fetch_at_least(arguments.in_size));
             Operation::IoCtl(IoCtl {
                 arguments,
                 in_bytes,

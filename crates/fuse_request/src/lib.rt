@@ -18,7 +18,6 @@ mod offsets;
 pub mod opcode;
 mod opened;
 mod operation;
-mod parts;
 mod places;
 mod request;
 mod setattr;
