@@ -1,6 +1,4 @@
 pub mod Determined
-pub mod Matching
 pub mod LateFrames
 pub mod Balancing
 pub mod Outgoing
-pub mod Bookkeeping

@@ -2,13 +2,11 @@
 ghost use Rattle.std.specs.Prelude.{◌≡◌, ◌<◌, ◌∷◌, [], MatchOption, Some, length, map, remove, slice_get};
 ghost use Rattle.fuse_reply.specs.Late.{LateSeen};
 ghost use Rattle.fuse_core.specs.Marks.{is_unused as unused, late_tag, let_go, still_held, tag_of as of_mark};
-ghost use Rattle.fuse_core.specs.Matched.{same, times};
+ghost use Rattle.fuse_book.specs.Matched.{same, times};
 
 use crate::Mark;
+use fuse_book::Key;
 use fuse_reply::LateFrame;
-
-/// The number of a message, and the id of its request.
-pub(crate) type Key = (u64, u64);
 
 /// The tag of a mark.
 pub(crate) fn tag_of(mark: Mark) -> Key

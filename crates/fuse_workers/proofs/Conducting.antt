@@ -22,7 +22,7 @@ use Rattle.fuse_core.specs.OneEach.{Owing}
 use Rattle.fuse_sender.specs.Pairing.{outs_of}
 use Rattle.fuse_loop.specs.Progress.{IntakeState}
 use Rattle.fuse_sender.specs.Relays.{IsRelayed, RelayState, Relays}
-use Rattle.fuse_workers.specs.Threads.{IsCaller}
+use Rattle.fuse_jobs.specs.Answered.{IsCaller}
 use Rattle.fuse_sender.specs.declared.stopped.Stopped.{Stopped}
 use Rattle.fuse_core.specs.declared.state.Job.{Job}
 use Rattle.fuse_loop.proofs.ItemLists.{filter-all}
@@ -30,7 +30,7 @@ use Rattle.fuse_loop.proofs.FrameLines.{notices-append}
 use Rattle.fuse_sender.proofs.Pairing.{outs_of-append}
 use Rattle.fuse_sender.proofs.Relaying.{Relays-then, lates-append}
 use Rattle.fuse_sender.proofs.ServingAlone.{outs-first, outs-none}
-use Rattle.fuse_workers.proofs.Working.{Caller-settled}
+use Rattle.fuse_jobs.proofs.Working.{Caller-settled}
 
 -- the first pass of frames after the sender's was joined
 pub joined-sender : (f v : Hand Parcel) → v.put ≡ [] → f.taken ≡ [] → f.kind ≡ First → v.kind ≡ Inner → f.others ≡ 1 → joined f v ≡ hand First 0 f.put v.taken

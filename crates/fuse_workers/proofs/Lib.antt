@@ -1,5 +1,4 @@
 pub mod Accounts
-mod Working
 mod Conducting
 mod Assembling
 mod Splitting

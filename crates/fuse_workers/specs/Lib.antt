@@ -1,5 +1,3 @@
-pub mod Threads
-pub mod Hearing
 pub mod Promises
 pub mod Conducting
 pub mod OneEachLater

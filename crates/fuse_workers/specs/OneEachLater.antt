@@ -6,7 +6,7 @@ use Rattle.fuse_wire.specs.Sink.{Note as Noted}
 use Rattle.fuse_reply.specs.Late.{LateSeen}
 use Rattle.fuse_reply.specs.declared.out.Out.{Out}
 use Rattle.fuse_core.specs.Marks.{late_tag}
-use Rattle.fuse_core.specs.Matched.{HasUnused, Matched}
+use Rattle.fuse_book.specs.Matched.{HasUnused, Matched}
 use Rattle.fuse_core.specs.OneEach.{OneEach, Owing}
 use Rattle.fuse_loop.specs.Progress.{LeavesOut}
 use Rattle.fuse_sender.specs.Relays.{IsLateReply, late_out}

@@ -3,16 +3,12 @@ use Rattle.std.specs.Prelude.{◌≡◌}
 use Rattle.atomic_table.specs.Seated.{TableId}
 use Rattle.fuse_reply.specs.EndMark.{MarkSeen}
 use Rattle.fuse_loop.specs.Lines.{LinesState}
-use Rattle.fuse_workers.specs.declared.caller.Caller.{Caller}
+use Rattle.fuse_jobs.specs.declared.caller.Caller.{Caller}
 use Rattle.fuse_workers.specs.declared.threads.Serves.{Serves}
 
 -- this work, this line of jobs and this line of frames
 abbrev pub PromisesFor : {W : Type 0} → W → (jobs frames : TableId) → Serves W → Type 0
 PromisesFor work jobs frames promise = (promise.work.value ≡ work) × (promise.jobs.value ≡ jobs) × (promise.frames.value ≡ frames)
-
--- the caller's passes are on this line of jobs and on this line of frames, and it answers with doors to that line of frames
-abbrev pub CallerOn : (jobs frames : TableId) → Caller → Type 0
-CallerOn jobs frames caller = (caller.jobs.line ≡ jobs) × (caller.frames.line ≡ frames) × (caller.answerer.notifier.line ≡ frames)
 
 -- what a caller has of both lines, beside the mark of the run's end
 abbrev pub lines_of : (end : MarkSeen) → Caller → LinesState

@@ -2,7 +2,7 @@
 //! contracts are the laws.
 ghost use Rattle.fuse_core.specs.Owing.{SendsOwed};
 
-pub use fuse_core::laws::{
+pub use fuse_book::laws::{
     each_late_frame_is_sent_or_has_no_mark, each_late_frame_that_is_sent_came,
     late_frames_go_to_different_marks, no_frame_is_held_with_an_unused_mark,
 };

@@ -2,7 +2,7 @@
 // that it is the same, and what became of it.
 ghost use Rattle.std.specs.Prelude.{◌≡◌};
 
-use crate::caller::Caller;
+use fuse_jobs::Caller;
 use fuse_loop::{Ending, Intake};
 use fuse_sender::Relay;
 use fuse_wire::{Sink, Source};

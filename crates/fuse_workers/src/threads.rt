@@ -4,13 +4,13 @@ ghost use Rattle.std.specs.List.{All};
 ghost use Rattle.std.specs.Vec.{vec_capacity, vec_len};
 ghost use Rattle.fuse_line.specs.Hand.{hand};
 ghost use Rattle.fuse_line.specs.declared.hand.Kind.TheVariants.{First, Inner};
-ghost use Rattle.fuse_workers.specs.Promises.{CallerOn, PromisesFor};
+ghost use Rattle.fuse_jobs.specs.Callers.{CallerOn};
+ghost use Rattle.fuse_workers.specs.Promises.{PromisesFor};
 ghost use Rattle.fuse_sender.specs.Relays.{IsRelayed, relay_of};
-ghost use Rattle.fuse_workers.specs.Threads.{IsCaller, IsServed};
+ghost use Rattle.fuse_jobs.specs.Answered.{IsCaller, IsServed};
 ghost use Rattle.fuse_loop.specs.Answering.{answering};
 
-use crate::caller::Caller;
-use crate::worker::answer_jobs;
+use fuse_jobs::{Caller, answer_jobs};
 use fuse_line::{Line, Pass};
 use fuse_loop::{RequestJob, Work};
 use fuse_reply::Parcel;

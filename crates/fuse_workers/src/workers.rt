@@ -8,7 +8,7 @@ ghost use Rattle.fuse_line.specs.Tells.{IsSettled};
 ghost use Rattle.fuse_reply.specs.Parcel.{is_prompt};
 ghost use Rattle.fuse_reply.specs.declared.parcel.Parcel.{Parcel as Goes};
 ghost use Rattle.fuse_sender.specs.Alone.{ServesAlone};
-ghost use Rattle.fuse_core.specs.Book.{EachWaiting, IsBookOf};
+ghost use Rattle.fuse_book.specs.Book.{EachWaiting, IsBookOf};
 ghost use Rattle.fuse_sender.specs.HandingOn.{answered_last};
 ghost use Rattle.fuse_workers.specs.Conducting.{Conducts};
 ghost use Rattle.fuse_loop.specs.EventLoop.{Run};
@@ -18,19 +18,19 @@ ghost use Rattle.fuse_loop.specs.Lines.{IsAlone, IsDrained, IsOn, IsUnused, ende
 ghost use Rattle.fuse_core.specs.OneEach.{UpToOrder};
 ghost use Rattle.fuse_workers.specs.OneEachLater.{NoneHeldBack};
 ghost use Rattle.fuse_sender.specs.Relays.{is_own, relay_of};
-ghost use Rattle.fuse_workers.specs.Promises.{CallerOn, lines_of};
-ghost use Rattle.fuse_loop.specs.Progress.{IntakeState, PassesOnAll, Quiet, nothing_yet, progress};
-ghost use Rattle.fuse_workers.specs.Threads.{IsCaller};
+ghost use Rattle.fuse_jobs.specs.Callers.{CallerOn};
+ghost use Rattle.fuse_workers.specs.Promises.{lines_of};
+ghost use Rattle.fuse_loop.specs.Progress.{PassesOnAll, Quiet, nothing_yet, progress};
+ghost use Rattle.fuse_jobs.specs.Answered.{IsCaller};
 ghost use Rattle.fuse_loop.specs.Answering.{answering};
 
-use crate::caller::{Caller, answer_rest, take_messages};
 use crate::lent::{LentEnds, take_back};
 use crate::threads::{Worker, join_workers, start_sender, start_workers};
-use fuse_core::Book;
+use fuse_book::Book;
+use fuse_jobs::{Caller, answer_last, answer_rest, take_messages};
 use fuse_line::Line;
 use fuse_loop::{
     Buffers, End, Ending, Intake, Lines, Outlet, RequestJob, RunEnd, RunLine, Transcript, Work,
-    destroyed,
 };
 use fuse_reply::Parcel;
 use fuse_sender::{LentRelay, Relay, Stopped, answer_in_turn_alone, send_rest};
@@ -56,31 +56,6 @@ struct Ends<S: Source, K: Sink> {
 fn raise(flags: &[AtomicBool]) {
     for flag in flags {
         flag.store(true, Ordering::SeqCst);
-    }
-}
-
-/// Answers DESTROY, where it was the last message.
-fn answer_last<R: Wait + AllocGlobal, W: Work>(
-    rt: &R,
-    work: &W,
-    stopped: Stopped,
-    frames: &Line<Parcel>,
-    caller: &mut Caller,
-)
-    requires line { caller.old.frames.line ≡ frames.now }
-    requires first { caller.old.frames.hand.kind ≡ First }
-    ensures line { caller.new.frames.line ≡ frames.now }
-    ensures others { caller.new.frames.hand.others ≡ caller.old.frames.hand.others }
-    ensures same { (caller.new.jobs ≡ caller.old.jobs) × (caller.new.answerer ≡ caller.old.answerer) }
-    ensures caller { (ms : List (List ℕ)) (before : IntakeState) (after : IntakeState) →
-        (hears : Hears stopped ms before after) →
-        IsCaller (answering (W.owed work.now) W.DEFERS) ms caller.old.jobs.hand caller.old.frames.hand →
-        IsCaller (answering (W.owed work.now) W.DEFERS) (ms ++ answered_last stopped hears.last)
-        caller.new.jobs.hand caller.new.frames.hand }
-{
-    if let Stopped::Destroy(seq, id) = stopped {
-        let out = destroyed(rt.alloc(), id);
-        frames.push_waiting(rt, &mut caller.frames, Parcel::Prompt(seq, out));
     }
 }
 

@@ -8,7 +8,7 @@ use Rattle.fuse_sender.specs.Relays.{IsRelayed, relay_of}
 use Rattle.fuse_loop.specs.Answering.{answering}
 use Rattle.fuse_core.specs.declared.state.Job.{Job}
 use Rattle.fuse_workers.proofs.Conducting.{Conducts-alone, Conducts-answered, joined-sender}
-use Rattle.fuse_workers.proofs.Working.{Caller-idle}
+use Rattle.fuse_jobs.proofs.Working.{Caller-idle}
 use Rattle.fuse_workers.proofs.workers.conduct.Goals as goal
 
 pub answer_all-stopped-requires-clause-caller : goal.answer_all-stopped-requires-clause-caller

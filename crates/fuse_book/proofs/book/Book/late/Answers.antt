@@ -1,0 +1,22 @@
+use Rattle.std.proofs.Common.{Some}
+use Rattle.std.specs.HashMap.{get}
+use Rattle.fuse_book.specs.Matched.{Tag, same}
+use Rattle.fuse_book.proofs.Bookkeeping.{EachWaiting-after, IsBookOf-after, none_more}
+use Rattle.fuse_book.proofs.book.Book.late.Goals as goal
+
+pub returns-clause-keeps : goal.returns-clause-keeps
+returns-clause-keeps g c = λ marks came sent book.
+    let tag : Tag = (c.args.seq, c.args.id.0) in
+    let met = c.with_frame-go.ensures in
+    let at = c.with_frame-go.result in
+    IsBookOf-after tag 0 (Some c.args.frame) at.0 at.1 marks marks came sent (λ k. none_more k tag marks)
+    c.args.self.now c.put.new.self (get same c.remove.new.self) at.2 c.remove.ensures.updates.0
+    (rw (← c.remove.ensures.value) met.backed) (rw (← c.remove.ensures.value) met.kept) c.put.ensures.backed c.put.ensures.kept book
+
+pub returns-clause-own : goal.returns-clause-own
+returns-clause-own g c = λ test own before.
+    let tag : Tag = (c.args.seq, c.args.id.0) in
+    let met = c.with_frame-go.ensures in
+    let at = c.with_frame-go.result in
+    EachWaiting-after test tag 0 (Some c.args.frame) at.0 at.1 c.args.self.now c.put.new.self (get same c.remove.new.self) at.2
+    c.remove.ensures.updates.0 (rw (← c.remove.ensures.value) met.kept) (rw (← c.remove.ensures.value) met.refused) c.put.ensures.left own before

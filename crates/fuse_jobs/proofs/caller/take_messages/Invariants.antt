@@ -1,0 +1,15 @@
+use Rattle.std.proofs.Common.{◌≡◌, ℕ, List, length}
+use Rattle.fuse_sender.specs.Hearing.{HearsOn}
+use Rattle.fuse_core.specs.OneEach.{number_of}
+use Rattle.fuse_jobs.specs.Answered.{IsCaller}
+use Rattle.fuse_loop.specs.Answering.{answering}
+use Rattle.fuse_jobs.proofs.caller.take_messages.Given as goal
+
+-- these requests were taken and handed in so far
+abbrev pub invariant-loop : goal.invariant-loop
+invariant-loop g l =
+    (l.caller.jobs.line ≡ l.jobs) × (l.caller.frames.line ≡ l.frames)
+    × (l.caller.jobs.hand.others ≡ l.fn.caller.jobs.hand.others) × (l.caller.frames.hand.others ≡ l.fn.caller.frames.hand.others)
+    × (ms : List (List ℕ)) × (number_of (length ms) ≡ l.seq) × HearsOn ms l.fn.intake l.intake
+    × IsCaller (answering (g.W.Work.owed l.work) g.W.Work.DEFERS) ms l.caller.jobs.hand l.caller.frames.hand
+    × (l.caller.answerer.notifier.line ≡ l.frames)

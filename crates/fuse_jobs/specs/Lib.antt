@@ -1,0 +1,3 @@
+pub mod Answered
+pub mod Hearing
+pub mod Callers

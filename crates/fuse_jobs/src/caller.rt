@@ -1,0 +1,212 @@
+// The caller, which takes messages and hands them to workers.
+ghost use Rattle.std.specs.Prelude.{◌≡◌, ◌++◌, ◌∷◌, ℕ, List, [], true, length, MatchBool};
+ghost use Rattle.fuse_line.specs.Hand.{with_put};
+ghost use Rattle.fuse_line.specs.declared.hand.Kind.TheVariants.{First};
+ghost use Rattle.fuse_line.specs.Tells.{IsSettled};
+ghost use Rattle.fuse_loop.specs.Answering.{IsRequest, answering, job_of};
+ghost use Rattle.fuse_loop.specs.Progress.{IntakeState};
+ghost use Rattle.fuse_sender.specs.HandingOn.{answered_last};
+ghost use Rattle.fuse_sender.specs.Hearing.{Hears};
+ghost use Rattle.fuse_jobs.specs.Hearing.{TurnHeard};
+ghost use Rattle.fuse_core.specs.OneEach.{number_of};
+ghost use Rattle.fuse_jobs.specs.Callers.{CallerOn};
+ghost use Rattle.fuse_jobs.specs.Answered.{IsCaller};
+
+use crate::worker::answer_job;
+use fuse_line::{Line, Pass};
+use fuse_loop::{Answerer, Incoming, Intake, RequestJob, Taken, Work, destroyed};
+use fuse_reply::Parcel;
+use fuse_sender::Stopped;
+use fuse_wire::{NoMemory, Source};
+use std::alloc::Global;
+use std::sync::Wait;
+
+/// The first passes of both lines, and what the caller answers messages with itself.
+#[derive(Drop)]
+pub struct Caller {
+    /// The first pass of the line of jobs.
+    pub jobs: Pass<RequestJob>,
+    /// The first pass of the line of frames.
+    pub frames: Pass<Parcel>,
+    /// What the caller answers a message with.
+    pub answerer: Answerer,
+}
+
+/// Pushes a request as a job, and says whether it did: whether there is a worker, and memory and a place for it.
+fn push_job<R: Wait>(
+    rt: &R,
+    alloc: Global,
+    seq: u64,
+    message: &[u8],
+    has_workers: bool,
+    jobs: &Line<RequestJob>,
+    pass: &mut Pass<RequestJob>,
+) -> bool
+    requires request { IsRequest message.now }
+    requires line { pass.old.line ≡ jobs.now }
+    requires first { pass.old.hand.kind ≡ First }
+    ensures line { pass.new.line ≡ jobs.now }
+    ensures hand { MatchBool result
+        (pass.new.hand ≡ with_put pass.old.hand (job_of seq message.now))
+        (pass.new.hand ≡ pass.old.hand) }
+{
+    if !has_workers {
+        return false;
+    }
+    match RequestJob::copied(alloc, seq, message) {
+        Ok(job) => jobs.push(rt, pass, job).is_ok(),
+        Err(NoMemory) => false,
+    }
+}
+
+/// Pushes a request as a job. Where no worker is there, or there is no memory or no place for it, answers it here.
+fn hand_in<R: Wait + AllocGlobal, W: Work>(
+    rt: &R,
+    work: &W,
+    seq: u64,
+    message: &[u8],
+    has_workers: bool,
+    jobs: &Line<RequestJob>,
+    frames: &Line<Parcel>,
+    caller: &mut Caller,
+)
+    requires request { IsRequest message.now }
+    requires lines { CallerOn jobs.now frames.now caller.old }
+    requires first { (caller.old.jobs.hand.kind ≡ First) × (caller.old.frames.hand.kind ≡ First) }
+    ensures lines { CallerOn jobs.now frames.now caller.new }
+    ensures others { (caller.new.jobs.hand.others ≡ caller.old.jobs.hand.others)
+        × (caller.new.frames.hand.others ≡ caller.old.frames.hand.others) }
+    ensures caller { (ms : List (List ℕ)) → number_of (length ms) ≡ seq →
+        IsCaller (answering (W.owed work.now) W.DEFERS) ms caller.old.jobs.hand caller.old.frames.hand →
+        IsCaller (answering (W.owed work.now) W.DEFERS) (ms ++ message.now ∷ []) caller.new.jobs.hand caller.new.frames.hand }
+{
+    if push_job(
+        rt,
+        rt.alloc(),
+        seq,
+        message,
+        has_workers,
+        jobs,
+        &mut caller.jobs,
+    ) {
+        return;
+    }
+    let out = caller.answerer.answer(rt, work, seq, message);
+    frames.push_waiting(rt, &mut caller.frames, Parcel::Prompt(seq, out));
+}
+
+/// Takes a message and hands it in. None is that the run goes on.
+fn take_one<R: Wait + AllocGlobal, W: Work, S: Source>(
+    rt: &R,
+    work: &W,
+    seq: u64,
+    intake: &mut Intake<S>,
+    has_workers: bool,
+    jobs: &Line<RequestJob>,
+    frames: &Line<Parcel>,
+    caller: &mut Caller,
+) -> Option<Stopped>
+    requires lines { CallerOn jobs.now frames.now caller.old }
+    requires first { (caller.old.jobs.hand.kind ≡ First) × (caller.old.frames.hand.kind ≡ First) }
+    ensures lines { CallerOn jobs.now frames.now caller.new }
+    ensures others { (caller.new.jobs.hand.others ≡ caller.old.jobs.hand.others)
+        × (caller.new.frames.hand.others ≡ caller.old.frames.hand.others) }
+    ensures turn { TurnHeard (answering (W.owed work.now) W.DEFERS) seq result intake.old intake.new
+        caller.old.jobs.hand caller.old.frames.hand caller.new.jobs.hand caller.new.frames.hand }
+{
+    let count = match intake.take_message(rt) {
+        Taken::Message(count) => count,
+        Taken::Gone => return Some(Stopped::Gone),
+        Taken::Failed => return Some(Stopped::Failed),
+    };
+    let message = intake.message(count);
+    match Incoming::of(message) {
+        Incoming::Broken(error) => Some(Stopped::Broken(error)),
+        Incoming::Destroy(id) => Some(Stopped::Destroy(seq, id)),
+        Incoming::Request => {
+            hand_in(rt, work, seq, message, has_workers, jobs, frames, caller);
+            None
+        }
+    }
+}
+
+/// Takes messages and hands them in, until no message is left or one ends the run.
+pub fn take_messages<R: Wait + AllocGlobal, W: Work, S: Source>(
+    rt: &R,
+    work: &W,
+    intake: &mut Intake<S>,
+    has_workers: bool,
+    jobs: &Line<RequestJob>,
+    frames: &Line<Parcel>,
+    caller: &mut Caller,
+) -> Stopped
+    requires lines { CallerOn jobs.now frames.now caller.old }
+    requires caller { IsCaller (answering (W.owed work.now) W.DEFERS) [] caller.old.jobs.hand caller.old.frames.hand }
+    ensures lines { CallerOn jobs.now frames.now caller.new }
+    ensures others { (caller.new.jobs.hand.others ≡ caller.old.jobs.hand.others)
+        × (caller.new.frames.hand.others ≡ caller.old.frames.hand.others) }
+    ensures heard { (ms : List (List ℕ)) × Hears result ms intake.old intake.new
+        × IsCaller (answering (W.owed work.now) W.DEFERS) ms caller.new.jobs.hand caller.new.frames.hand }
+{
+    let mut seq: u64 = 0;
+    for _ in rt.forever() {
+        match take_one(rt, work, seq, intake, has_workers, jobs, frames, caller) {
+            Some(stopped) => return stopped,
+            None => seq = seq.saturating_add(1),
+        }
+    }
+    unreachable!()
+}
+
+/// Answers the jobs that no worker took. No worker is left.
+pub fn answer_rest<R: Wait + AllocGlobal, W: Work>(
+    rt: &R,
+    work: &W,
+    jobs: &Line<RequestJob>,
+    frames: &Line<Parcel>,
+    caller: &mut Caller,
+)
+    requires lines { CallerOn jobs.now frames.now caller.old }
+    requires first { (caller.old.jobs.hand.kind ≡ First) × (caller.old.frames.hand.kind ≡ First) }
+    ensures lines { CallerOn jobs.now frames.now caller.new }
+    ensures others { (caller.new.jobs.hand.others ≡ caller.old.jobs.hand.others)
+        × (caller.new.frames.hand.others ≡ caller.old.frames.hand.others) }
+    ensures caller { (ms : List (List ℕ)) →
+        IsCaller (answering (W.owed work.now) W.DEFERS) ms caller.old.jobs.hand caller.old.frames.hand →
+        IsCaller (answering (W.owed work.now) W.DEFERS) ms caller.new.jobs.hand caller.new.frames.hand }
+    ensures settled { IsSettled (λ _. true) caller.new.jobs.hand }
+{
+    for _ in rt.forever() {
+        let Some(job) = jobs.pop(rt, &mut caller.jobs) else {
+            return;
+        };
+        let parcel = answer_job(rt, work, &mut caller.answerer, job);
+        frames.push_waiting(rt, &mut caller.frames, parcel);
+    }
+    unreachable!()
+}
+
+/// Answers DESTROY, where it was the last message.
+pub fn answer_last<R: Wait + AllocGlobal, W: Work>(
+    rt: &R,
+    work: &W,
+    stopped: Stopped,
+    frames: &Line<Parcel>,
+    caller: &mut Caller,
+)
+    requires line { caller.old.frames.line ≡ frames.now }
+    requires first { caller.old.frames.hand.kind ≡ First }
+    ensures line { caller.new.frames.line ≡ frames.now }
+    ensures others { caller.new.frames.hand.others ≡ caller.old.frames.hand.others }
+    ensures same { (caller.new.jobs ≡ caller.old.jobs) × (caller.new.answerer ≡ caller.old.answerer) }
+    ensures caller { (ms : List (List ℕ)) (before : IntakeState) (after : IntakeState) →
+        (hears : Hears stopped ms before after) →
+        IsCaller (answering (W.owed work.now) W.DEFERS) ms caller.old.jobs.hand caller.old.frames.hand →
+        IsCaller (answering (W.owed work.now) W.DEFERS) (ms ++ answered_last stopped hears.last)
+        caller.new.jobs.hand caller.new.frames.hand }
+{
+    if let Stopped::Destroy(seq, id) = stopped {
+        let out = destroyed(rt.alloc(), id);
+        frames.push_waiting(rt, &mut caller.frames, Parcel::Prompt(seq, out));
+    }
+}
