@@ -1,4 +1,3 @@
-pub mod InitLaws
 pub mod PowersOfTen
 pub mod Fronts
 pub mod ConflictLaws

@@ -1,6 +1,7 @@
 -- What may happen on any number of workers, one step after another, and what each step makes of the state. The lists stand for what
 -- the threads share: a line of jobs, a hand for each worker, and a line of parcels for whoever sends.
-use Rattle.std.specs.Prelude.{◌≡◌, ◌<◌, ◌++◌, ℕ, Bool, true, false, List, [], ◌∷◌, Option, Some, None, Ok, length, replicate, slice_get, slice_set, if◌then◌else◌}
+use Rattle.std.specs.Prelude.{◌≡◌, ◌<◌, ◌++◌, ℕ, Bool, true, false, List, [], ◌∷◌, Option, Some, None, Ok}
+use Rattle.std.specs.Prelude.{length, replicate, slice_get, slice_set, if◌then◌else◌}
 use Rattle.fuse_request.specs.Header.{header}
 use Rattle.fuse_request.specs.declared.any_request.Header.{Header}
 use Rattle.fuse_reply.specs.declared.out.Out.{Out}

@@ -4,7 +4,6 @@ use Rattle.fuse_core.specs.OneEach.{Owing, number_of}
 use Rattle.fuse_sender.specs.Hearing.{HearsLast, HearsOn}
 use Rattle.fuse_jobs.specs.Answered.{IsCaller}
 use Rattle.fuse_core.specs.declared.state.Job.{Job}
-use Rattle.fuse_loop.specs.declared.end.End.TheVariants as end
 use Rattle.fuse_line.specs.declared.hand.Hand.{Hand}
 use Rattle.fuse_reply.specs.declared.parcel.Parcel.{Parcel}
 use Rattle.fuse_loop.specs.Progress.{IntakeState}

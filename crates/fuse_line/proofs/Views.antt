@@ -2,15 +2,12 @@
 use Rattle.std.proofs.Common.{◌≡◌, ◌≢◌, ℕ, zero, suc, ◌+◌, ◌≤◌, List, [], ◌∷◌, ◌++◌, set, flat_map, sym, refl, ap, ◌∙◌, subst}
 use Rattle.std.proofs.Common.{⊎_elim, append_assoc, append-nil, arith}
 use Rattle.std.specs.List.Sorted.{IsPermutation}
-use Rattle.std.proofs.lemmas.List.Sorted.{IsPermutation-refl, IsPermutation-trans, IsPermutation-append_right, IsPermutation-append_comm}
+use Rattle.std.proofs.lemmas.List.Sorted.{IsPermutation-trans, IsPermutation-append_right, IsPermutation-append_comm}
 use mathlib.Core.Option.{some, some-injective, some-ne-none}
 use lib.ListN.{get_elem?}
 use Rattle.crossbeam_queue.proofs.Lists.{at_set, at_snoc}
 use Rattle.fuse_line.specs.declared.hand.Hand.{Hand}
 use Rattle.fuse_line.specs.MovedOnce.{total}
-
-pub same_order : {X : Type 0} (xs ys : List X) → xs ≡ ys → IsPermutation xs ys
-same_order xs ys is = subst (IsPermutation xs) is (IsPermutation-refl xs)
 
 pub set_apart : {H : Type 0} (views : List H) (i j : ℕ) (v w : H) → i ≢ j → set (set views i v) j w ≡ set (set views j w) i v
 set_apart [] i j v w apart = refl

@@ -290,7 +290,8 @@ RunEnds-after Failed xs answered refused none_left failed failed' go longer e =
     (e.0, All-append (λ (m : List ℕ). incoming m ≡ Request) xs answered go e.1, longer e.2)
 
 -- a run so far, and its end
-pub Run-then : {owed : Owing} {end : End} {p q r : Progress} (first : RunOn owed 0 p q) → Run (InOrder owed (length first.turns)) end q r → Run (InOrder owed 0) end p r
+pub Run-then : {owed : Owing} {end : End} {p q r : Progress} (first : RunOn owed 0 p q)
+    → Run (InOrder owed (length first.turns)) end q r → Run (InOrder owed 0) end p r
 Run-then {owed} {end} {p} {q} {r} first second = record {
   turns = first.turns ++ second.turns;
   answered = map message first.turns ++ second.answered;

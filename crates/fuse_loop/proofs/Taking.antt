@@ -1,8 +1,7 @@
 -- What is taken from a source, after calls that gave nothing.
-use Rattle.std.proofs.Common.{◌≡◌, ◌≤◌, ℕ, List, [], ◌∷◌, ◌++◌, Option, sym, ◌∙◌, subst, arith, IfSome, ap, append_assoc, refl}
+use Rattle.std.proofs.Common.{◌≡◌, ◌≤◌, ℕ, List, [], ◌++◌, Option, sym, ◌∙◌, subst, arith, IfSome, ap, append_assoc, refl}
 use Rattle.std.specs.Prelude.{Some, None, option_map}
-use Rattle.fuse_wire.specs.Source.{SourceState, Takes, TakesMessage, NothingLeft, Failed}
-use Rattle.fuse_wire.proofs.Devices.{Takes-then}
+use Rattle.fuse_wire.specs.Source.{SourceState, Takes, NothingLeft, Failed}
 use Rattle.fuse_wire.proofs.Options.{option_map-front_none}
 use Rattle.fuse_wire.proofs.Faults.{Rose-after}
 use Rattle.fuse_loop.specs.Progress.{Begins}
@@ -11,15 +10,6 @@ use Rattle.fuse_loop.specs.Progress.{Begins}
 pub NothingLeft-after : (a b : SourceState) → NothingLeft a → Takes [] a b → NothingLeft b
 NothingLeft-after a b none takes =
     subst (λ (o : Option (List (List ℕ))). IfSome o (λ left. left ≡ [])) (takes.turns ∙ sym (option_map-front_none b.turns)) none
-
--- a message after calls that gave nothing
-pub TakesMessage-after : (n : ℕ) (a b c : SourceState) (buffer : List ℕ) → Takes [] a b → TakesMessage n b c buffer → TakesMessage n a c buffer
-TakesMessage-after n a b c buffer nothing takes = record {
-  turn = takes.turn;
-  taken = Takes-then [] (takes.turn ∷ []) a b c nothing takes.taken;
-  fits = takes.fits;
-  bytes = takes.bytes;
-}
 
 -- a failure after calls that did not fail
 pub Failed-after : (a b c : SourceState) → a.faults ≤ b.faults → Failed b c → Failed a c

@@ -1,6 +1,6 @@
 -- Frames: what their fields read, and which of them are set aside.
 use Rattle.std.proofs.Common.{◌≡◌, ◌≤◌, ◌<◌, ◌+◌, ◌-◌, ◌^◌, ◌++◌, ◌&&◌, ℕ, ℤ, pos, zero, suc, List, []}
-use Rattle.std.proofs.Common.{false, length, ap, sym, ◌∙◌, arith, negsuc, nat_lt, lit<, inl, inr, subst, FitsSigned}
+use Rattle.std.proofs.Common.{false, length, ap, sym, ◌∙◌, arith, negsuc, nat_lt, subst, FitsSigned}
 use Rattle.std.proofs.Math.Bool.{and-false}
 use Rattle.std.proofs.lemmas.Bool.{le-ltb}
 use Rattle.std.proofs.lemmas.Int.{to_z-of_z}
@@ -9,14 +9,11 @@ use Rattle.std.specs.Int.{w32, w64, to_le_bytes, cast_unsigned, cast_signed}
 use Rattle.fuse_wire.specs.Numbers.{number}
 use Rattle.fuse_wire.specs.Frames.{IsFrame}
 use Rattle.fuse_wire.proofs.NumberLaws.{number-to_le_bytes_4, number-append_right}
-use Rattle.fuse_wire.specs.ErrorNumbers.{ENOMEM}
 use Rattle.fuse_reply.specs.Sizes.{out_header_size, max_payload}
 use Rattle.fuse_reply.specs.Answer.{Answer, IsAnswer}
 use Rattle.fuse_reply.specs.Answer.Answer.{Error}
 use Rattle.fuse_reply.specs.Payload.{payload}
 use Rattle.fuse_reply.specs.Frame.{frame, reply, answer_status, frame_status, is_set_aside, IsReply}
-use Rattle.fuse_reply.specs.Reply.{RepliesWith}
-use Rattle.fuse_reply.specs.declared.out.Out.TheVariants.{Frame}
 use Rattle.fuse_reply.proofs.PayloadLength.{payload-fits}
 
 -- a frame is its header and its payload
@@ -79,21 +76,6 @@ frame_status-reply id a valid = frame_status-frame id (answer_status a) (payload
 -- a reply is one frame on a stream
 pub is_frame-reply : (id : ℕ) (a : Answer) → IsAnswer a → IsFrame (reply id a)
 is_frame-reply id a valid = is_frame-frame id (answer_status a) (payload a) (payload-fits a valid)
-
-same_frame : (f g : List ℕ) → Frame f ≡ Frame g → f ≡ g
-same_frame f g same = cc
-
--- what a reply came to is no notice
-pub not_set_aside-replies_with : (id : ℕ) (a : Answer) (f : List ℕ) → IsAnswer a → RepliesWith id a (Frame f) → is_set_aside f ≡ false
-not_set_aside-replies_with id a f valid (inl same) = ap is_set_aside (same_frame f (reply id a) same) ∙ not_set_aside-reply id a valid
-not_set_aside-replies_with id a f valid (inr (long, same)) =
-    ap is_set_aside (same_frame f (reply id (Error ENOMEM)) same) ∙ not_set_aside-reply id (Error ENOMEM) (lit< tt, lit< tt)
-
--- and it is one frame on a stream
-pub is_frame-replies_with : (id : ℕ) (a : Answer) (f : List ℕ) → IsAnswer a → RepliesWith id a (Frame f) → IsFrame f
-is_frame-replies_with id a f valid (inl same) = subst IsFrame (sym (same_frame f (reply id a) same)) (is_frame-reply id a valid)
-is_frame-replies_with id a f valid (inr (long, same)) =
-    subst IsFrame (sym (same_frame f (reply id (Error ENOMEM)) same)) (is_frame-reply id (Error ENOMEM) (lit< tt, lit< tt))
 
 -- bytes that are a reply are not set aside
 pub not_set_aside-is_reply : (f : List ℕ) → IsReply f → is_set_aside f ≡ false

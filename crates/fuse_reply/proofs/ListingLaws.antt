@@ -13,10 +13,6 @@ use Rattle.fuse_reply.specs.Listing.{DirEntry, PlusEntry, Fits, dirent, dirent_h
 use Rattle.fuse_reply.specs.Attributes.{entry_payload}
 use Rattle.fuse_reply.proofs.PayloadLength.{length-entry_payload}
 
--- no bytes are no entries
-pub AreEntries-nil : {E : Type 0} (spelling : E → List ℕ) (InRange : E → Type 0) → AreEntries spelling InRange []
-AreEntries-nil spelling InRange = record { entries = []; in_range = tt; are = refl }
-
 -- what holds of each holds with one more
 each-add : {E : Type 0} (P : E → Type 0) (entries : List E) (e : E) → AllByRecursion P entries → P e → AllByRecursion P (entries ++ e ∷ [])
 each-add P [] e each here = (here, tt)

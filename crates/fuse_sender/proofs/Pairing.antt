@@ -133,10 +133,6 @@ Parts-framed f = inl (f, [], refl, refl, (refl, refl, refl, refl))
 pub Parts-noted : (id : RequestId) (mark : ℕ) → Parts (Note id mark ∷ []) [] ((id.0, mark) ∷ []) [] []
 Parts-noted id mark = inr (inl ((id.0, mark), [], refl, refl, (refl, refl, refl, refl)))
 
--- one out, which marks that the reply comes later
-pub Parts-marked : (seq : ℕ) (id : RequestId) → Parts (Deferred seq id ∷ []) [] [] ((seq, id.0) ∷ []) []
-Parts-marked seq id = inr (inr (inl ((seq, id.0), [], refl, refl, (refl, refl, refl, refl))))
-
 -- one out, which was lost
 pub Parts-lost : (out : Out) → Parts (out ∷ []) [] [] [] (out ∷ [])
 Parts-lost out = inr (inr (inr ([], refl, (refl, refl, refl, refl))))

@@ -162,7 +162,8 @@ ServesOn-next {owed} {messages} {taken} {a} {b} {c} {r} {s} so_far m seq t u res
 }
 
 -- no message more
-module _ {owed : Owing} {messages : List (List ℕ)} {taken : List Parcel} {a b c : IntakeState} {r s : RelayState} (so_far : ServesOn owed messages taken a b r s)
+module _ {owed : Owing} {messages : List (List ℕ)} {taken : List Parcel} {a b c : IntakeState} {r s : RelayState}
+    (so_far : ServesOn owed messages taken a b r s)
     (stopped : Stopped) (t u : RelayState) (rest : List Parcel) (sent : Relays rest t u) (none : outs_of rest ≡ []) where
   ends-here : (hears : HearsLast stopped (number_of (length messages)) [] b c)
       → AnswersLast owed (number_of (length messages)) (answered_last stopped hears.last) s t → ServesAlone owed stopped (taken ++ rest) a c r u

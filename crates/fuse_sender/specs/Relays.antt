@@ -98,8 +98,3 @@ pub record IsRelayed (frames : Hand Parcel) (before after : RelayState) : Type 0
   pub kind : frames.kind ≡ Inner
   pub no_put : frames.put ≡ []
   pub relays : Relays frames.taken before after
-
--- no notice and no late frame is among the parcels
-pub record Unmixed (parcels : List Parcel) : Type 0 where
-  pub no_notice : notices_in parcels ≡ []
-  pub no_late : lates_in parcels ≡ []

@@ -110,7 +110,8 @@ members-least zero = refl
 members-least (suc zero) = refl
 members-least (suc (suc zero)) = refl
 members-least (suc (suc (suc zero))) = refl
-members-least (suc (suc (suc (suc n)))) = members-past (min (suc (suc (suc (suc n)))) 4) (omega arith) ∙ sym (members-past (suc (suc (suc (suc n)))) (omega arith))
+members-least (suc (suc (suc (suc n)))) =
+    members-past (min (suc (suc (suc (suc n)))) 4) (omega arith) ∙ sym (members-past (suc (suc (suc (suc n)))) (omega arith))
 
 -- at the start nothing is held
 pub joined-start : (size offset first : ℕ) (held : List ℕ) → held ≡ [] → first ≡ min offset 4

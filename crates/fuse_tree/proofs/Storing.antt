@@ -1,5 +1,6 @@
 -- Frames that are kept one after the other.
-use Rattle.std.proofs.Common.{◌≡◌, ◌≤◌, ◌^◌, ◌&&◌, Some, ◌+◌, ◌++◌, ℕ, suc, Bool, true, false, not, List, [], ◌∷◌, refl, ap, sym, ◌∙◌, arith, length, append-nil, length-append}
+use Rattle.std.proofs.Common.{◌≡◌, ◌≤◌, ◌^◌, ◌&&◌, Some, ◌+◌, ◌++◌, ℕ, suc, Bool, true, false, not, List, [], ◌∷◌}
+use Rattle.std.proofs.Common.{refl, ap, sym, ◌∙◌, arith, length, append-nil, length-append}
 use Rattle.std.specs.Prelude.{filter, nat_le, nat_lt, if◌then◌else◌}
 use Rattle.std.specs.List.{concat, AllByRecursion}
 use Rattle.std.proofs.lemmas.List.Elements.{filter-append}
@@ -73,7 +74,8 @@ IsStored-reply error bytes frame count errors total reply is whole s =
     ∙ (length-append (filter is_error (replies (frames bytes))) (filter is_error (frame ∷ []))
     ∙ ap (λ (n : ℕ). length (filter is_error (replies (frames bytes))) + n) (failed-one error frame is)) in
     let sizes : length (concat (replies (frames bytes) ++ frame ∷ [])) ≡ length (concat (replies (frames bytes))) + length frame =
-    ap (λ (b : List ℕ). length b) (concat-append (replies (frames bytes)) (frame ∷ []) ∙ ap (λ (last : List ℕ). concat (replies (frames bytes)) ++ last) (append-nil frame))
+    ap (λ (b : List ℕ). length b) (concat-append (replies (frames bytes)) (frame ∷ [])
+    ∙ ap (λ (last : List ℕ). concat (replies (frames bytes)) ++ last) (append-nil frame))
     ∙ length-append (concat (replies (frames bytes))) frame in
     record {
       joined = ap concat split ∙ (concat-append (frames bytes) (frame ∷ []) ∙ (ap (λ (front : List ℕ). front ++ concat (frame ∷ [])) s.joined

@@ -7,14 +7,6 @@ use Rattle.fuse_wire.specs.Cut.{first_length, cut_in, cut, IsMessage}
 use Rattle.fuse_wire.specs.declared.consts.TheConstants.{BUFFER_SIZE}
 use Rattle.fuse_wire.proofs.NumberFront.{number-append}
 
--- the first message is within the bytes
-pub first_length-within : (bytes : List ℕ) → first_length bytes ≤ length bytes
-first_length-within bytes = omega arith
-
--- the first message is within the buffer
-pub first_length-fits : (bytes : List ℕ) → first_length bytes ≤ BUFFER_SIZE
-first_length-fits bytes = omega arith
-
 -- the first message of some bytes is not empty
 pub first_length-some : (bytes : List ℕ) → 0 < length bytes → 0 < first_length bytes
 first_length-some bytes some = omega arith

@@ -1,6 +1,6 @@
 -- Numbers in messages: which bytes a number looks at, what it is at most, and how it reads back what was written.
 use Rattle.std.proofs.Common.{◌≡◌, ℕ, zero, suc, ◌+◌, ◌*◌, ◌^◌, ◌<◌, ◌≤◌, ◌/◌, ◌%◌, List, [], ◌∷◌, ◌++◌, length, get_or, refl, ap, sym, ◌∙◌, subst, arith}
-use Rattle.std.specs.Int.{Width, w16, w32, w64, byte_len, byte_at, bytes_low_first, to_le_bytes}
+use Rattle.std.specs.Int.{Width, w32, w64, byte_len, byte_at, bytes_low_first, to_le_bytes}
 use Rattle.std.proofs.Math.Nat.{pow-succ', mul_assoc, div-add-mod, pow-suc, div-div-eq-div-mul, div-one}
 use Rattle.std.proofs.lemmas.List.{get_or_append_left, get_or-append-add}
 use Rattle.fuse_wire.specs.Numbers.{number}
@@ -84,10 +84,6 @@ number-to_le_bytes w n rest fits =
     let whole : n / 256 ^ 0 ≡ n = div-one n in
     let fits_whole : n / 256 ^ 0 < 256 ^ byte_len w = subst (λ m. m < 256 ^ byte_len w) (sym whole) fits in
     number-bytes_low_first 0 (byte_len w) n rest fits_whole ∙ whole
-
--- of 2 bytes
-pub number-to_le_bytes_2 : (n : ℕ) (rest : List ℕ) → n < 2 ^ 16 → number (to_le_bytes w16 n ++ rest) 0 2 ≡ n
-number-to_le_bytes_2 n rest fits = number-to_le_bytes w16 n rest fits
 
 -- of 4 bytes
 pub number-to_le_bytes_4 : (n : ℕ) (rest : List ℕ) → n < 2 ^ 32 → number (to_le_bytes w32 n ++ rest) 0 4 ≡ n

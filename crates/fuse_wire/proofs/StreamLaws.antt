@@ -29,10 +29,6 @@ pub option-append_twice : {A : Type 0} (before middle after : Option (List A)) (
 option-append_twice None middle after first second e f = f ∙ ap (option_map (λ held. held ++ second)) e
 option-append_twice (Some held) middle after first second e f = f ∙ ap (option_map (λ held. held ++ second)) e ∙ ap Some (append_assoc held first second)
 
--- nothing was put
-pub PutsBytes-nil : (state : ByteSinkState) → PutsBytes [] state state
-PutsBytes-nil state = record { bytes = option-append_nil state.bytes; faults = omega arith }
-
 -- one piece was put after another
 pub PutsBytes-append : (first second : List ℕ) (before middle after : ByteSinkState) → PutsBytes first before middle →
     PutsBytes second middle after → PutsBytes (first ++ second) before after

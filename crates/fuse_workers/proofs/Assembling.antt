@@ -26,7 +26,6 @@ use Rattle.fuse_loop.specs.Progress.{IntakeState, IsPrompt, LeavesOut, Moves, bu
 use Rattle.fuse_loop.specs.Answering.{answering}
 use Rattle.fuse_sender.specs.declared.stopped.Stopped.{Stopped}
 use Rattle.fuse_sender.specs.declared.stopped.Stopped.TheVariants.{Gone, Destroy, Broken, Failed}
-use Rattle.fuse_loop.specs.declared.end.End.TheVariants as end
 use Rattle.fuse_core.specs.declared.state.Job.{Job}
 use Rattle.fuse_loop.specs.declared.transcript.Transcript.{Transcript}
 use Rattle.fuse_book.proofs.Bookkeeping.{IsBookOf-matches}

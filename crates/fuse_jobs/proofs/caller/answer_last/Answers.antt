@@ -23,7 +23,8 @@ use Rattle.fuse_jobs.proofs.caller.answer_last.Goals as goal
 pub returns-in-Destroy-clause-caller : goal.returns-in-Destroy-clause-caller
 returns-in-Destroy-clause-caller g c ms before after hears caller =
     let owed : Owing = answering (g.W.Work.owed c.args.work.now) g.W.Work.DEFERS in
-    let stops = subst (λ (s : Stopped). StopsWith s (number_of (length ms)) hears.last (NothingLeft after.source) (SourceFailed before.source after.source)) c.in-Destroy.is hears.stops in
+    let stops = subst (λ (s : Stopped). StopsWith s (number_of (length ms)) hears.last (NothingLeft after.source)
+    (SourceFailed before.source after.source)) c.in-Destroy.is hears.stops in
     let m = stops.0 in
     let j = c.args.caller.now.jobs.hand in
     let f = c.args.caller.now.frames.hand in

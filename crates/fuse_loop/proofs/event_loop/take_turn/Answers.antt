@@ -17,7 +17,8 @@ pub returns-in-Gone-clause-turn : goal.returns-in-Gone-clause-turn
 returns-in-Gone-clause-turn g c = λ place number. Run-gone (g.W.Work.owed c.args.work.now) place c.args.channel.now c.take_message.new.self c.in-Gone.ensures
 
 pub returns-in-Failed-clause-turn : goal.returns-in-Failed-clause-turn
-returns-in-Failed-clause-turn g c = λ place number. Run-failed (g.W.Work.owed c.args.work.now) place c.args.channel.now c.take_message.new.self c.in-Failed.ensures
+returns-in-Failed-clause-turn g c =
+    λ place number. Run-failed (g.W.Work.owed c.args.work.now) place c.args.channel.now c.take_message.new.self c.in-Failed.ensures
 
 pub returns-in-Broken-clause-turn : goal.returns-in-Broken-clause-turn
 returns-in-Broken-clause-turn g c = λ place number.

@@ -3,9 +3,9 @@ use Rattle.std.specs.Prelude.{option_map}
 use Rattle.fuse_wire.specs.declared.no_memory.NoMemory.{NoMemory}
 use Rattle.fuse_reply.specs.Answer.{IsDirEntry}
 use Rattle.fuse_reply.specs.Adding.{Adds, Listing}
-use Rattle.fuse_reply.specs.Listing.{DirEntry, Fits, dirent, listing}
+use Rattle.fuse_reply.specs.Listing.{Fits, dirent, listing}
 use Rattle.fuse_reply.specs.Sizes.{inline_size}
-use Rattle.fuse_read_only.specs.Tree.{fitting, followed_by, member_of, numbered}
+use Rattle.fuse_read_only.specs.Tree.{followed_by, member_of, numbered}
 use Rattle.fuse_read_only.specs.ReadOnly.{listing_of}
 use Rattle.fuse_read_only.proofs.Members.{each-add, joined-end, joined-full, joined-here, joined-next, listed-more, listed-whole, listing-add, of-error}
 use Rattle.fuse_read_only.proofs.Members.{numbered-last, numbered-none}

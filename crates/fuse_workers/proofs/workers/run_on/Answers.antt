@@ -24,7 +24,10 @@ returns-clause-run g c never =
     let run = Run-prompt owed g.W.Work.DEFERS stopped first.intake ends.intake (relay_of first.relay.outlet first.relay.book)
     (relay_of ends.relay.outlet ends.relay.book) ends.caller.jobs.hand ends.caller.frames.hand
     conducts c.requires.nothing.0 c.requires.nothing.1 c.requires.book c.requires.own told.transcript.unrecorded never in
-    let last : progress ends.intake.source ends.relay.outlet.sink (record ends.relay.outlet.counts { received = ends.intake.received; unrecorded = told.transcript.unrecorded }) (notices_in taken)
+    let last : progress ends.intake.source ends.relay.outlet.sink (record ends.relay.outlet.counts {
+      received = ends.intake.received;
+      unrecorded = told.transcript.unrecorded;
+    }) (notices_in taken)
     ≡ progress (g.S.Source.told told.source) (g.K.Sink.told told.sink) told.transcript (unasked_of told.buffers) =
     let a = sym c.ended.ensures.ends.0 in
     let b = sym c.ended.ensures.ends.1 in
@@ -49,7 +52,10 @@ returns-clause-later g c =
     (relay_of ends.relay.outlet ends.relay.book) ends.caller.jobs.hand ends.caller.frames.hand
     conducts c.requires.nothing.0 c.requires.nothing.1 c.requires.book c.requires.own told.transcript.unrecorded recorded
     (kept-by g.W.Work.DEFERS told.transcript.unrecorded ends.relay.book.unrecorded c.ended.ensures.later) in
-    let last : progress ends.intake.source ends.relay.outlet.sink (record ends.relay.outlet.counts { received = ends.intake.received; unrecorded = told.transcript.unrecorded }) (notices_in taken)
+    let last : progress ends.intake.source ends.relay.outlet.sink (record ends.relay.outlet.counts {
+      received = ends.intake.received;
+      unrecorded = told.transcript.unrecorded;
+    }) (notices_in taken)
     ≡ progress (g.S.Source.told told.source) (g.K.Sink.told told.sink) told.transcript (unasked_of told.buffers) =
     let a = sym c.ended.ensures.ends.0 in
     let b = sym c.ended.ensures.ends.1 in
@@ -61,4 +67,7 @@ returns-clause-later g c =
     (g.K.Sink.told told.sink) told.transcript (unasked_of told.buffers))) (sym (c.ended.ensures.end ∙ c.end.ensures))
     (subst (λ (q : Progress). Run (NoneHeldBack owed IsBroken (late_of told.buffers) recorded) (end_of stopped) before q) last
     (subst (λ (came : List LateSeen). Run (NoneHeldBack owed IsBroken came recorded) (end_of stopped) before
-    (progress ends.intake.source ends.relay.outlet.sink (record ends.relay.outlet.counts { received = ends.intake.received; unrecorded = told.transcript.unrecorded }) (notices_in taken))) late run))
+    (progress ends.intake.source ends.relay.outlet.sink (record ends.relay.outlet.counts {
+      received = ends.intake.received;
+      unrecorded = told.transcript.unrecorded;
+    }) (notices_in taken))) late run))
