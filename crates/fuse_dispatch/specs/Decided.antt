@@ -1,8 +1,8 @@
 -- What the code decides of a message, as plain data.
 use Rattle.std.specs.Prelude.{◌≡◌, ℕ, Some, Result, Ok, Err}
-use Rattle.fuse_request.specs.Call.{Call as Asked, call}
-use Rattle.fuse_request.specs.Operation.{Op, plain}
-use Rattle.fuse_request.specs.declared.operation.Operation.{Operation}
+use Rattle.fuse_operations.specs.Call.{Call as Asked, call}
+use Rattle.fuse_operations.specs.Operation.{Op, plain}
+use Rattle.fuse_operations.specs.declared.operation.Operation.{Operation}
 use Rattle.fuse_dispatch.specs.Verdict.{Verdict as Decision}
 use Rattle.fuse_dispatch.specs.Verdict.Verdict.{Broken as IsBroken, Ends as IsEnds, Fixed as IsFixed, Forgets, Calls}
 use Rattle.fuse_dispatch.specs.declared.decision.Verdict.{Verdict}

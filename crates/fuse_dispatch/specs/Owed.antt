@@ -2,11 +2,11 @@
 use Rattle.std.specs.Prelude.{◌≡◌, ◌⊎◌, ◌==◌, ℕ, List, IsTrue, Bool, true, false, Result, Ok, Err, refl, if◌then◌else◌}
 use Rattle.std.proofs.Common.{sym, subst}
 use Rattle.fuse_wire.specs.ErrorNumbers.{ENOMEM}
-use Rattle.fuse_request.specs.Call.{Call}
-use Rattle.fuse_request.specs.Call.Call.{Poll}
+use Rattle.fuse_operations.specs.Call.{Call}
+use Rattle.fuse_operations.specs.Call.Call.{Poll}
 use Rattle.fuse_request.specs.Header.{header, header_fields, body, request_of}
 use Rattle.fuse_request.specs.Opcode.{FUSE_DESTROY}
-use Rattle.fuse_request.specs.Operation.{operation}
+use Rattle.fuse_request.specs.Decoding.{operation}
 use Rattle.fuse_request.specs.declared.any_request.Header.{Header}
 use Rattle.fuse_request.specs.declared.error.RequestError.{RequestError}
 use Rattle.fuse_request.specs.declared.request.Request.{Request}

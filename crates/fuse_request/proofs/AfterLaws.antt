@@ -9,7 +9,7 @@ use Rattle.fuse_wire.specs.Numbers.{number}
 use Rattle.fuse_wire.proofs.NumberFront.{number-append, number-take}
 use Rattle.fuse_request.specs.Header.{header, header_fields, body}
 use Rattle.fuse_request.specs.After.{UnreadAfter, with_after}
-use Rattle.fuse_request.specs.Operation.{operation}
+use Rattle.fuse_request.specs.Decoding.{operation}
 use Rattle.fuse_request.specs.declared.any_request.Header.{Header}
 use Rattle.fuse_request.specs.declared.error.RequestError.{RequestError}
 use Rattle.fuse_request.specs.declared.error.RequestError.TheVariants.{ShortReadHeader, ShortRead, InsufficientData}

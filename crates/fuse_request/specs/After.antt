@@ -2,7 +2,7 @@
 use Rattle.std.specs.Prelude.{◌≡◌, ℕ, ◌++◌, List, Ok, take}
 use Rattle.fuse_wire.specs.Numbers.{number}
 use Rattle.fuse_request.specs.Header.{header, body}
-use Rattle.fuse_request.specs.Operation.{operation}
+use Rattle.fuse_request.specs.Decoding.{operation}
 use Rattle.fuse_request.specs.declared.any_request.Header.{Header}
 
 -- the bytes that the header counts, with others after them

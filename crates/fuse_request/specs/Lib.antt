@@ -1,12 +1,6 @@
 pub mod Asker
-pub mod Carried
-pub mod Fields
-pub mod SetAttr
-pub mod Forgets
-pub mod InitOperation
 pub mod Header
 pub mod Opcode
-pub mod Operation
-pub mod Call
+pub mod Decoding
 pub mod After
 pub mod ErrorText

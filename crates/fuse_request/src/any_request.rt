@@ -1,11 +1,12 @@
 // A message taken apart.
 ghost use Rattle.std.specs.Prelude.{◌≡◌, ◌≤◌, Ok, IsOk, length};
 ghost use Rattle.fuse_request.specs.Header.{Decodes, header, header_fields, body_of, header_of, request_of};
-ghost use Rattle.fuse_request.specs.Operation.{Is, Keeps, operation};
+ghost use Rattle.fuse_request.specs.Decoding.{Is, Keeps, operation};
 
 use crate::decoding::{destroy_to_cuse_init, init_to_bmap, lookup_to_link, open_to_flush};
 use crate::opcode::{FUSE_DESTROY, FUSE_INIT, FUSE_OPEN};
-use crate::{Operation, Request, RequestError};
+use crate::{Request, RequestError};
+use fuse_operations::Operation;
 use fuse_wire::consts::REQUEST_HEADER_SIZE;
 use fuse_wire::{INodeNo, RequestId, u32_at, u64_at};
 

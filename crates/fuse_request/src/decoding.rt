@@ -1,8 +1,9 @@
 // What a body asks, by its opcode.
-ghost use Rattle.fuse_request.specs.Operation.{Is, Keeps, lookup_to_link, open_to_flush, init_to_bmap};
-ghost use Rattle.fuse_request.specs.Operation.{destroy_to_cuse_init};
+ghost use Rattle.fuse_request.specs.Decoding.{Is, Keeps, lookup_to_link, open_to_flush, init_to_bmap};
+ghost use Rattle.fuse_request.specs.Decoding.{destroy_to_cuse_init};
 ghost use Rattle.fuse_wire.specs.declared.newtypes.INodeNo.{INodeNo};
 
+use crate::RequestError;
 use crate::opcode::{
     CUSE_INIT, FUSE_ACCESS, FUSE_BATCH_FORGET, FUSE_BMAP, FUSE_COPY_FILE_RANGE, FUSE_CREATE,
     FUSE_DESTROY, FUSE_FALLOCATE, FUSE_FLUSH, FUSE_FORGET, FUSE_FSYNC, FUSE_FSYNCDIR, FUSE_GETATTR,
@@ -12,14 +13,14 @@ use crate::opcode::{
     FUSE_RELEASEDIR, FUSE_REMOVEXATTR, FUSE_RENAME, FUSE_RENAME2, FUSE_RMDIR, FUSE_SETATTR,
     FUSE_SETLK, FUSE_SETLKW, FUSE_SETXATTR, FUSE_STATFS, FUSE_SYMLINK, FUSE_UNLINK, FUSE_WRITE,
 };
-use crate::{
+use fuse_args::ArgumentIterator;
+use fuse_operations::{
     Access, BMap, BatchForget, CopyFileRange, Create, CuseInit, Destroy, FAllocate, FSync,
     FSyncDir, Flush, Forget, GetAttr, GetLk, GetXAttr, Init, Interrupt, IoCtl, Link, ListXAttr,
     Lookup, Lseek, MkDir, MkNod, NotifyReply, Open, OpenDir, Operation, Poll, Read, ReadDir,
-    ReadDirPlus, ReadLink, Release, ReleaseDir, RemoveXAttr, Rename, Rename2, RequestError, RmDir,
-    SetAttr, SetLk, SetXAttr, StatFs, SymLink, Unlink, Write,
+    ReadDirPlus, ReadLink, Release, ReleaseDir, RemoveXAttr, Rename, Rename2, RmDir, SetAttr,
+    SetLk, SetXAttr, StatFs, SymLink, Unlink, Write,
 };
-use fuse_args::ArgumentIterator;
 use fuse_wire::INodeNo;
 use std::marker::PhantomData;
 
@@ -34,7 +35,7 @@ macro_rules! whole {
 
 /// What the opcodes from LOOKUP to LINK ask.
 #[inline(always)]
-#[tactic(auto, unfolding(crate::specs::Operation::lookup_to_link))]
+#[tactic(auto, unfolding(crate::specs::Decoding::lookup_to_link))]
 pub(crate) fn lookup_to_link<'a>(
     opcode: u32,
     node: INodeNo,
@@ -111,7 +112,7 @@ pub(crate) fn lookup_to_link<'a>(
 
 /// What the opcodes from OPEN to FLUSH ask.
 #[inline(always)]
-#[tactic(auto, unfolding(crate::specs::Operation::open_to_flush))]
+#[tactic(auto, unfolding(crate::specs::Decoding::open_to_flush))]
 pub(crate) fn open_to_flush(opcode: u32, body: &[u8]) -> Result<Operation<'_>, RequestError>
     ensures { Is result (open_to_flush opcode body.now) × ((node : INodeNo) → Keeps result node) }
 {
@@ -182,7 +183,7 @@ pub(crate) fn open_to_flush(opcode: u32, body: &[u8]) -> Result<Operation<'_>, R
 
 /// What the opcodes from INIT to BMAP ask.
 #[inline(always)]
-#[tactic(auto, unfolding(crate::specs::Operation::init_to_bmap))]
+#[tactic(auto, unfolding(crate::specs::Decoding::init_to_bmap))]
 pub(crate) fn init_to_bmap(opcode: u32, body: &[u8]) -> Result<Operation<'_>, RequestError>
     ensures { Is result (init_to_bmap opcode body.now) × ((node : INodeNo) → Keeps result node) }
 {
@@ -265,7 +266,7 @@ pub(crate) fn init_to_bmap(opcode: u32, body: &[u8]) -> Result<Operation<'_>, Re
 
 /// What the opcodes from DESTROY on ask.
 #[inline(always)]
-#[tactic(auto, unfolding(crate::specs::Operation::destroy_to_cuse_init))]
+#[tactic(auto, unfolding(crate::specs::Decoding::destroy_to_cuse_init))]
 pub(crate) fn destroy_to_cuse_init<'a>(
     opcode: u32,
     node: INodeNo,

@@ -1,7 +1,7 @@
 -- A filesystem with one lock, for which its callers wait.
 use Rattle.std.specs.Prelude.{◌≡◌, ◌⊎◌, ℕ, Bool, true, false, Result, Ok}
-use Rattle.fuse_request.specs.Call.{Call}
-use Rattle.fuse_request.specs.Call.Call.{SetLk}
+use Rattle.fuse_operations.specs.Call.{Call}
+use Rattle.fuse_operations.specs.Call.Call.{SetLk}
 use Rattle.fuse_reply.specs.Answer.{Answer}
 use Rattle.fuse_reply.specs.Answer.Answer.{Empty, Error}
 use Rattle.fuse_reply.specs.Door.{DoorSeen}

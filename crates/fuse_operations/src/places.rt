@@ -18,14 +18,18 @@ pub struct FilenameInDir<'a> {
 /// RENAME: a name moves to another place.
 #[derive(Drop)]
 pub struct Rename<'a> {
-    pub(crate) node: INodeNo,
-    pub(crate) newdir: u64,
-    pub(crate) old_name: &'a [u8],
-    pub(crate) new_name: &'a [u8],
+    /// The node of the request.
+    pub node: INodeNo,
+    /// The number of the directory that it moves to.
+    pub newdir: u64,
+    /// The name that it has, without the zero byte that ends it.
+    pub old_name: &'a [u8],
+    /// The name that it gets, without the zero byte that ends it.
+    pub new_name: &'a [u8],
 }
 
 impl<'a> Model for Rename<'a> {
-    ghost use Rattle.fuse_request.specs.Carried.{Moved};
+    ghost use Rattle.fuse_operations.specs.Carried.{Moved};
 
     ghost Value = { Moved };
 
@@ -64,14 +68,18 @@ impl<'a> Rename<'a> {
 /// RENAME2: a name moves to another place, in a way that flags say.
 #[derive(Drop)]
 pub struct Rename2<'a> {
-    pub(crate) node: INodeNo,
-    pub(crate) arguments: Rename2Arguments,
-    pub(crate) old_name: &'a [u8],
-    pub(crate) new_name: &'a [u8],
+    /// The node of the request.
+    pub node: INodeNo,
+    /// The fixed part, as it was sent.
+    pub arguments: Rename2Arguments,
+    /// The name that it has, without the zero byte that ends it.
+    pub old_name: &'a [u8],
+    /// The name that it gets, without the zero byte that ends it.
+    pub new_name: &'a [u8],
 }
 
 impl<'a> Model for Rename2<'a> {
-    ghost use Rattle.fuse_request.specs.Carried.{MovedByFlags};
+    ghost use Rattle.fuse_operations.specs.Carried.{MovedByFlags};
 
     ghost Value = { MovedByFlags };
 
@@ -117,13 +125,16 @@ impl<'a> Rename2<'a> {
 /// LINK: an inode gets another name.
 #[derive(Drop)]
 pub struct Link<'a> {
-    pub(crate) node: INodeNo,
-    pub(crate) oldnodeid: u64,
-    pub(crate) new_name: &'a [u8],
+    /// The node of the request.
+    pub node: INodeNo,
+    /// The number of the inode that gets the name.
+    pub oldnodeid: u64,
+    /// The name that it gets, without the zero byte that ends it.
+    pub new_name: &'a [u8],
 }
 
 impl<'a> Model for Link<'a> {
-    ghost use Rattle.fuse_request.specs.Carried.{Linked};
+    ghost use Rattle.fuse_operations.specs.Carried.{Linked};
 
     ghost Value = { Linked };
 

@@ -1,6 +1,6 @@
 // Lookups of several inodes that are given back.
 ghost use Rattle.std.specs.Prelude.{◌≡◌, ◌==◌, length, option_map, slice_get};
-ghost use Rattle.fuse_request.specs.Forgets.{row_bytes, row_of, rows_of};
+ghost use Rattle.fuse_operations.specs.Forgets.{row_bytes, row_of, rows_of};
 
 use fuse_wire::{INodeNo, u64_at};
 use std::marker::Model;
@@ -74,7 +74,8 @@ impl<'a> ForgetList<'a> {
 /// A contract sees the bytes of the rows.
 #[derive(Drop)]
 pub struct BatchForget<'a> {
-    pub(crate) rows: &'a [u8],
+    /// The rows, 16 bytes each.
+    pub rows: &'a [u8],
 }
 
 impl<'a> Model for BatchForget<'a> {

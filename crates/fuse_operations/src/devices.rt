@@ -9,13 +9,15 @@ use std::marker::Model;
 /// IOCTL: a command to a device.
 #[derive(Drop)]
 pub struct IoCtl<'a> {
-    pub(crate) arguments: IoCtlArguments,
-    pub(crate) in_bytes: &'a [u8],
+    /// The fixed part, as it was sent.
+    pub arguments: IoCtlArguments,
+    /// The data of the command, as many bytes as the fixed part says.
+    pub in_bytes: &'a [u8],
 }
 
 impl<'a> Model for IoCtl<'a> {
     ghost use Rattle.fuse_args.specs.declared.fixed.devices.IoCtlArguments.{IoCtlArguments};
-    ghost use Rattle.fuse_request.specs.Carried.{WithBytes};
+    ghost use Rattle.fuse_operations.specs.Carried.{WithBytes};
 
     ghost Value = { WithBytes IoCtlArguments };
 
@@ -23,7 +25,7 @@ impl<'a> Model for IoCtl<'a> {
 }
 
 impl<'a> IoCtl<'a> {
-    ghost use Rattle.fuse_request.specs.Fields.{is_unrestricted};
+    ghost use Rattle.fuse_operations.specs.Fields.{is_unrestricted};
 
     /// The bytes handed in.
     pub fn in_data(&self) -> &'a [u8]
@@ -71,7 +73,8 @@ impl<'a> IoCtl<'a> {
 /// POLL: whether an open file is ready.
 #[derive(Drop)]
 pub struct Poll {
-    pub(crate) arguments: PollArguments,
+    /// The fixed part, as it was sent.
+    pub arguments: PollArguments,
 }
 
 impl Model for Poll {

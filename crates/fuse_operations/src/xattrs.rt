@@ -21,13 +21,16 @@ pub enum GetXAttrSizeEnum {
 /// SETXATTR: an extended attribute is set.
 #[derive(Drop)]
 pub struct SetXAttr<'a> {
-    pub(crate) arguments: SetXAttrArguments,
-    pub(crate) name: &'a [u8],
-    pub(crate) value: &'a [u8],
+    /// The fixed part, as it was sent.
+    pub arguments: SetXAttrArguments,
+    /// The name, without the zero byte that ends it.
+    pub name: &'a [u8],
+    /// The value, as long as the fixed part says.
+    pub value: &'a [u8],
 }
 
 impl<'a> Model for SetXAttr<'a> {
-    ghost use Rattle.fuse_request.specs.Carried.{NamedValue};
+    ghost use Rattle.fuse_operations.specs.Carried.{NamedValue};
 
     ghost Value = { NamedValue };
 
@@ -67,13 +70,15 @@ impl<'a> SetXAttr<'a> {
 /// GETXATTR: the value of an extended attribute.
 #[derive(Drop)]
 pub struct GetXAttr<'a> {
-    pub(crate) arguments: GetXAttrArguments,
-    pub(crate) name: &'a [u8],
+    /// The fixed part, as it was sent.
+    pub arguments: GetXAttrArguments,
+    /// The name, without the zero byte that ends it.
+    pub name: &'a [u8],
 }
 
 impl<'a> Model for GetXAttr<'a> {
     ghost use Rattle.fuse_args.specs.declared.fixed.nodes.GetXAttrArguments.{GetXAttrArguments};
-    ghost use Rattle.fuse_request.specs.Carried.{Named};
+    ghost use Rattle.fuse_operations.specs.Carried.{Named};
 
     ghost Value = { Named GetXAttrArguments };
 
@@ -81,7 +86,7 @@ impl<'a> Model for GetXAttr<'a> {
 }
 
 impl<'a> GetXAttr<'a> {
-    ghost use Rattle.fuse_request.specs.Fields.{size_wanted};
+    ghost use Rattle.fuse_operations.specs.Fields.{size_wanted};
 
     /// The name, without the zero byte that ends it.
     pub fn name(&self) -> &'a [u8]
@@ -111,7 +116,8 @@ impl<'a> GetXAttr<'a> {
 /// LISTXATTR: the names of the extended attributes.
 #[derive(Drop)]
 pub struct ListXAttr {
-    pub(crate) arguments: GetXAttrArguments,
+    /// The fixed part, as it was sent.
+    pub arguments: GetXAttrArguments,
 }
 
 impl Model for ListXAttr {
@@ -134,7 +140,8 @@ impl ListXAttr {
 /// REMOVEXATTR: an extended attribute goes away.
 #[derive(Drop)]
 pub struct RemoveXAttr<'a> {
-    pub(crate) name: &'a [u8],
+    /// The name, without the zero byte that ends it.
+    pub name: &'a [u8],
 }
 
 impl<'a> Model for RemoveXAttr<'a> {

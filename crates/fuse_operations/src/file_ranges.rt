@@ -21,7 +21,8 @@ pub struct CopyFileRangeFile {
 /// FALLOCATE: room for a range of a file.
 #[derive(Drop)]
 pub struct FAllocate {
-    pub(crate) arguments: FAllocateArguments,
+    /// The fixed part, as it was sent.
+    pub arguments: FAllocateArguments,
 }
 
 impl Model for FAllocate {
@@ -33,7 +34,7 @@ impl Model for FAllocate {
 }
 
 impl FAllocate {
-    ghost use Rattle.fuse_request.specs.Fields.{file_offset};
+    ghost use Rattle.fuse_operations.specs.Fields.{file_offset};
 
     /// The open file.
     pub fn file_handle(&self) -> FileHandle
@@ -67,7 +68,8 @@ impl FAllocate {
 /// LSEEK: where in an open file the next data or the next hole is.
 #[derive(Drop)]
 pub struct Lseek {
-    pub(crate) arguments: LseekArguments,
+    /// The fixed part, as it was sent.
+    pub arguments: LseekArguments,
 }
 
 impl Model for Lseek {
@@ -104,12 +106,14 @@ impl Lseek {
 /// COPY_FILE_RANGE: a range of a file is copied into another.
 #[derive(Drop)]
 pub struct CopyFileRange {
-    pub(crate) arguments: CopyFileRangeArguments,
-    pub(crate) node: INodeNo,
+    /// The fixed part, as it was sent.
+    pub arguments: CopyFileRangeArguments,
+    /// The node of the request.
+    pub node: INodeNo,
 }
 
 impl Model for CopyFileRange {
-    ghost use Rattle.fuse_request.specs.Carried.{CopiedFrom};
+    ghost use Rattle.fuse_operations.specs.Carried.{CopiedFrom};
 
     ghost Value = { CopiedFrom };
 
@@ -117,7 +121,7 @@ impl Model for CopyFileRange {
 }
 
 impl CopyFileRange {
-    ghost use Rattle.fuse_request.specs.Fields.{signed_offset, range_file};
+    ghost use Rattle.fuse_operations.specs.Fields.{signed_offset, range_file};
 
     /// The file that is read, which is the node of the request, and where. `EINVAL` where the offset is negative.
     pub fn src(&self) -> Result<CopyFileRangeFile, Errno>
@@ -160,7 +164,8 @@ impl CopyFileRange {
 /// BMAP: which block of the device a block of a file is.
 #[derive(Drop)]
 pub struct BMap {
-    pub(crate) arguments: BMapArguments,
+    /// The fixed part, as it was sent.
+    pub arguments: BMapArguments,
 }
 
 impl Model for BMap {

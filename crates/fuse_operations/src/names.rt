@@ -7,7 +7,8 @@ use std::marker::Model;
 /// LOOKUP: which inode a name in a directory means.
 #[derive(Drop)]
 pub struct Lookup<'a> {
-    pub(crate) name: &'a [u8],
+    /// The name, without the zero byte that ends it.
+    pub name: &'a [u8],
 }
 
 impl<'a> Model for Lookup<'a> {
@@ -30,12 +31,14 @@ impl<'a> Lookup<'a> {
 /// SYMLINK: a symbolic link is made.
 #[derive(Drop)]
 pub struct SymLink<'a> {
-    pub(crate) link_name: &'a [u8],
-    pub(crate) target: &'a [u8],
+    /// The name of the link, without the zero byte that ends it.
+    pub link_name: &'a [u8],
+    /// The path that the link leads to.
+    pub target: &'a [u8],
 }
 
 impl<'a> Model for SymLink<'a> {
-    ghost use Rattle.fuse_request.specs.Carried.{LinkedPath};
+    ghost use Rattle.fuse_operations.specs.Carried.{LinkedPath};
 
     ghost Value = { LinkedPath };
 
@@ -61,13 +64,15 @@ impl<'a> SymLink<'a> {
 /// MKNOD: a file or a device is made.
 #[derive(Drop)]
 pub struct MkNod<'a> {
-    pub(crate) arguments: MkNodArguments,
-    pub(crate) name: &'a [u8],
+    /// The fixed part, as it was sent.
+    pub arguments: MkNodArguments,
+    /// The name, without the zero byte that ends it.
+    pub name: &'a [u8],
 }
 
 impl<'a> Model for MkNod<'a> {
     ghost use Rattle.fuse_args.specs.declared.fixed.nodes.MkNodArguments.{MkNodArguments};
-    ghost use Rattle.fuse_request.specs.Carried.{Named};
+    ghost use Rattle.fuse_operations.specs.Carried.{Named};
 
     ghost Value = { Named MkNodArguments };
 
@@ -107,13 +112,15 @@ impl<'a> MkNod<'a> {
 /// MKDIR: a directory is made.
 #[derive(Drop)]
 pub struct MkDir<'a> {
-    pub(crate) arguments: MkDirArguments,
-    pub(crate) name: &'a [u8],
+    /// The fixed part, as it was sent.
+    pub arguments: MkDirArguments,
+    /// The name, without the zero byte that ends it.
+    pub name: &'a [u8],
 }
 
 impl<'a> Model for MkDir<'a> {
     ghost use Rattle.fuse_args.specs.declared.fixed.nodes.MkDirArguments.{MkDirArguments};
-    ghost use Rattle.fuse_request.specs.Carried.{Named};
+    ghost use Rattle.fuse_operations.specs.Carried.{Named};
 
     ghost Value = { Named MkDirArguments };
 
@@ -146,7 +153,8 @@ impl<'a> MkDir<'a> {
 /// UNLINK: a name of a file goes away.
 #[derive(Drop)]
 pub struct Unlink<'a> {
-    pub(crate) name: &'a [u8],
+    /// The name, without the zero byte that ends it.
+    pub name: &'a [u8],
 }
 
 impl<'a> Model for Unlink<'a> {
@@ -169,7 +177,8 @@ impl<'a> Unlink<'a> {
 /// RMDIR: a directory goes away.
 #[derive(Drop)]
 pub struct RmDir<'a> {
-    pub(crate) name: &'a [u8],
+    /// The name, without the zero byte that ends it.
+    pub name: &'a [u8],
 }
 
 impl<'a> Model for RmDir<'a> {
@@ -192,13 +201,15 @@ impl<'a> RmDir<'a> {
 /// CREATE: a file is made and opened.
 #[derive(Drop)]
 pub struct Create<'a> {
-    pub(crate) arguments: CreateArguments,
-    pub(crate) name: &'a [u8],
+    /// The fixed part, as it was sent.
+    pub arguments: CreateArguments,
+    /// The name, without the zero byte that ends it.
+    pub name: &'a [u8],
 }
 
 impl<'a> Model for Create<'a> {
     ghost use Rattle.fuse_args.specs.declared.fixed.files.CreateArguments.{CreateArguments};
-    ghost use Rattle.fuse_request.specs.Carried.{Named};
+    ghost use Rattle.fuse_operations.specs.Carried.{Named};
 
     ghost Value = { Named CreateArguments };
 

@@ -16,11 +16,12 @@ use std::marker::Model;
 /// INIT: a kernel offers to speak.
 #[derive(Clone, Copy)]
 pub struct Init {
-    pub(crate) arguments: InitArguments,
+    /// The fixed part, as it was sent.
+    pub arguments: InitArguments,
 }
 
 impl Init {
-    ghost use Rattle.fuse_request.specs.InitOperation.{arguments_of, offered, version};
+    ghost use Rattle.fuse_operations.specs.InitOperation.{arguments_of, offered, version};
 
     /// The capabilities offered. The second word counts where the first has `FUSE_INIT_EXT`.
     pub fn capabilities(&self) -> InitFlags
@@ -55,7 +56,8 @@ pub struct Destroy;
 /// INTERRUPT: a request need not be answered any more.
 #[derive(Drop)]
 pub struct Interrupt {
-    pub(crate) unique: u64,
+    /// The number of that request.
+    pub unique: u64,
 }
 
 impl Model for Interrupt {

@@ -11,10 +11,10 @@ use Rattle.fuse_args.specs.declared.fixed.files.ReleaseArguments.{ReleaseArgumen
 use Rattle.fuse_args.specs.declared.fixed.files.WriteArguments.{WriteArguments}
 use Rattle.fuse_args.specs.declared.fixed.nodes.GetAttrArguments.{GetAttrArguments}
 use Rattle.fuse_wire.specs.declared.newtypes.INodeNo.{INodeNo}
-use Rattle.fuse_request.specs.declared.locks.Lock.{Lock}
-use Rattle.fuse_request.specs.declared.file_ranges.CopyFileRangeFile.{CopyFileRangeFile}
-use Rattle.fuse_request.specs.declared.xattrs.GetXAttrSizeEnum.{GetXAttrSizeEnum}
-use Rattle.fuse_request.specs.declared.xattrs.GetXAttrSizeEnum.TheVariants.{GetSize, Size}
+use Rattle.fuse_operations.specs.declared.locks.Lock.{Lock}
+use Rattle.fuse_operations.specs.declared.file_ranges.CopyFileRangeFile.{CopyFileRangeFile}
+use Rattle.fuse_operations.specs.declared.xattrs.GetXAttrSizeEnum.{GetXAttrSizeEnum}
+use Rattle.fuse_operations.specs.declared.xattrs.GetXAttrSizeEnum.TheVariants.{GetSize, Size}
 
 -- flags of `fuse.h`
 abbrev pub FUSE_GETATTR_FH : ℕ
@@ -45,10 +45,6 @@ EINVAL = 22
 -- whether flags have this one
 abbrev pub has_flag : (flag flags : ℕ) → Bool
 has_flag flag flags = bit_and flags flag == flag
-
--- whether flags have the one at this place
-abbrev pub has_bit : (bit flags : ℕ) → Bool
-has_bit bit = has_flag (2 ^ bit)
 
 -- a field that counts where flags have this one
 abbrev pub where_flag : {X : Type 0} → (flag flags : ℕ) → X → Option X

@@ -9,7 +9,8 @@ use std::marker::Model;
 /// FORGET: the kernel gives back some of its lookups of an inode. It waits for no reply. A contract sees their number.
 #[derive(Drop)]
 pub struct Forget {
-    pub(crate) nlookup: u64,
+    /// How many lookups are given back.
+    pub nlookup: u64,
 }
 
 impl Model for Forget {
@@ -32,7 +33,8 @@ impl Forget {
 /// GETATTR: what the attributes of an inode are.
 #[derive(Drop)]
 pub struct GetAttr {
-    pub(crate) arguments: GetAttrArguments,
+    /// The fixed part, as it was sent.
+    pub arguments: GetAttrArguments,
 }
 
 impl Model for GetAttr {
@@ -44,8 +46,8 @@ impl Model for GetAttr {
 }
 
 impl GetAttr {
-    ghost use Rattle.fuse_request.specs.Call.{handle_number};
-    ghost use Rattle.fuse_request.specs.Fields.{fh_of};
+    ghost use Rattle.fuse_operations.specs.Call.{handle_number};
+    ghost use Rattle.fuse_operations.specs.Fields.{fh_of};
 
     /// Which fields count.
     pub fn getattr_flags(&self) -> GetattrFlags
@@ -75,7 +77,8 @@ pub struct StatFs;
 /// ACCESS: whether the caller may use an inode so.
 #[derive(Drop)]
 pub struct Access {
-    pub(crate) arguments: AccessArguments,
+    /// The fixed part, as it was sent.
+    pub arguments: AccessArguments,
 }
 
 impl Model for Access {

@@ -5,10 +5,10 @@ use Rattle.fuse_wire.specs.declared.newtypes.FileHandle.{FileHandle}
 use Rattle.fuse_wire.specs.declared.newtypes.LockOwner.{LockOwner}
 use Rattle.fuse_wire.specs.declared.time.SystemTime.{SystemTime}
 use Rattle.fuse_wire.specs.declared.time.TimeOrNow.{TimeOrNow}
-use Rattle.fuse_request.specs.Fields.{contents_alone, fh_of, flushes, lock_owner_of, releaser_of, writer_of}
-use Rattle.fuse_request.specs.Forgets.{rows_in}
-use Rattle.fuse_request.specs.Operation.{Op}
-use Rattle.fuse_request.specs.SetAttr.{atime_of, ctime_of, file_of, gid_of, mode_of, mtime_of, size_of, uid_of}
+use Rattle.fuse_operations.specs.Fields.{contents_alone, fh_of, flushes, lock_owner_of, releaser_of, writer_of}
+use Rattle.fuse_operations.specs.Forgets.{rows_in}
+use Rattle.fuse_operations.specs.Operation.{Op}
+use Rattle.fuse_operations.specs.SetAttr.{atime_of, ctime_of, file_of, gid_of, mode_of, mtime_of, size_of, uid_of}
 
 -- one call of a filesystem, with its arguments in their order; a row of `BatchForget` has the arguments of a `Forget`
 pub data Call : Type 0 where

@@ -16,8 +16,10 @@ pub struct Plus;
 /// READDIR and READDIRPLUS: entries of an open directory.
 #[derive(Drop)]
 pub struct Listing<K> {
-    pub(crate) arguments: ReadArguments,
-    pub(crate) kind: PhantomData<K>,
+    /// The fixed part, as it was sent.
+    pub arguments: ReadArguments,
+    /// Whether the attributes of the entries are wanted too.
+    pub kind: PhantomData<K>,
 }
 
 /// READDIR: entries of an open directory.

@@ -17,8 +17,10 @@ pub struct Directory;
 /// OPEN and OPENDIR: a file or a directory is opened.
 #[derive(Drop)]
 pub struct Opening<K> {
-    pub(crate) arguments: OpenArguments,
-    pub(crate) kind: PhantomData<K>,
+    /// The fixed part, as it was sent.
+    pub arguments: OpenArguments,
+    /// Whether a file or a directory is meant.
+    pub kind: PhantomData<K>,
 }
 
 /// OPEN: a file is opened.
@@ -47,8 +49,10 @@ impl<K> Opening<K> {
 /// RELEASE and RELEASEDIR: the last use of an open file or directory ends.
 #[derive(Drop)]
 pub struct Releasing<K> {
-    pub(crate) arguments: ReleaseArguments,
-    pub(crate) kind: PhantomData<K>,
+    /// The fixed part, as it was sent.
+    pub arguments: ReleaseArguments,
+    /// Whether a file or a directory is meant.
+    pub kind: PhantomData<K>,
 }
 
 /// RELEASE: the last use of an open file ends.
@@ -66,8 +70,8 @@ impl<K> Model for Releasing<K> {
 }
 
 impl<K> Releasing<K> {
-    ghost use Rattle.fuse_request.specs.Call.{owner_number};
-    ghost use Rattle.fuse_request.specs.Fields.{flushes, releaser_of};
+    ghost use Rattle.fuse_operations.specs.Call.{owner_number};
+    ghost use Rattle.fuse_operations.specs.Fields.{flushes, releaser_of};
 
     /// What is to be done.
     pub fn release_flags(&self) -> ReleaseFlags
@@ -111,8 +115,10 @@ impl<K> Releasing<K> {
 /// FSYNC and FSYNCDIR: what an open file or directory holds back is written.
 #[derive(Drop)]
 pub struct Syncing<K> {
-    pub(crate) arguments: FSyncArguments,
-    pub(crate) kind: PhantomData<K>,
+    /// The fixed part, as it was sent.
+    pub arguments: FSyncArguments,
+    /// Whether a file or a directory is meant.
+    pub kind: PhantomData<K>,
 }
 
 /// FSYNC: what an open file holds back is written.
@@ -130,7 +136,7 @@ impl<K> Model for Syncing<K> {
 }
 
 impl<K> Syncing<K> {
-    ghost use Rattle.fuse_request.specs.Fields.{contents_alone};
+    ghost use Rattle.fuse_operations.specs.Fields.{contents_alone};
 
     /// The open file or directory.
     pub fn file_handle(&self) -> FileHandle

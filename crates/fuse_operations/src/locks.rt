@@ -19,8 +19,10 @@ pub struct Lock {
 /// GETLK, SETLK and SETLKW: what is asked of a lock, and of the latter two whether to wait.
 #[derive(Drop)]
 pub struct Locking<S> {
-    pub(crate) arguments: GetLkArguments,
-    pub(crate) sleep: S,
+    /// The fixed part, as it was sent.
+    pub arguments: GetLkArguments,
+    /// Whether to wait, of SETLK and SETLKW; nothing, of GETLK.
+    pub sleep: S,
 }
 
 /// GETLK: whether a lock could be taken.
@@ -30,7 +32,7 @@ pub type GetLk = Locking<()>;
 pub type SetLk = Locking<bool>;
 
 impl<S> Model for Locking<S> {
-    ghost use Rattle.fuse_request.specs.Carried.{Locked};
+    ghost use Rattle.fuse_operations.specs.Carried.{Locked};
 
     ghost Value = { Locked S };
 
@@ -38,7 +40,7 @@ impl<S> Model for Locking<S> {
 }
 
 impl<S> Locking<S> {
-    ghost use Rattle.fuse_request.specs.Fields.{lock_of};
+    ghost use Rattle.fuse_operations.specs.Fields.{lock_of};
 
     /// The open file.
     pub fn file_handle(&self) -> FileHandle

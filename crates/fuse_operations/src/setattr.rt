@@ -11,7 +11,8 @@ use std::marker::Model;
 /// SETATTR: attributes of an inode are set, each where its flag of `valid` says so.
 #[derive(Drop)]
 pub struct SetAttr {
-    pub(crate) arguments: SetAttrArguments,
+    /// The fixed part, as it was sent.
+    pub arguments: SetAttrArguments,
 }
 
 impl Model for SetAttr {
@@ -23,9 +24,9 @@ impl Model for SetAttr {
 }
 
 impl SetAttr {
-    ghost use Rattle.fuse_request.specs.Call.{handle_number};
-    ghost use Rattle.fuse_request.specs.SetAttr.{mode_of, uid_of, gid_of, size_of, atime_of, mtime_of, ctime_of};
-    ghost use Rattle.fuse_request.specs.SetAttr.{file_of};
+    ghost use Rattle.fuse_operations.specs.Call.{handle_number};
+    ghost use Rattle.fuse_operations.specs.SetAttr.{mode_of, uid_of, gid_of, size_of, atime_of, mtime_of, ctime_of};
+    ghost use Rattle.fuse_operations.specs.SetAttr.{file_of};
     ghost use Rattle.std.specs.Prelude.{None};
 
     /// Which attributes are set.

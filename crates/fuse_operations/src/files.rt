@@ -10,7 +10,8 @@ use std::marker::Model;
 /// READ: bytes of an open file.
 #[derive(Drop)]
 pub struct Read {
-    pub(crate) arguments: ReadArguments,
+    /// The fixed part, as it was sent.
+    pub arguments: ReadArguments,
 }
 
 impl Model for Read {
@@ -22,8 +23,8 @@ impl Model for Read {
 }
 
 impl Read {
-    ghost use Rattle.fuse_request.specs.Call.{owner_number};
-    ghost use Rattle.fuse_request.specs.Fields.{lock_owner_of, file_offset};
+    ghost use Rattle.fuse_operations.specs.Call.{owner_number};
+    ghost use Rattle.fuse_operations.specs.Fields.{lock_owner_of, file_offset};
 
     /// The open file.
     pub fn file_handle(&self) -> FileHandle
@@ -73,13 +74,15 @@ impl Read {
 /// WRITE: bytes go into an open file.
 #[derive(Drop)]
 pub struct Write<'a> {
-    pub(crate) arguments: WriteArguments,
-    pub(crate) written: &'a [u8],
+    /// The fixed part, as it was sent.
+    pub arguments: WriteArguments,
+    /// The bytes to write.
+    pub written: &'a [u8],
 }
 
 impl<'a> Model for Write<'a> {
     ghost use Rattle.fuse_args.specs.declared.fixed.files.WriteArguments.{WriteArguments};
-    ghost use Rattle.fuse_request.specs.Carried.{WithBytes};
+    ghost use Rattle.fuse_operations.specs.Carried.{WithBytes};
 
     ghost Value = { WithBytes WriteArguments };
 
@@ -87,8 +90,8 @@ impl<'a> Model for Write<'a> {
 }
 
 impl<'a> Write<'a> {
-    ghost use Rattle.fuse_request.specs.Call.{owner_number};
-    ghost use Rattle.fuse_request.specs.Fields.{writer_of, signed_offset};
+    ghost use Rattle.fuse_operations.specs.Call.{owner_number};
+    ghost use Rattle.fuse_operations.specs.Fields.{writer_of, signed_offset};
 
     /// The open file.
     pub fn file_handle(&self) -> FileHandle
@@ -138,7 +141,8 @@ impl<'a> Write<'a> {
 /// FLUSH: one of the descriptors of an open file is closed.
 #[derive(Drop)]
 pub struct Flush {
-    pub(crate) arguments: FlushArguments,
+    /// The fixed part, as it was sent.
+    pub arguments: FlushArguments,
 }
 
 impl Model for Flush {
