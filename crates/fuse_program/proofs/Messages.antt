@@ -1,6 +1,6 @@
 -- Generated messages: each has a good header and none but the last is DESTROY, and the first is an INIT that can be accepted.
 use Rattle.std.proofs.Common.{◌≡◌, ◌≤◌, ◌<◌, ◌+◌, ◌/◌, ◌%◌, ◌^◌, ◌++◌, ◌==◌, ℕ, Bool, true, false, List, [], ◌∷◌, Some, Ok, Err, inl, inr}
-use Rattle.std.proofs.Common.{refl, ap, sym, ◌∙◌, subst, arith, length, map, take, codes, if◌then◌else◌}
+use Rattle.std.proofs.Common.{refl, ap, sym, ◌∙◌, subst, arith, length, map, codes, if◌then◌else◌}
 use Rattle.std.specs.Int.{w32, w64, to_le_bytes}
 use Rattle.std.specs.List.{AllByRecursion, range_with_len}
 use Rattle.std.specs.Prelude.{nat_lt, replicate}
@@ -12,9 +12,9 @@ use Rattle.fuse_wire.specs.declared.consts.TheConstants.{BUFFER_SIZE}
 use Rattle.fuse_wire.proofs.NumberLaws.{number-append_right, number-to_le_bytes_4}
 use Rattle.fuse_request.specs.Header.{header, header_fields, body}
 use Rattle.fuse_request.specs.Opcode.{FUSE_LOOKUP, FUSE_FORGET, FUSE_GETATTR, FUSE_READ, FUSE_WRITE, FUSE_INIT, FUSE_READDIR, FUSE_DESTROY}
-use Rattle.fuse_request.specs.Operation as decoding
-use Rattle.fuse_request.specs.Operation.{operation}
-use Rattle.fuse_request.specs.Operation.Op.{Init}
+use Rattle.fuse_request.specs.Decoding as decoding
+use Rattle.fuse_request.specs.Decoding.{operation}
+use Rattle.fuse_operations.specs.Operation.Op.{Init}
 use Rattle.fuse_request.specs.declared.any_request.Header.{Header}
 use Rattle.fuse_request.specs.declared.error.RequestError.{RequestError}
 use Rattle.fuse_request.specs.declared.error.RequestError.TheVariants.{ShortReadHeader, ShortRead, InsufficientData}

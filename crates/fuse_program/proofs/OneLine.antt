@@ -12,7 +12,7 @@ use Rattle.fuse_wire.specs.ByteSink.{ByteSinkState}
 use Rattle.fuse_wire.specs.Sink.{Note as Noted}
 use Rattle.fuse_wire.specs.StreamSink.{WritesAll}
 use Rattle.fuse_request.specs.Header.{body}
-use Rattle.fuse_request.specs.InitOperation.{offered}
+use Rattle.fuse_operations.specs.InitOperation.{offered}
 use Rattle.fuse_request.specs.declared.any_request.Header.{Header}
 use Rattle.fuse_request.specs.declared.error.RequestError.{RequestError}
 use Rattle.fuse_reply.specs.Frame.{frame}
@@ -23,9 +23,9 @@ use Rattle.fuse_config.specs.Values.{Configuration}
 use Rattle.fuse_config.specs.declared.session_acl.SessionACL.TheVariants.{All}
 use Rattle.fuse_loop.specs.Incoming.{IsBroken}
 use Rattle.fuse_core.specs.OneEach.{OneEach, Owing}
-use Rattle.fuse_session.specs.Handshake.{Greets, Handshake, HandshakeEnd, NegotiationReply}
-use Rattle.fuse_session.specs.Handshake.{greeting, greeting_by_header, greeting_by_operation, offer_of}
-use Rattle.fuse_session.specs.Handshake.HandshakeEnd.{Accepted}
+use Rattle.fuse_handshake.specs.Handshake.{Greets, Handshake, HandshakeEnd, NegotiationReply}
+use Rattle.fuse_handshake.specs.Handshake.{greeting, greeting_by_header, greeting_by_operation, offer_of}
+use Rattle.fuse_handshake.specs.Handshake.HandshakeEnd.{Accepted}
 use Rattle.fuse_dispatch.specs.Owed.{Owed}
 use Rattle.fuse_tree.specs.Generated.{init, stream}
 use Rattle.fuse_tree.specs.Store.{is_error, line, summary_of}

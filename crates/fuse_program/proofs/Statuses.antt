@@ -4,12 +4,12 @@ use Rattle.std.proofs.Common.{inr, min, lt-ltb}
 use Rattle.std.proofs.lemmas.Bool.Decides.{nat_tests}
 use Rattle.std.specs.Prelude.{◌||◌}
 use Rattle.fuse_wire.specs.Faults.{last_count}
-use Rattle.fuse_session.specs.Exchange.{Outcome}
-use Rattle.fuse_session.specs.declared.error.SessionError.{SessionError}
-use Rattle.fuse_session.specs.declared.error.SessionError.TheVariants.{Conflict, AutoUnmount, CloneFd, Memory}
-use Rattle.fuse_session.specs.declared.error.SessionError.TheVariants.{NotConnected, InvalidData, Unsupported, Init, Threads, Receive}
-use Rattle.fuse_session.specs.Refused.{Untouched}
-use Rattle.fuse_program.specs.Status.{status, failure_status, IsSessionStatus}
+use Rattle.fuse_run.specs.SessionEnd.{Outcome}
+use Rattle.fuse_run.specs.declared.error.SessionError.{SessionError}
+use Rattle.fuse_run.specs.declared.error.SessionError.TheVariants.{Conflict, AutoUnmount, CloneFd, Memory}
+use Rattle.fuse_run.specs.declared.error.SessionError.TheVariants.{NotConnected, InvalidData, Unsupported, Init, Threads, Receive}
+use Rattle.fuse_run.specs.Refused.{Untouched}
+use Rattle.fuse_program.specs.Status.{status, failure_status}
 
 -- no failure has the status 0
 failure-some : (e : SessionError) → failure_status e ≡ 0 → ⊥
@@ -86,24 +86,3 @@ status-counted (Ok u) zero broken = refl
 status-counted (Ok u) (suc less) broken =
     ap (λ (some : Bool). ok-status (some || broken))
     (lt-ltb 0 (min (suc less) last_count) (omega arith) ∙ sym (lt-ltb 0 (suc less) (omega arith)))
-
-ok-session : (worse : Bool) → IsSessionStatus (ok-status worse)
-ok-session true = inr (inr (inr (inr (inr (inl refl)))))
-ok-session false = inl refl
-
-failure-session : (e : SessionError) → IsSessionStatus (failure_status e)
-failure-session (Conflict i j) = inr (inr (inr (inr (inr (inr (inl refl))))))
-failure-session AutoUnmount = inr (inr (inr (inr (inr (inr (inl refl))))))
-failure-session CloneFd = inr (inr (inr (inr (inr (inr (inl refl))))))
-failure-session Memory = inr (inr (inr (inr (inr (inr (inl refl))))))
-failure-session NotConnected = inr (inl refl)
-failure-session (InvalidData d) = inr (inr (inl refl))
-failure-session (Unsupported v) = inr (inr (inr (inl refl)))
-failure-session (Init e) = inr (inr (inl refl))
-failure-session Threads = inr (inr (inr (inr (inr (inr (inr refl))))))
-failure-session Receive = inr (inr (inr (inr (inl refl))))
-
--- each outcome has one of these
-pub session-status : (outcome : Outcome) (lost : ℕ) (broken : Bool) → IsSessionStatus (status outcome lost broken)
-session-status (Ok u) lost broken = ok-session (nat_lt 0 lost || broken)
-session-status (Err e) lost broken = failure-session e

@@ -5,24 +5,16 @@ use Rattle.fuse_wire.specs.Source.{SourceState}
 use Rattle.fuse_wire.specs.Sink.{SinkState}
 use Rattle.fuse_config.specs.declared.config.Config.{Config}
 use Rattle.fuse_session.specs.Complete.{AcceptsAll, HandshakeWell}
-use Rattle.fuse_session.specs.Exchange.{Closed, Exchange, Mounted, Outcome, Setup}
+use Rattle.fuse_session.specs.Exchange.{Closed, Exchange, Setup}
+use Rattle.fuse_run.specs.SessionEnd.{Outcome}
 use Rattle.fuse_loop.specs.Progress.{nothing_yet, progress}
-use Rattle.fuse_session.specs.Refused.{ClonesDevice, OfOptions, Untouched}
+use Rattle.fuse_run.specs.Refused.{ClonesDevice, OfOptions}
 use Rattle.fuse_session.specs.Session.{OpensNone}
-use Rattle.fuse_session.specs.declared.ended.Ended.{Ended}
-use Rattle.fuse_session.specs.declared.error.SessionError.{SessionError}
-use Rattle.fuse_session.specs.declared.error.SessionError.TheVariants as error
+use Rattle.fuse_run.specs.declared.ended.Ended.{Ended}
+use Rattle.fuse_run.specs.declared.error.SessionError.{SessionError}
+use Rattle.fuse_run.specs.declared.error.SessionError.TheVariants as error
 use Rattle.fuse_loop.specs.declared.transcript.Transcript.{Transcript}
 use Rattle.fuse_session.proofs.Completing.{never-refused, never-unopened}
-
--- what a handshake comes to leaves something touched
-pub OpensNone-touched : (o : Outcome) → OpensNone o → ¬ (Untouched o)
-OpensNone-touched (Err error.NotConnected) none untouched = untouched
-OpensNone-touched (Err (error.InvalidData d)) none untouched = untouched
-OpensNone-touched (Err (error.Unsupported v)) none untouched = untouched
-OpensNone-touched (Err (error.Init e)) none untouched = untouched
-OpensNone-touched (Err error.Receive) none untouched = untouched
-OpensNone-touched o none untouched = none
 
 OpensNone-options : (e : SessionError) → OpensNone (Err e) → OfOptions e → ⊥
 OpensNone-options error.NotConnected none of = of
@@ -45,12 +37,6 @@ never-closed_by_init {F} {setup} {fs} {fs'} {o} {source} {source'} {sink} {sink'
     never-refused {setup = setup} {p = progress source sink nothing_yet []} {q = progress source' sink' counts closed.unasked} n
     (subst (λ (x : Outcome). Exchange setup fs closed.fs1 x (progress source sink nothing_yet []) (progress source' sink' counts closed.unasked)) is
     closed.unopened.exchange) accepts
-
--- a closed session, as a whole
-pub Mounted-closed : {F : Type 0} {setup : Setup F} {fs fs' : F} {o : Outcome} {source source' : SourceState} {sink sink' : SinkState}
-    {counts : Transcript} → Closed setup fs fs' o source source' sink sink' counts → Mounted setup fs fs' o source source' sink sink' counts
-Mounted-closed closed =
-    record { fs1 = closed.fs1; unasked = closed.unasked; exchange = closed.unopened.exchange; destroyed = closed.destroyed }
 
 -- what follows of each error
 pub IfErr-map : {X E : Type 0} (r : Result X E) (P Q : E → Type 0) → ((e : E) → P e → Q e) → IfErr r P → IfErr r Q

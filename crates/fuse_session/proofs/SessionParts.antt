@@ -1,65 +1,30 @@
 -- A session from its two parts, the one that opened it and the one that ran it.
-use Rattle.std.proofs.Common.{Bool, false}
 use Rattle.std.proofs.Common.{◌≡◌, ◌≢◌, ◌↔◌, ◌∙◌, ◌++◌, ℕ, List, [], Option, Some, Ok, Err, inl, inr, refl, sym, ap, subst, map, append_assoc}
 use Rattle.std.proofs.lemmas.List.{map-append}
 use Rattle.fuse_wire.specs.Source.{SourceState, message}
 use Rattle.fuse_wire.specs.Sink.{SinkState}
-use Rattle.fuse_session.specs.Accounted.{Accounted, ManyThreads, NeverLater}
+use Rattle.fuse_run.specs.Accounted.{Accounted, NeverLater}
 use Rattle.fuse_session.specs.Complete.{GoodHeaders, RunWell, Unfailing}
 use Rattle.fuse_loop.specs.EventLoop.{Run}
-use Rattle.fuse_session.specs.Exchange.{Closed, Exchange, Mounted, Outcome, Setup, Unopened, setup_of}
+use Rattle.fuse_session.specs.Exchange.{Closed, Exchange, Mounted, Setup, Unopened, setup_of}
+use Rattle.fuse_run.specs.SessionEnd.{Outcome, handshake_error, run_outcome}
 use Rattle.fuse_session.specs.Headline.{Headline, LaterHeadline, Lossless}
 use Rattle.fuse_dispatch.specs.Owed.{Owed}
-use Rattle.fuse_core.specs.OneEach.{Accounting, InOrder, Owing, UpToOrder}
-use Rattle.fuse_workers.specs.OneEachLater.{NoneHeldBack}
+use Rattle.fuse_core.specs.OneEach.{Accounting}
 use Rattle.fuse_loop.specs.Progress.{Progress, nothing_yet, progress}
 use Rattle.fuse_dispatch.specs.Promise.{Promise}
-use Rattle.fuse_session.specs.Session.{Ends, EndsRun, IsOpened, Opened, OpensNone, Ran, setup_for}
-use Rattle.fuse_session.specs.SessionEnd.{handshake_error, run_outcome}
-use Rattle.fuse_session.specs.declared.error.SessionError.TheVariants.{Threads}
+use Rattle.fuse_run.specs.Ran.{Ends, Opened, Ran}
+use Rattle.fuse_session.specs.Session.{EndsRun, IsOpened, OpensNone, setup_for}
+use Rattle.fuse_run.specs.declared.error.SessionError.TheVariants.{Threads}
 use Rattle.fuse_loop.specs.declared.end.End.{End}
 use Rattle.fuse_loop.specs.declared.end.End.TheVariants.{Gone, Destroyed, Broken, Failed}
 use Rattle.fuse_config.specs.declared.session_acl.SessionACL.{SessionACL}
-use Rattle.fuse_session.specs.declared.greeting.HandshakeError.{HandshakeError}
-use Rattle.fuse_session.specs.declared.greeting.HandshakeError.TheVariants as refusal
+use Rattle.fuse_handshake.specs.declared.greeting.HandshakeError.{HandshakeError}
+use Rattle.fuse_handshake.specs.declared.greeting.HandshakeError.TheVariants as refusal
 use Rattle.fuse_loop.specs.declared.transcript.Transcript.{Transcript}
-use Rattle.fuse_loop.specs.Incoming.{IsBroken}
-use Rattle.fuse_loop.proofs.Order.{OneEach-from_order}
-use Rattle.fuse_reply.specs.declared.out.Out.{Out}
-use Rattle.fuse_reply.specs.declared.out.Out.TheVariants.{Deferred}
-use Rattle.fuse_reply.specs.Late.{LateSeen}
-use Rattle.fuse_wire.specs.declared.newtypes.RequestId.{RequestId}
-use Rattle.fuse_workers.proofs.Accounts.{OneEachLater-prompt, UpToOrder-from_later}
 use Rattle.fuse_session.proofs.Completing.{never-broken, no-failure, told-after}
 use Rattle.fuse_session.proofs.Exchanging.{Exchange-ran, Exchange-unserved}
 use Rattle.fuse_session.proofs.Headlining.{Headline-from_exchange, LaterHeadline-from_exchange}
-
--- a session that ended so, and all that is left of it
-pub Ran-ends : {F : Type 0} (promise : Promise F) (session seen : Opened F) (fs' : F) (outcome found : Outcome) (shaken counts found_counts : Transcript)
-    (source : SourceState) (sink : SinkState) (source' source'' : SourceState) (sink' sink'' : SinkState)
-    → session ≡ seen → seen.progress ≡ progress source sink shaken []
-    → ((unasked : List (List ℕ)) × Ends promise seen.filesystem seen.acl seen.owner seen.threads found (progress source sink shaken [])
-    (progress source'' sink'' found_counts unasked))
-    → (counts ≡ found_counts) × (outcome ≡ found) → (source' ≡ source'') × (sink' ≡ sink'') → promise.may_destroy seen.filesystem fs'
-    → (NeverLater seen.threads promise.defers → found_counts.unrecorded ≡ 0) → Ran promise session fs' outcome source' sink' counts
-Ran-ends promise session seen fs' outcome found shaken counts found_counts source sink source' source'' sink' sink'' is start ends told back destroyed
-    recorded =
-    subst (λ (s : _). Ran promise s fs' outcome source' sink' counts) (sym is) (record {
-      unasked = ends.0;
-      ends = subst (λ (p : Progress). Ends promise seen.filesystem seen.acl seen.owner seen.threads outcome p (progress source' sink' counts ends.0))
-          (sym start)
-          (subst (λ (q : Progress). Ends promise seen.filesystem seen.acl seen.owner seen.threads outcome (progress source sink shaken []) q) after
-          (subst (λ (o : Outcome). Ends promise seen.filesystem seen.acl seen.owner seen.threads o (progress source sink shaken [])
-          (progress source'' sink'' found_counts ends.0)) (sym told.1) ends.1));
-      recorded = λ never. ap (λ (t : Transcript). t.unrecorded) told.0 ∙ recorded never;
-      destroyed = destroyed;
-    })
-  where
-    after : progress source'' sink'' found_counts ends.0 ≡ progress source' sink' counts ends.0
-    after =
-        let a = sym back.0 in
-        let b = sym back.1 in
-        let t = sym told.0 in cc
 
 -- a handshake that was accepted and a run after it are a session
 pub Exchange-opened : {F : Type 0} (promise : Promise F) (page : ℕ) (fs : F) (source : SourceState) (sink : SinkState) (session : Opened F)
@@ -111,47 +76,6 @@ LaterHeadline-ran promise page fs fs' source source' sink sink' session outcome 
     LaterHeadline-from_exchange {setup = s} {p = p} {q = q}
     (subst (λ (o : Outcome). Exchange s fs session.filesystem o p q) ok
     (Exchange-opened promise page fs source sink session outcome q opened ran.ends)) refl lossless
-
--- a run that is accounted for in another way
-Run-accounted : {one other : Accounting} {end : End} {p q : Progress} (run : Run one end p q) → other run.answered run.sent run.notes run.lost
-    → Run other end p q
-Run-accounted run order = record {
-  turns = run.turns;
-  answered = run.answered;
-  refused = run.refused;
-  sent = run.sent;
-  notes = run.notes;
-  lost = run.lost;
-  heard = run.heard;
-  order = order;
-  moved = run.moved;
-  begins = run.begins;
-  taken = run.taken;
-  ended = run.ended;
-}
-
--- a run on one thread
-pub Accounted-one : (owed : Owing) → ((seq : ℕ) (m : List ℕ) (out : Out) → owed seq m out → IsBroken m → ⊥) → (threads : Option ℕ) (defers : Bool)
-    (end : End) (p q : Progress) → Run (InOrder owed 0) end p q → Run (Accounted threads defers owed) end p q
-Accounted-one owed not_broken threads defers end p q run =
-    let each : UpToOrder owed IsBroken run.answered run.sent run.notes run.lost =
-    OneEach-from_order owed IsBroken not_broken 0 run.answered run.sent run.notes run.lost run.order in
-    Run-accounted run (record {
-      one_each = λ _. each;
-      in_order = λ _. run.order;
-      later = OneEachLater-prompt each;
-    })
-
--- a run on several threads
-pub Accounted-many : (owed : Owing) (threads : Option ℕ) (defers : Bool)
-    → (defers ≡ false → (seq : ℕ) (m : List ℕ) (number : ℕ) (id : RequestId) → owed seq m (Deferred number id) → ⊥) → ManyThreads threads
-    → {came : List LateSeen} {recorded : Type 0} (end : End) (p q : Progress) → Run (NoneHeldBack owed IsBroken came recorded) end p q
-    → Run (Accounted threads defers owed) end p q
-Accounted-many owed threads defers never many end p q run = Run-accounted run (record {
-  one_each = λ none_later. UpToOrder-from_later owed IsBroken (never (none_later many)) run.order.one_each;
-  in_order = λ single. absurd (single many);
-  later = run.order.one_each;
-})
 
 -- where nothing is amiss, a run ends well
 Ok-from_end : (accounting : Accounting) (end : End) (p q : Progress) (turns : List (List ℕ)) → Run accounting end p q → p.source.turns ≡ Some turns

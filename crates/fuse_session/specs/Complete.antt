@@ -5,14 +5,14 @@ use Rattle.fuse_wire.specs.Source.{SourceState, message}
 use Rattle.fuse_config.specs.Values.{Configuration}
 use Rattle.fuse_args.specs.declared.fixed.InitArguments.{InitArguments}
 use Rattle.fuse_request.specs.Header.{header, body}
-use Rattle.fuse_request.specs.Operation.{operation}
-use Rattle.fuse_request.specs.Operation.Op.{Init}
+use Rattle.fuse_request.specs.Decoding.{operation}
+use Rattle.fuse_operations.specs.Operation.Op.{Init}
 use Rattle.fuse_request.specs.declared.any_request.Header.{Header}
 use Rattle.fuse_request.specs.declared.request.Request.{Request}
 use Rattle.fuse_loop.specs.Incoming.{incoming}
 use Rattle.fuse_loop.specs.Incoming.Incoming.{Destroy, Request as IsRequest}
 use Rattle.fuse_dispatch.specs.Promise.{MayInit}
-use Rattle.fuse_session.specs.Session.{Opened}
+use Rattle.fuse_run.specs.Ran.{Opened}
 
 -- its header is good, and it decodes to this INIT
 pub record IsInit (m : List ℕ) (init : InitArguments) : Type 0 where

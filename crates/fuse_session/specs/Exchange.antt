@@ -1,5 +1,5 @@
 -- A whole session: what it heard, what it said and lost, and why it ended.
-use Rattle.std.specs.Prelude.{◌≡◌, ◌≢◌, ◌⊎◌, ◌++◌, ℕ, List, [], Option, Some, Result, Ok, Err, map, length}
+use Rattle.std.specs.Prelude.{◌≡◌, ◌≢◌, ◌⊎◌, ◌++◌, ℕ, List, [], Option, Some, Ok, Err, map, length}
 use Rattle.fuse_wire.specs.Source.{SourceState, Takes, message, NothingLeft, Failed as SourceFailed}
 use Rattle.fuse_wire.specs.Sink.{SinkState, Note}
 use Rattle.fuse_config.specs.declared.config.Config.{Config}
@@ -7,18 +7,18 @@ use Rattle.fuse_config.specs.declared.session_acl.SessionACL.{SessionACL}
 use Rattle.fuse_request.specs.declared.error.RequestError.{RequestError}
 use Rattle.fuse_reply.specs.declared.out.Out.{Out}
 use Rattle.fuse_reply.specs.declared.out.Out.TheVariants.{Frame}
-use Rattle.fuse_session.specs.Accounted.{Accounted}
+use Rattle.fuse_run.specs.Accounted.{Accounted}
+use Rattle.fuse_run.specs.SessionEnd.{Outcome}
 use Rattle.fuse_dispatch.specs.Promise.{Promise}
 use Rattle.fuse_loop.specs.Incoming.{AllGoOn, EndsWell, HeaderRefused}
 use Rattle.fuse_dispatch.specs.Owed.{Owed}
-use Rattle.fuse_session.specs.Handshake.{HandshakeEnd, Handshake}
-use Rattle.fuse_session.specs.Handshake.HandshakeEnd.{Open, Accepted, Failed}
+use Rattle.fuse_handshake.specs.Handshake.{HandshakeEnd, Handshake}
+use Rattle.fuse_handshake.specs.Handshake.HandshakeEnd.{Open, Accepted, Failed}
 use Rattle.fuse_loop.specs.Progress.{Progress, Moves, Begins, LeavesOut, nothing_yet, progress}
-use Rattle.fuse_session.specs.declared.error.InvalidData.TheVariants.{Header}
-use Rattle.fuse_session.specs.declared.error.SessionError.{SessionError}
-use Rattle.fuse_session.specs.declared.error.SessionError.TheVariants.{Conflict, AutoUnmount, CloneFd, Memory}
-use Rattle.fuse_session.specs.declared.error.SessionError.TheVariants.{NotConnected, InvalidData, Unsupported, Init, Threads, Receive}
-use Rattle.fuse_session.specs.declared.greeting.HandshakeError.TheVariants as refusal
+use Rattle.fuse_handshake.specs.declared.invalid_data.InvalidData.TheVariants.{Header}
+use Rattle.fuse_run.specs.declared.error.SessionError.TheVariants.{Conflict, AutoUnmount, CloneFd, Memory}
+use Rattle.fuse_run.specs.declared.error.SessionError.TheVariants.{NotConnected, InvalidData, Unsupported, Init, Threads, Receive}
+use Rattle.fuse_handshake.specs.declared.greeting.HandshakeError.TheVariants as refusal
 use Rattle.fuse_loop.specs.declared.transcript.Transcript.{Transcript}
 
 -- what a session is set up with
@@ -34,9 +34,6 @@ setup_of promise page threads acl owner = record { promise = promise; page = pag
 
 abbrev pub setup : {F : Type 0} → Promise F → (page : ℕ) → Config → (owner : ℕ) → Setup F
 setup promise page config owner = setup_of promise page config.n_threads config.acl owner
-
-abbrev pub Outcome : Type 0
-Outcome = Result (Unit {0}) SessionError
 
 -- the handshake ended so, and no message came after it
 abbrev pub HandshakeAlone : (end' end : HandshakeEnd) → (answered refused : List (List ℕ)) → Type 0

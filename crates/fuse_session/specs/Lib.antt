@@ -1,12 +1,7 @@
-pub mod Accounted
-pub mod Handshake
-pub mod HandshakeStep
 pub mod Exchange
-pub mod SessionEnd
 pub mod Session
 pub mod Starts
 pub mod Spawned
 pub mod Spawning
 pub mod Headline
 pub mod Complete
-pub mod Refused

@@ -6,7 +6,7 @@ use Rattle.fuse_wire.specs.Sink.{SinkState}
 use Rattle.fuse_wire.specs.Source.{SourceState}
 use Rattle.fuse_session.specs.Starts.{InlineStarts}
 use Rattle.fuse_dispatch.specs.Promise.{Promise}
-use Rattle.fuse_session.specs.Session.{Opened, Ran}
+use Rattle.fuse_run.specs.Ran.{Opened, Ran}
 use Rattle.fuse_session.specs.declared.running.Came.{Came}
 use Rattle.fuse_session.specs.declared.running.Came.TheVariants.{Ended, Held}
 use Rattle.fuse_session.specs.declared.running.Running.{Running}

@@ -5,24 +5,18 @@
 #![tactic(auto)]
 
 mod background;
-mod ended;
-mod error;
-mod greeting;
-mod handshake;
 mod inline_spawner;
 pub mod laws;
-mod options;
-mod runnable;
 mod running;
 mod session;
 mod spawner;
 mod thread_spawner;
 
 pub use background::{BackgroundSession, SpawnError, spawn_mount};
-pub use ended::Ended;
-pub use error::{InvalidData, SessionError};
 pub use fuse_dispatch::{Filesystem, Verdict, defaults, verdict};
+pub use fuse_handshake::InvalidData;
 pub use fuse_loop::Transcript;
+pub use fuse_run::{Ended, SessionError};
 pub use inline_spawner::InlineSpawner;
 pub use running::Running;
 pub use session::{Session, mount};

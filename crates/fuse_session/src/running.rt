@@ -1,12 +1,12 @@
 // Sessions that were started.
 ghost use Rattle.std.specs.Prelude.{◌≡◌, IfOk, false};
 ghost use Rattle.fuse_notify.specs.Queueing.{fresh_door};
-ghost use Rattle.fuse_session.specs.Session.{Ran};
+ghost use Rattle.fuse_run.specs.Ran.{Ran};
 ghost use Rattle.fuse_session.specs.Spawned.{CameOf, started};
 
-use crate::runnable::Runnable;
 use crate::{Ended, Filesystem};
 use fuse_notify::Notifier;
+use fuse_run::Runnable;
 use fuse_wire::{NoMemory, Sink, Source};
 use std::alloc::AllocGlobal;
 use std::marker::Model;
@@ -78,7 +78,7 @@ pub struct OnThread<FS: Filesystem, S: Source, K: Sink> {
 impl<FS: Filesystem, S: Source, K: Sink> Model for OnThread<FS, S, K> {
     ghost use Rattle.std.specs.Prelude.{◌≡◌};
     ghost use Rattle.fuse_notify.specs.Queueing.{fresh_door};
-    ghost use Rattle.fuse_session.specs.Session.{Opened};
+    ghost use Rattle.fuse_run.specs.Ran.{Opened};
 
     ghost Value = { Opened FS };
 
@@ -97,7 +97,7 @@ pub struct AtEnd<FS: Filesystem, S: Source, K: Sink> {
 impl<FS: Filesystem, S: Source, K: Sink> Model for AtEnd<FS, S, K> {
     ghost use Rattle.std.specs.Prelude.{◌≡◌};
     ghost use Rattle.fuse_notify.specs.Queueing.{fresh_door};
-    ghost use Rattle.fuse_session.specs.Session.{Opened, Ran};
+    ghost use Rattle.fuse_run.specs.Ran.{Opened, Ran};
 
     ghost Value = { Opened FS };
 

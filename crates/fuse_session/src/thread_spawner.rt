@@ -3,9 +3,9 @@ ghost use Rattle.std.specs.Prelude.{◌≡◌, MatchResult};
 ghost use Rattle.fuse_wire.specs.Faults.{Rose};
 ghost use Rattle.fuse_session.specs.Spawned.{CameOf, CountsRefusal, started};
 
-use crate::runnable::Runnable;
 use crate::running::{AtEnd, Came, Carried, ComesOf, Handle, OnThread};
 use crate::{Filesystem, Running, Session};
+use fuse_run::Runnable;
 use fuse_wire::{Sink, Source};
 use std::alloc::{AllocGlobal, Global};
 use std::snapshot::Snapshot;

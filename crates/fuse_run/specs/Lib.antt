@@ -1,0 +1,4 @@
+pub mod Accounted
+pub mod SessionEnd
+pub mod Ran
+pub mod Refused
