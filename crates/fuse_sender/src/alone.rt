@@ -32,6 +32,7 @@ fn answer_next<R: Wait + AllocGlobal, W: Work, S: Source, K: Sink>(
     ensures turn { TurnAlone (answering (W.owed work.now) W.DEFERS) seq result intake.old intake.new
         (relay_of relay.old.outlet relay.old.book) (relay_of relay.new.outlet relay.new.book) }
     ensures line { answerer.new.notifier.line ≡ answerer.old.notifier.line }
+    ensures doors { answerer.new.doors ≡ answerer.old.doors }
 {
     let count = match intake.take_message(rt) {
         Taken::Message(count) => count,
@@ -67,6 +68,7 @@ fn take_turn<R: Wait + AllocGlobal, W: Work, S: Source, K: Sink>(
     requires line { pass.old.line ≡ frames.now }
     requires hand { pass.old.hand ≡ hand First 0 [] pass.old.hand.taken }
     ensures line { (pass.new.line ≡ frames.now) × (answerer.new.notifier.line ≡ answerer.old.notifier.line) }
+    ensures doors { answerer.new.doors ≡ answerer.old.doors }
     ensures turn { (more : List Goes) × (pass.new.hand ≡ hand First 0 [] (pass.old.hand.taken ++ more))
         × (handed : RelayState) × Relays more handed (relay_of relay.new.outlet relay.new.book)
         × TurnAlone (answering (W.owed work.now) W.DEFERS) seq result intake.old intake.new
@@ -92,6 +94,7 @@ pub fn answer_in_turn_alone<R: Wait + AllocGlobal, W: Work, S: Source, K: Sink>(
     requires hand { pass.old.hand ≡ hand First 0 [] pass.old.hand.taken }
     requires unprompted { outs_of pass.old.hand.taken ≡ [] }
     ensures line { (pass.new.line ≡ frames.now) × (answerer.new.notifier.line ≡ answerer.old.notifier.line) }
+    ensures doors { answerer.new.doors ≡ answerer.old.doors }
     ensures hand { (more : List Goes) × (pass.new.hand ≡ hand First 0 [] (pass.old.hand.taken ++ more))
         × ServesAlone (answering (W.owed work.now) W.DEFERS) result more intake.old intake.new
         (relay_of relay.old.outlet relay.old.book) (relay_of relay.new.outlet relay.new.book) }

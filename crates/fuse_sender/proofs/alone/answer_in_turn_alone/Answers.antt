@@ -18,6 +18,7 @@ loop-init g c =
       [],
       refl,
       ServesOn-none _ _ _,
+      refl,
     )
 
 pub take_turn-requires-clause-hand : goal.take_turn-requires-clause-hand
@@ -53,4 +54,5 @@ loop-preserved g c =
       omega (arith, length-append so_far.5 (turn.4.0 ∷ []), so_far.6, c.saturating_add-seq.ensures),
       ServesOn-next so_far.7 turn.4.0 c.loop.seq turn.2 (relay_of c.take_turn.new.relay.outlet c.take_turn.new.relay.book)
           turn.0 so_far.6 turn.4.1 (refl, turn.4.2, turn.4.3, turn.4.4) turn.3 none,
+      c.take_turn.ensures.doors ∙ so_far.8,
     )

@@ -17,3 +17,4 @@ invariant-loop g l =
     × (ms : List (List ℕ)) × (number_of (length ms) ≡ l.seq)
     × ServesOn (answering (g.W.Work.owed l.work) g.W.Work.DEFERS) ms more l.fn.intake l.intake (relay_of l.fn.relay.outlet l.fn.relay.book)
     (relay_of l.relay.outlet l.relay.book)
+    × (l.answerer.doors ≡ l.fn.answerer.doors)
