@@ -2,9 +2,9 @@
 ghost use Rattle.std.specs.Prelude.{◌≡◌, ◌≤◌, ◌<◌, length, take};
 ghost use Rattle.std.specs.Int.RustNames.{bit_and};
 ghost use Rattle.fuse_config.specs.Configuration.{start, known_without_ext, threshold_of, max_pages_of, granted_of};
-ghost use Rattle.fuse_config.specs.Setters.{add_capabilities, known_not_offered, power_of_ten_below, set_congestion_threshold};
-ghost use Rattle.fuse_config.specs.Setters.{set_max_background, set_max_readahead, set_max_stack_depth, set_max_write};
-ghost use Rattle.fuse_config.specs.Setters.{set_time_granularity};
+ghost use Rattle.fuse_config.specs.Setters.{add_capabilities, known_not_offered, power_of_ten_below};
+ghost use Rattle.fuse_config.specs.Setters.{set_congestion_threshold, set_max_background, set_max_readahead};
+ghost use Rattle.fuse_config.specs.Setters.{set_max_stack_depth, set_max_write, set_time_granularity};
 ghost use Rattle.fuse_config.specs.Configuration.{init_layout, init_payload, init_payload_length, version_payload};
 
 use bitflags::Flags;

@@ -78,7 +78,8 @@ fn hand_in<R: Wait + AllocGlobal, W: Work>(
         × (caller.new.frames.hand.others ≡ caller.old.frames.hand.others) }
     ensures caller { (ms : List (List ℕ)) → number_of (length ms) ≡ seq →
         IsCaller (answering (W.owed work.now) W.DEFERS) ms caller.old.jobs.hand caller.old.frames.hand →
-        IsCaller (answering (W.owed work.now) W.DEFERS) (ms ++ message.now ∷ []) caller.new.jobs.hand caller.new.frames.hand }
+        IsCaller (answering (W.owed work.now) W.DEFERS) (ms ++ message.now ∷ []) caller.new.jobs.hand
+        caller.new.frames.hand }
 {
     if push_job(
         rt,

@@ -1,6 +1,6 @@
 // The words that start the program: `serve THREADS ACL OWNER PAGE`, `gen SEED COUNT`, or `load SEED COUNT THREADS`.
 
-ghost use Rattle.std.specs.Prelude.{◌≡◌, ◌≤◌, ◌<◌, map, IfSome};
+ghost use Rattle.std.specs.Prelude.{◌≡◌, ◌<◌, map, IfSome};
 ghost use Rattle.fuse_program.specs.Form.{acl_of, decimal_of, form_of, gen_form_of, load_form_of, number_within};
 
 use fuse_config::SessionACL;

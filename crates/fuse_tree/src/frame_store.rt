@@ -1,5 +1,5 @@
 // Frames and notes kept in memory, and counted.
-ghost use Rattle.std.specs.Prelude.{◌≡◌, ◌+◌, ◌++◌, ◌∷◌, ◌&&◌, ◌^◌, [], length, nat_lt, OnOk, OnErr};
+ghost use Rattle.std.specs.Prelude.{◌≡◌, ◌+◌, ◌++◌, ◌&&◌, ◌^◌, [], length, nat_lt, OnOk, OnErr};
 ghost use Rattle.fuse_wire.specs.Numbers.{number};
 ghost use Rattle.fuse_wire.specs.Sink.{Notes, Sends};
 ghost use Rattle.fuse_loop.specs.Progress.{replies};

@@ -1,5 +1,4 @@
 // What serving a stream came to, in one line.
-ghost use Rattle.std.specs.Prelude.{◌≡◌, length};
 ghost use Rattle.fuse_tree.specs.Store.{line};
 
 use std::fmt;

@@ -1,5 +1,5 @@
 //! A stream of bytes to write.
-ghost use Rattle.std.specs.Prelude.{◌≤◌, ◌<◌, length};
+ghost use Rattle.std.specs.Prelude.{◌<◌, length};
 ghost use Rattle.fuse_wire.specs.ByteSink.{ByteSinkState, Writes};
 
 /// What one write did.

@@ -1,5 +1,5 @@
 //! A stream of bytes to read.
-ghost use Rattle.std.specs.Prelude.{◌≤◌, ◌<◌, length};
+ghost use Rattle.std.specs.Prelude.{◌<◌, length};
 ghost use Rattle.fuse_wire.specs.ByteSource.{ByteSourceState, Reads};
 
 /// What one read gave.

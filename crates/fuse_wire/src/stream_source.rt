@@ -1,6 +1,5 @@
 //! Messages cut from a stream of bytes.
-ghost use Rattle.std.specs.Prelude.{◌≡◌, ◌≢◌, ◌≤◌, length};
-ghost use Rattle.fuse_wire.specs.Numbers.{number};
+ghost use Rattle.std.specs.Prelude.{◌≡◌, ◌≢◌, length};
 ghost use Rattle.fuse_wire.specs.Source.{Receives};
 ghost use Rattle.fuse_wire.specs.StreamSource.{held, Fills, stream_told};
 

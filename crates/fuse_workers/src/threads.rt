@@ -140,7 +140,8 @@ pub(crate) fn start_workers<'s, E, W: Work, R: Threads + Wait + AllocGlobal + Sy
     ensures lines { CallerOn jobs.now frames.now caller.new }
     ensures caller { IsCaller (answering (W.owed work.now) W.DEFERS) [] caller.new.jobs.hand caller.new.frames.hand }
     ensures promises { All (λ h. PromisesFor work.now jobs.now frames.now h.promise) workers.new.items }
-    ensures jobs { caller.new.jobs.hand.others + vec_len workers.old ≡ caller.old.jobs.hand.others + vec_len workers.new }
+    ensures jobs { caller.new.jobs.hand.others + vec_len workers.old
+        ≡ caller.old.jobs.hand.others + vec_len workers.new }
     ensures frames { caller.new.frames.hand.others + vec_len workers.old
         ≡ caller.old.frames.hand.others + vec_len workers.new }
 {

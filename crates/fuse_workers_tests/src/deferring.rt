@@ -238,7 +238,8 @@ impl Deferring {
 }
 
 impl Work for Deferring {
-    ghost owed = { λ work seq m out. (out ≡ Frame (reply (id_in m) Empty)) ⊎ (out ≡ Deferred seq (record { 0 = id_in m })) };
+    ghost owed = { λ work seq m out. (out ≡ Frame (reply (id_in m) Empty))
+        ⊎ (out ≡ Deferred seq (record { 0 = id_in m })) };
 
     const DEFERS: bool = true;
 
