@@ -2,8 +2,8 @@
 -- the threads share: a line of jobs, a hand for each worker, and a line of parcels for whoever sends.
 use Rattle.std.specs.Prelude.{◌≡◌, ◌<◌, ◌++◌, ℕ, Bool, true, false, List, [], ◌∷◌, Option, Some, None, Ok}
 use Rattle.std.specs.Prelude.{length, replicate, slice_get, slice_set, if◌then◌else◌}
-use Rattle.fuse_request.specs.Header.{header}
-use Rattle.fuse_request.specs.declared.any_request.Header.{Header}
+use Rattle.fuse_header.specs.Header.{header}
+use Rattle.fuse_header.specs.declared.header.Header.{Header}
 use Rattle.fuse_reply.specs.declared.out.Out.{Out}
 use Rattle.fuse_reply.specs.declared.out.Out.TheVariants.{Frame, Note, Deferred}
 use Rattle.fuse_reply.specs.Late.{LateSeen}

@@ -10,8 +10,8 @@ use crate::copied::Copied;
 use crate::lists::{exchange, push, take_at, take_first};
 use crate::marks::{first_held, is_unused, tag_of, tag_of_late};
 use crate::{Event, Hand, Job, LINE_PLACES, Mark, SentOut, State};
+use fuse_header::Header;
 use fuse_reply::{LateFrame, Out, Parcel};
-use fuse_request::AnyRequest;
 use fuse_wire::{Items, NoMemory, RequestId};
 use std::alloc::Global;
 
@@ -232,8 +232,8 @@ fn stands_for(seq: u64, message: &[u8], out: &Out) -> bool
     let Out::Deferred(number, id) = out else {
         return true;
     };
-    match AnyRequest::try_from(message) {
-        Ok(request) => *number == seq && id.0 == request.unique().0,
+    match Header::of(message) {
+        Ok(header) => *number == seq && id.0 == header.unique.0,
         Err(_) => false,
     }
 }

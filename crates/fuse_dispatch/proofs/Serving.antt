@@ -3,14 +3,14 @@ use Rattle.std.proofs.Common.{◌≡◌, ℕ, List, length, subst, Bool, true, f
 use Rattle.std.specs.Prelude.{if◌then◌else◌}
 use Rattle.fuse_wire.specs.Numbers.{number}
 use Rattle.fuse_config.specs.declared.session_acl.SessionACL.{SessionACL}
-use Rattle.fuse_request.specs.declared.error.RequestError.{RequestError}
-use Rattle.fuse_request.specs.declared.error.RequestError.TheVariants.{ShortReadHeader, ShortRead, InsufficientData}
-use Rattle.fuse_request.specs.declared.any_request.Header.{Header}
-use Rattle.fuse_request.specs.Header.{header, header_fields, body, request_of}
+use Rattle.fuse_header.specs.declared.error.RequestError.{RequestError}
+use Rattle.fuse_header.specs.declared.error.RequestError.TheVariants.{ShortReadHeader, ShortRead, InsufficientData}
+use Rattle.fuse_header.specs.declared.header.Header.{Header}
+use Rattle.fuse_header.specs.Header.{header, header_fields, body, request_of}
 use Rattle.fuse_reply.specs.Reply.{RepliesWith}
 use Rattle.fuse_reply.specs.declared.out.Out.{Out}
 use Rattle.fuse_reply.specs.declared.out.Out.TheVariants.{Deferred}
-use Rattle.fuse_request.specs.declared.request.Request.{Request}
+use Rattle.fuse_header.specs.declared.request.Request.{Request}
 use Rattle.fuse_wire.specs.declared.newtypes.RequestId.{RequestId}
 use Rattle.fuse_loop.specs.Incoming.{IsBroken, id_of}
 use Rattle.fuse_dispatch.specs.Promise.{Promise}

@@ -4,12 +4,12 @@ use Rattle.std.proofs.Common.{sym, subst}
 use Rattle.fuse_wire.specs.ErrorNumbers.{ENOMEM}
 use Rattle.fuse_operations.specs.Call.{Call}
 use Rattle.fuse_operations.specs.Call.Call.{Poll}
-use Rattle.fuse_request.specs.Header.{header, header_fields, body, request_of}
-use Rattle.fuse_request.specs.Opcode.{FUSE_DESTROY}
+use Rattle.fuse_header.specs.Header.{header, header_fields, body, request_of}
+use Rattle.fuse_header.specs.Opcode.{FUSE_DESTROY}
 use Rattle.fuse_request.specs.Decoding.{operation}
-use Rattle.fuse_request.specs.declared.any_request.Header.{Header}
-use Rattle.fuse_request.specs.declared.error.RequestError.{RequestError}
-use Rattle.fuse_request.specs.declared.request.Request.{Request}
+use Rattle.fuse_header.specs.declared.header.Header.{Header}
+use Rattle.fuse_header.specs.declared.error.RequestError.{RequestError}
+use Rattle.fuse_header.specs.declared.request.Request.{Request}
 use Rattle.fuse_reply.specs.Answer.{Answer, IsAnswer}
 use Rattle.fuse_reply.specs.Answer.Answer.{Empty, Error}
 use Rattle.fuse_reply.specs.Door.{DoorSeen}

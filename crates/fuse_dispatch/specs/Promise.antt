@@ -3,7 +3,7 @@ use Rattle.std.specs.Prelude.{ℕ, Bool, Result}
 use Rattle.fuse_config.specs.Values.{Configuration}
 use Rattle.fuse_reply.specs.Answer.{Answer}
 use Rattle.fuse_operations.specs.Call.{Call}
-use Rattle.fuse_request.specs.declared.request.Request.{Request}
+use Rattle.fuse_header.specs.declared.request.Request.{Request}
 
 -- `init` may give this result to a request, and leave this filesystem and configuration
 abbrev pub MayInit : Type 0 → Type 1

@@ -3,13 +3,13 @@ use Rattle.std.specs.Prelude.{◌==◌, ◌||◌, ℕ, Bool, true, false, List, 
 use Rattle.fuse_wire.specs.ErrorNumbers.{EIO, EACCES, ENOSYS}
 use Rattle.fuse_config.specs.declared.session_acl.SessionACL.{SessionACL}
 use Rattle.fuse_config.specs.declared.session_acl.SessionACL.TheVariants.{All, RootAndOwner, Owner}
-use Rattle.fuse_request.specs.declared.error.RequestError.{RequestError}
-use Rattle.fuse_request.specs.declared.any_request.Header.{Header}
-use Rattle.fuse_request.specs.Header.{header, body}
+use Rattle.fuse_header.specs.declared.error.RequestError.{RequestError}
+use Rattle.fuse_header.specs.declared.header.Header.{Header}
+use Rattle.fuse_header.specs.Header.{header, body}
 use Rattle.fuse_operations.specs.Call.{Call, call}
 use Rattle.fuse_operations.specs.Fields.{file_offset, signed_offset, is_unrestricted}
-use Rattle.fuse_request.specs.Opcode.{FUSE_FORGET, FUSE_READ, FUSE_WRITE, FUSE_RELEASE, FUSE_FSYNC, FUSE_INIT}
-use Rattle.fuse_request.specs.Opcode.{FUSE_READDIR, FUSE_RELEASEDIR, FUSE_FSYNCDIR, FUSE_DESTROY, FUSE_BATCH_FORGET, FUSE_READDIRPLUS}
+use Rattle.fuse_header.specs.Opcode.{FUSE_FORGET, FUSE_READ, FUSE_WRITE, FUSE_RELEASE, FUSE_FSYNC, FUSE_INIT}
+use Rattle.fuse_header.specs.Opcode.{FUSE_READDIR, FUSE_RELEASEDIR, FUSE_FSYNCDIR, FUSE_DESTROY, FUSE_BATCH_FORGET, FUSE_READDIRPLUS}
 use Rattle.fuse_operations.specs.Operation.{Op}
 use Rattle.fuse_request.specs.Decoding.{operation}
 use Rattle.fuse_operations.specs.Operation.Op.{Forget, Init, Read, Write, Interrupt, NotifyReply, CuseInit, IoCtl, BatchForget, FAllocate}

@@ -1,6 +1,6 @@
 // The access rule: whose requests are served.
 ghost use Rattle.std.specs.Prelude.{◌≡◌};
-ghost use Rattle.fuse_request.specs.Header.{body_of, header_of};
+ghost use Rattle.fuse_request.specs.Message.{body_of, header_of};
 ghost use Rattle.fuse_request.specs.Decoding.{operation};
 ghost use Rattle.fuse_dispatch.specs.Decided.{plain_result};
 ghost use Rattle.fuse_dispatch.specs.Verdict.{admitted, admitted_operation, always_passes};

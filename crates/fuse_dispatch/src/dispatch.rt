@@ -1,6 +1,6 @@
 // What a request comes to: an error that the product fixes, or what the filesystem answers.
 ghost use Rattle.std.specs.Prelude.{◌≡◌, false};
-ghost use Rattle.fuse_request.specs.Header.{header_fields, request_of};
+ghost use Rattle.fuse_header.specs.Header.{header_fields, request_of};
 ghost use Rattle.fuse_dispatch.specs.Asked.{ComesBy, IsOwed};
 ghost use Rattle.fuse_dispatch.specs.Owed.{Owed-destroy, OwedMessage};
 ghost use Rattle.fuse_dispatch.specs.Verdict.{verdict};

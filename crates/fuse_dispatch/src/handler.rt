@@ -6,7 +6,7 @@ ghost use Rattle.fuse_reply.specs.declared.out.Out.{Out as Goes};
 ghost use Rattle.fuse_reply.specs.declared.out.Out.TheVariants.{Frame, Deferred};
 ghost use Rattle.fuse_operations.specs.Call.{Call};
 ghost use Rattle.fuse_operations.specs.declared.operation.Operation.{Operation};
-ghost use Rattle.fuse_request.specs.declared.request.Request.{Request};
+ghost use Rattle.fuse_header.specs.declared.request.Request.{Request};
 ghost use Rattle.fuse_dispatch.specs.Asked.{IsOwed};
 ghost use Rattle.fuse_dispatch.specs.Verdict.{Verdict};
 ghost use Rattle.fuse_dispatch.specs.Verdict.Verdict.{Calls, Ends, Fixed};

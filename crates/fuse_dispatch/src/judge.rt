@@ -1,6 +1,6 @@
 // The verdict on a message after the handshake.
 ghost use Rattle.std.specs.Prelude.{◌≡◌, ℕ};
-ghost use Rattle.fuse_request.specs.Header.{header_fields};
+ghost use Rattle.fuse_header.specs.Header.{header_fields};
 ghost use Rattle.fuse_operations.specs.Operation.{plain};
 ghost use Rattle.fuse_dispatch.specs.Decided.{Decides};
 ghost use Rattle.fuse_dispatch.specs.Verdict.{fixed_error, is_forget, served, verdict};

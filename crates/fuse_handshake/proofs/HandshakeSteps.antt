@@ -6,7 +6,7 @@ use Rattle.fuse_wire.specs.Source.{SourceState, Takes, message, NothingLeft, Fai
 use Rattle.fuse_wire.specs.declared.newtypes.RequestId.{RequestId}
 use Rattle.fuse_wire.proofs.Devices.{Takes-none, Takes-then}
 use Rattle.fuse_config.specs.Configuration.{version_payload}
-use Rattle.fuse_request.specs.declared.request.Request.{Request}
+use Rattle.fuse_header.specs.declared.request.Request.{Request}
 use Rattle.fuse_reply.specs.declared.out.Out.{Out}
 use Rattle.fuse_reply.specs.declared.out.Out.TheVariants.{Frame}
 use Rattle.fuse_reply.specs.Answer.Answer.{Error}

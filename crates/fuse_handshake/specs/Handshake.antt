@@ -5,10 +5,10 @@ use Rattle.fuse_args.specs.declared.fixed.InitArguments.{InitArguments}
 use Rattle.fuse_wire.specs.ErrorNumbers.{EIO, EPROTO}
 use Rattle.fuse_config.specs.Values.{Configuration}
 use Rattle.fuse_config.specs.Configuration.{start, init_payload, version_payload}
-use Rattle.fuse_request.specs.declared.error.RequestError.{RequestError}
-use Rattle.fuse_request.specs.declared.any_request.Header.{Header}
-use Rattle.fuse_request.specs.declared.request.Request.{Request}
-use Rattle.fuse_request.specs.Header.{header, body, request_of}
+use Rattle.fuse_header.specs.declared.error.RequestError.{RequestError}
+use Rattle.fuse_header.specs.declared.header.Header.{Header}
+use Rattle.fuse_header.specs.declared.request.Request.{Request}
+use Rattle.fuse_header.specs.Header.{header, body, request_of}
 use Rattle.fuse_operations.specs.InitOperation.{offered, version}
 use Rattle.fuse_operations.specs.Operation.{Op}
 use Rattle.fuse_request.specs.Decoding.{operation}

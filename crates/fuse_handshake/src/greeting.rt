@@ -1,6 +1,6 @@
 // What the product makes of a message in the handshake.
 ghost use Rattle.std.specs.Prelude.{◌≡◌, option_map};
-ghost use Rattle.fuse_request.specs.Header.{header_of};
+ghost use Rattle.fuse_request.specs.Message.{header_of};
 ghost use Rattle.fuse_operations.specs.InitOperation.{arguments_of};
 ghost use Rattle.fuse_operations.specs.Operation.{plain};
 ghost use Rattle.fuse_handshake.specs.Handshake.{IsSpoken, greeting, greeting_by_version, init_of};

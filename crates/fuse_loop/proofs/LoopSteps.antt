@@ -5,10 +5,10 @@ use Rattle.std.proofs.lemmas.List.{map-append, length-map}
 use Rattle.fuse_wire.specs.Source.{SourceState, Takes, message, NothingLeft, Failed as SourceFailed}
 use Rattle.fuse_wire.specs.Sink.{Note}
 use Rattle.fuse_wire.proofs.Devices.{Takes-none, Takes-then}
-use Rattle.fuse_request.specs.declared.error.RequestError.{RequestError}
-use Rattle.fuse_request.specs.Header.{header}
-use Rattle.fuse_request.specs.Opcode.{FUSE_DESTROY}
-use Rattle.fuse_request.specs.declared.any_request.Header.{Header}
+use Rattle.fuse_header.specs.declared.error.RequestError.{RequestError}
+use Rattle.fuse_header.specs.Header.{header}
+use Rattle.fuse_header.specs.Opcode.{FUSE_DESTROY}
+use Rattle.fuse_header.specs.declared.header.Header.{Header}
 use Rattle.fuse_reply.specs.declared.door.NoDoor.TheVariants.{Shut}
 use Rattle.std.specs.Prelude.{if◌then◌else◌, ◌==◌}
 use Rattle.fuse_reply.specs.declared.out.Out.{Out}

@@ -1,9 +1,9 @@
 -- On which conditions a message is answered, what its answer is, and when its reply may come later.
 use Rattle.std.specs.Prelude.{◌≡◌, ◌==◌, ◌↔◌, ℕ, List, Bool, false, Result, Ok, Err, IsOk, IfOk}
 use Rattle.atomic_table.specs.Seated.{TableId}
-use Rattle.fuse_request.specs.Header.{header}
-use Rattle.fuse_request.specs.Opcode.{FUSE_DESTROY}
-use Rattle.fuse_request.specs.declared.any_request.Header.{Header}
+use Rattle.fuse_header.specs.Header.{header}
+use Rattle.fuse_header.specs.Opcode.{FUSE_DESTROY}
+use Rattle.fuse_header.specs.declared.header.Header.{Header}
 use Rattle.fuse_reply.specs.Door.{DoorSeen}
 use Rattle.fuse_reply.specs.declared.door.NoDoor.{NoDoor}
 use Rattle.fuse_reply.specs.declared.door.NoDoor.TheVariants.{Shut}

@@ -1,6 +1,6 @@
 -- What the code finds a message after the handshake to be.
 use Rattle.std.specs.Prelude.{◌≡◌, ℕ, List, Err}
-use Rattle.fuse_request.specs.Header.{header}
+use Rattle.fuse_header.specs.Header.{header}
 use Rattle.fuse_loop.specs.Answering.{IsRequest}
 use Rattle.fuse_loop.specs.Incoming.{incoming, id_of}
 use Rattle.fuse_loop.specs.Incoming.Incoming.{Destroy as IsDestroy}

@@ -2,10 +2,10 @@
 use Rattle.std.specs.Prelude.{◌≡◌, ◌==◌, ℕ, List, [], ◌∷◌, Result, Ok, Err, if◌then◌else◌}
 use Rattle.std.specs.List.{AllByRecursion}
 use Rattle.fuse_wire.specs.Numbers.{number}
-use Rattle.fuse_request.specs.Header.{header}
-use Rattle.fuse_request.specs.Opcode.{FUSE_DESTROY}
-use Rattle.fuse_request.specs.declared.any_request.Header.{Header}
-use Rattle.fuse_request.specs.declared.error.RequestError.{RequestError}
+use Rattle.fuse_header.specs.Header.{header}
+use Rattle.fuse_header.specs.Opcode.{FUSE_DESTROY}
+use Rattle.fuse_header.specs.declared.header.Header.{Header}
+use Rattle.fuse_header.specs.declared.error.RequestError.{RequestError}
 
 pub data Incoming : Type 0 where
   -- it has no good header, and ends the run

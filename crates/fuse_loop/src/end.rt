@@ -1,6 +1,6 @@
 // How a run ended.
 use crate::{Buffers, Transcript};
-use fuse_request::RequestError;
+use fuse_header::RequestError;
 
 /// How a run ended.
 #[derive(Clone, Copy, Debug)]

@@ -1,8 +1,8 @@
 // What a message after the handshake is to the event loop.
 ghost use Rattle.fuse_loop.specs.Arrives.{Arrives};
 
-use fuse_request::opcode::FUSE_DESTROY;
-use fuse_request::{AnyRequest, RequestError};
+use fuse_header::opcode::FUSE_DESTROY;
+use fuse_header::{Header, RequestError};
 use fuse_wire::RequestId;
 
 /// What a message after the handshake is, whoever sends it.
@@ -22,9 +22,9 @@ impl Incoming {
     pub fn of(message: &[u8]) -> Incoming
         ensures { Arrives result message.now }
     {
-        match AnyRequest::try_from(message) {
+        match Header::of(message) {
             Err(error) => Incoming::Broken(error),
-            Ok(request) if request.opcode() == FUSE_DESTROY => Incoming::Destroy(request.unique()),
+            Ok(header) if header.opcode == FUSE_DESTROY => Incoming::Destroy(header.unique),
             Ok(_) => Incoming::Request,
         }
     }

@@ -10,14 +10,14 @@ use Rattle.fuse_wire.specs.Numbers.{number}
 use Rattle.fuse_wire.specs.Source.{message as received}
 use Rattle.fuse_wire.specs.declared.consts.TheConstants.{BUFFER_SIZE}
 use Rattle.fuse_wire.proofs.NumberLaws.{number-append_right, number-to_le_bytes_4}
-use Rattle.fuse_request.specs.Header.{header, header_fields, body}
-use Rattle.fuse_request.specs.Opcode.{FUSE_LOOKUP, FUSE_FORGET, FUSE_GETATTR, FUSE_READ, FUSE_WRITE, FUSE_INIT, FUSE_READDIR, FUSE_DESTROY}
+use Rattle.fuse_header.specs.Header.{header, header_fields, body}
+use Rattle.fuse_header.specs.Opcode.{FUSE_LOOKUP, FUSE_FORGET, FUSE_GETATTR, FUSE_READ, FUSE_WRITE, FUSE_INIT, FUSE_READDIR, FUSE_DESTROY}
 use Rattle.fuse_request.specs.Decoding as decoding
 use Rattle.fuse_request.specs.Decoding.{operation}
 use Rattle.fuse_operations.specs.Operation.Op.{Init}
-use Rattle.fuse_request.specs.declared.any_request.Header.{Header}
-use Rattle.fuse_request.specs.declared.error.RequestError.{RequestError}
-use Rattle.fuse_request.specs.declared.error.RequestError.TheVariants.{ShortReadHeader, ShortRead, InsufficientData}
+use Rattle.fuse_header.specs.declared.header.Header.{Header}
+use Rattle.fuse_header.specs.declared.error.RequestError.{RequestError}
+use Rattle.fuse_header.specs.declared.error.RequestError.TheVariants.{ShortReadHeader, ShortRead, InsufficientData}
 use Rattle.fuse_loop.specs.Incoming.{incoming, incoming_by}
 use Rattle.fuse_loop.specs.Incoming.Incoming.{Destroy, Request}
 use Rattle.fuse_session.specs.Complete.{GoodHeaders, HandshakeWell, IsInit, OpensAtLeast, OpensWell, SessionWell}

@@ -11,14 +11,14 @@ use Rattle.fuse_wire.specs.Numbers.{number}
 use Rattle.fuse_wire.specs.declared.file_attr.FileAttr.{FileAttr}
 use Rattle.fuse_operations.specs.Call.{Call, call}
 use Rattle.fuse_operations.specs.Call.Call.{Lookup, GetAttr, Read, ReadDir, Poll}
-use Rattle.fuse_request.specs.Header.{header, header_fields, body, request_of}
-use Rattle.fuse_request.specs.Opcode.{FUSE_LOOKUP, FUSE_FORGET, FUSE_GETATTR, FUSE_READ, FUSE_WRITE, FUSE_READDIR, FUSE_DESTROY}
+use Rattle.fuse_header.specs.Header.{header, header_fields, body, request_of}
+use Rattle.fuse_header.specs.Opcode.{FUSE_LOOKUP, FUSE_FORGET, FUSE_GETATTR, FUSE_READ, FUSE_WRITE, FUSE_READDIR, FUSE_DESTROY}
 use Rattle.fuse_request.specs.Decoding as decoding
 use Rattle.fuse_operations.specs.Operation.{Op}
 use Rattle.fuse_request.specs.Decoding.{operation}
-use Rattle.fuse_request.specs.declared.any_request.Header.{Header}
-use Rattle.fuse_request.specs.declared.error.RequestError.{RequestError}
-use Rattle.fuse_request.specs.declared.request.Request.{Request}
+use Rattle.fuse_header.specs.declared.header.Header.{Header}
+use Rattle.fuse_header.specs.declared.error.RequestError.{RequestError}
+use Rattle.fuse_header.specs.declared.request.Request.{Request}
 use Rattle.fuse_reply.specs.Answer.{Answer, IsLong}
 use Rattle.fuse_reply.specs.Answer.Answer.{Empty, Error, Directory}
 use Rattle.fuse_reply.specs.Frame.{reply}

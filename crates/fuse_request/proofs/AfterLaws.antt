@@ -7,12 +7,12 @@ use Rattle.std.proofs.lemmas.Bool.Decides.{nat_tests}
 use Rattle.std.proofs.lemmas.List.{length-take-le, length-drop, drop-append-le, take_at, drop-take}
 use Rattle.fuse_wire.specs.Numbers.{number}
 use Rattle.fuse_wire.proofs.NumberFront.{number-append, number-take}
-use Rattle.fuse_request.specs.Header.{header, header_fields, body}
+use Rattle.fuse_header.specs.Header.{header, header_fields, body}
 use Rattle.fuse_request.specs.After.{UnreadAfter, with_after}
 use Rattle.fuse_request.specs.Decoding.{operation}
-use Rattle.fuse_request.specs.declared.any_request.Header.{Header}
-use Rattle.fuse_request.specs.declared.error.RequestError.{RequestError}
-use Rattle.fuse_request.specs.declared.error.RequestError.TheVariants.{ShortReadHeader, ShortRead, InsufficientData}
+use Rattle.fuse_header.specs.declared.header.Header.{Header}
+use Rattle.fuse_header.specs.declared.error.RequestError.{RequestError}
+use Rattle.fuse_header.specs.declared.error.RequestError.TheVariants.{ShortReadHeader, ShortRead, InsufficientData}
 
 chosen-good : (a b c : Bool) (x y z : RequestError) (f h : Header)
     → (if a then Err x else if b then Err y else if c then Err z else Ok f) ≡ Ok h

@@ -1,9 +1,9 @@
 -- What stands after the bytes that a good header counts is not read.
 use Rattle.std.specs.Prelude.{◌≡◌, ℕ, ◌++◌, List, Ok, take}
 use Rattle.fuse_wire.specs.Numbers.{number}
-use Rattle.fuse_request.specs.Header.{header, body}
+use Rattle.fuse_header.specs.Header.{header, body}
 use Rattle.fuse_request.specs.Decoding.{operation}
-use Rattle.fuse_request.specs.declared.any_request.Header.{Header}
+use Rattle.fuse_header.specs.declared.header.Header.{Header}
 
 -- the bytes that the header counts, with others after them
 abbrev pub with_after : (m others : List ℕ) → List ℕ

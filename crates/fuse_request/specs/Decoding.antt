@@ -8,19 +8,18 @@ use Rattle.fuse_args.specs.FileParts.{copy_file_range_at, create_at, fallocate_a
 use Rattle.fuse_args.specs.FileParts.{open_at, read_at, release_at, write_at}
 use Rattle.fuse_args.specs.NodeParts.{access_at, batch_forget_at, getattr_at, getxattr_at, mkdir_at, mknod_at}
 use Rattle.fuse_args.specs.NodeParts.{rename2_at, setattr_at, setxattr_at}
-use Rattle.fuse_args.specs.declared.fixed.nodes.Rename2Arguments.{Rename2Arguments}
 use Rattle.fuse_args.specs.declared.fixed.nodes.SetXAttrArguments.{SetXAttrArguments}
-use Rattle.fuse_request.specs.Opcode.{CUSE_INIT, FUSE_ACCESS, FUSE_BATCH_FORGET, FUSE_BMAP, FUSE_COPY_FILE_RANGE}
-use Rattle.fuse_request.specs.Opcode.{FUSE_CREATE, FUSE_DESTROY, FUSE_FALLOCATE, FUSE_FLUSH, FUSE_FORGET, FUSE_FSYNC}
-use Rattle.fuse_request.specs.Opcode.{FUSE_FSYNCDIR, FUSE_GETATTR, FUSE_GETLK, FUSE_GETXATTR, FUSE_INIT}
-use Rattle.fuse_request.specs.Opcode.{FUSE_INTERRUPT, FUSE_IOCTL, FUSE_LINK, FUSE_LISTXATTR, FUSE_LOOKUP, FUSE_LSEEK}
-use Rattle.fuse_request.specs.Opcode.{FUSE_MKDIR, FUSE_MKNOD, FUSE_NOTIFY_REPLY, FUSE_OPEN, FUSE_OPENDIR, FUSE_POLL}
-use Rattle.fuse_request.specs.Opcode.{FUSE_READ, FUSE_READDIR, FUSE_READDIRPLUS, FUSE_READLINK, FUSE_RELEASE}
-use Rattle.fuse_request.specs.Opcode.{FUSE_RELEASEDIR, FUSE_REMOVEXATTR, FUSE_RENAME, FUSE_RENAME2, FUSE_RMDIR}
-use Rattle.fuse_request.specs.Opcode.{FUSE_SETATTR, FUSE_SETLK, FUSE_SETLKW, FUSE_SETXATTR, FUSE_STATFS, FUSE_SYMLINK}
-use Rattle.fuse_request.specs.Opcode.{FUSE_UNLINK, FUSE_WRITE}
-use Rattle.fuse_request.specs.declared.error.RequestError.{RequestError}
-use Rattle.fuse_request.specs.declared.error.RequestError.TheVariants.{UnknownOperation, InsufficientData}
+use Rattle.fuse_header.specs.Opcode.{CUSE_INIT, FUSE_ACCESS, FUSE_BATCH_FORGET, FUSE_BMAP, FUSE_COPY_FILE_RANGE}
+use Rattle.fuse_header.specs.Opcode.{FUSE_CREATE, FUSE_DESTROY, FUSE_FALLOCATE, FUSE_FLUSH, FUSE_FORGET, FUSE_FSYNC}
+use Rattle.fuse_header.specs.Opcode.{FUSE_FSYNCDIR, FUSE_GETATTR, FUSE_GETLK, FUSE_GETXATTR, FUSE_INIT}
+use Rattle.fuse_header.specs.Opcode.{FUSE_INTERRUPT, FUSE_IOCTL, FUSE_LINK, FUSE_LISTXATTR, FUSE_LOOKUP, FUSE_LSEEK}
+use Rattle.fuse_header.specs.Opcode.{FUSE_MKDIR, FUSE_MKNOD, FUSE_NOTIFY_REPLY, FUSE_OPEN, FUSE_OPENDIR, FUSE_POLL}
+use Rattle.fuse_header.specs.Opcode.{FUSE_READ, FUSE_READDIR, FUSE_READDIRPLUS, FUSE_READLINK, FUSE_RELEASE}
+use Rattle.fuse_header.specs.Opcode.{FUSE_RELEASEDIR, FUSE_REMOVEXATTR, FUSE_RENAME, FUSE_RENAME2, FUSE_RMDIR}
+use Rattle.fuse_header.specs.Opcode.{FUSE_SETATTR, FUSE_SETLK, FUSE_SETLKW, FUSE_SETXATTR, FUSE_STATFS, FUSE_SYMLINK}
+use Rattle.fuse_header.specs.Opcode.{FUSE_UNLINK, FUSE_WRITE}
+use Rattle.fuse_header.specs.declared.error.RequestError.{RequestError}
+use Rattle.fuse_header.specs.declared.error.RequestError.TheVariants.{UnknownOperation, InsufficientData}
 use Rattle.fuse_operations.specs.declared.operation.Operation.{Operation}
 use Rattle.fuse_operations.specs.Operation.{Op, kept_node, plain}
 use Rattle.fuse_operations.specs.Operation.Op.{Lookup, Forget, GetAttr, SetAttr, ReadLink, SymLink, MkNod, MkDir}

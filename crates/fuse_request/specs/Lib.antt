@@ -1,6 +1,3 @@
-pub mod Asker
-pub mod Header
-pub mod Opcode
+pub mod Message
 pub mod Decoding
 pub mod After
-pub mod ErrorText

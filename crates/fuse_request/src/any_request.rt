@@ -1,53 +1,20 @@
 // A message taken apart.
-ghost use Rattle.std.specs.Prelude.{◌≡◌, ◌≤◌, Ok, IsOk, length};
-ghost use Rattle.fuse_request.specs.Header.{Decodes, header, header_fields, body_of, header_of, request_of};
+ghost use Rattle.std.specs.Prelude.{◌≡◌, Ok, IsOk};
+ghost use Rattle.fuse_header.specs.Header.{header, request_of};
 ghost use Rattle.fuse_request.specs.Decoding.{Is, Keeps, operation};
+ghost use Rattle.fuse_request.specs.Message.{Decodes, body_of, header_of};
 
 use crate::decoding::{destroy_to_cuse_init, init_to_bmap, lookup_to_link, open_to_flush};
-use crate::opcode::{FUSE_DESTROY, FUSE_INIT, FUSE_OPEN};
-use crate::{Request, RequestError};
+use fuse_header::opcode::{FUSE_DESTROY, FUSE_INIT, FUSE_OPEN};
+use fuse_header::{Header, Request, RequestError, body};
 use fuse_operations::Operation;
-use fuse_wire::consts::REQUEST_HEADER_SIZE;
-use fuse_wire::{INodeNo, RequestId, u32_at, u64_at};
-
-/// What stands in front of every message: `struct fuse_in_header`.
-#[derive(Clone, Copy)]
-pub(crate) struct Header {
-    /// What is asked.
-    pub(crate) opcode: u32,
-    /// The number of the request.
-    pub(crate) unique: RequestId,
-    /// The inode that it is about.
-    pub(crate) nodeid: INodeNo,
-    /// The user on whose behalf it is made.
-    pub(crate) uid: u32,
-    /// That user's group.
-    pub(crate) gid: u32,
-    /// The process that makes it.
-    pub(crate) pid: u32,
-}
+use fuse_wire::{INodeNo, RequestId};
 
 /// A message with a good header, whose body is borrowed from it.
 #[derive(Clone, Copy)]
 pub struct AnyRequest<'a> {
     header: Header,
     body: &'a [u8],
-}
-
-/// The header's fields.
-#[inline(always)]
-fn header_at(message: &[u8]) -> Header
-    requires { 40 ≤ length message.now }
-    ensures { result ≡ header_fields message.now }
-{
-    Header {
-        opcode: u32_at(message, 4),
-        unique: RequestId(u64_at(message, 8)),
-        nodeid: INodeNo(u64_at(message, 16)),
-        uid: u32_at(message, 24),
-        gid: u32_at(message, 28),
-        pid: u32_at(message, 32),
-    }
 }
 
 impl<'a> AnyRequest<'a> {
@@ -59,17 +26,13 @@ impl<'a> AnyRequest<'a> {
     pub fn try_from(message: &'a [u8]) -> Result<AnyRequest<'a>, RequestError>
         ensures { Decodes result message.now }
     {
-        if message.len() < REQUEST_HEADER_SIZE {
-            return Err(RequestError::ShortReadHeader(message.len()));
+        match Header::of(message) {
+            Ok(header) => Ok(AnyRequest {
+                header,
+                body: body(message),
+            }),
+            Err(error) => Err(error),
         }
-        let len = u32_at(message, 0) as usize;
-        if message.len() < len {
-            return Err(RequestError::ShortRead(message.len(), len));
-        }
-        if len < REQUEST_HEADER_SIZE {
-            return Err(RequestError::InsufficientData);
-        }
-        Ok(AnyRequest::from_checked(message))
     }
 
     /// Takes a message apart whose header is known to be good, as `try_from` does, and checks it no more.
@@ -78,10 +41,9 @@ impl<'a> AnyRequest<'a> {
         requires { IsOk (header message.now) }
         ensures { Decodes (Ok result) message.now }
     {
-        let len = u32_at(message, 0) as usize;
         AnyRequest {
-            header: header_at(message),
-            body: &message[REQUEST_HEADER_SIZE..len],
+            header: Header::from_checked(message),
+            body: body(message),
         }
     }
 
@@ -131,12 +93,7 @@ impl<'a> AnyRequest<'a> {
     pub fn request(&self) -> Request
         ensures { result ≡ request_of (header_of self.now) }
     {
-        Request {
-            unique: self.header.unique,
-            uid: self.header.uid,
-            gid: self.header.gid,
-            pid: self.header.pid,
-        }
+        self.header.request()
     }
 
     /// What is asked. An operation that has a place in the node of the request keeps that node.

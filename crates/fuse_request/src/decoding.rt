@@ -3,8 +3,9 @@ ghost use Rattle.fuse_request.specs.Decoding.{Is, Keeps, lookup_to_link, open_to
 ghost use Rattle.fuse_request.specs.Decoding.{destroy_to_cuse_init};
 ghost use Rattle.fuse_wire.specs.declared.newtypes.INodeNo.{INodeNo};
 
-use crate::RequestError;
-use crate::opcode::{
+use fuse_args::ArgumentIterator;
+use fuse_header::RequestError;
+use fuse_header::opcode::{
     CUSE_INIT, FUSE_ACCESS, FUSE_BATCH_FORGET, FUSE_BMAP, FUSE_COPY_FILE_RANGE, FUSE_CREATE,
     FUSE_DESTROY, FUSE_FALLOCATE, FUSE_FLUSH, FUSE_FORGET, FUSE_FSYNC, FUSE_FSYNCDIR, FUSE_GETATTR,
     FUSE_GETLK, FUSE_GETXATTR, FUSE_INIT, FUSE_INTERRUPT, FUSE_IOCTL, FUSE_LINK, FUSE_LISTXATTR,
@@ -13,7 +14,6 @@ use crate::opcode::{
     FUSE_RELEASEDIR, FUSE_REMOVEXATTR, FUSE_RENAME, FUSE_RENAME2, FUSE_RMDIR, FUSE_SETATTR,
     FUSE_SETLK, FUSE_SETLKW, FUSE_SETXATTR, FUSE_STATFS, FUSE_SYMLINK, FUSE_UNLINK, FUSE_WRITE,
 };
-use fuse_args::ArgumentIterator;
 use fuse_operations::{
     Access, BMap, BatchForget, CopyFileRange, Create, CuseInit, Destroy, FAllocate, FSync,
     FSyncDir, Flush, Forget, GetAttr, GetLk, GetXAttr, Init, Interrupt, IoCtl, Link, ListXAttr,

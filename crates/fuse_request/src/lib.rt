@@ -1,17 +1,15 @@
-//! Requests as the kernel sends them: the header, and which operation is asked. The operations, in `fuse_operations`,
-//! are had from here too. Nothing is copied out of the message but numbers.
+//! Requests as the kernel sends them: a message taken apart, and which operation it asks. Who asks, the errors and the
+//! numbers of the operations, in `fuse_header`, and the operations, in `fuse_operations`, are had from here too. Nothing
+//! is copied out of the message but numbers.
 //! The layers above rely on this: a message decodes exactly where the definitions say so, to what they say.
 #![tactic(auto)]
 
 mod any_request;
 mod decoding;
-mod error;
 pub mod laws;
-pub mod opcode;
-mod request;
 
 pub use any_request::AnyRequest;
-pub use error::RequestError;
+pub use fuse_header::{Request, RequestError, opcode};
 pub use fuse_operations::{
     Access, BMap, BatchForget, CopyFileRange, CopyFileRangeFile, Create, CuseInit, Destroy,
     FAllocate, FSync, FSyncDir, FilenameInDir, Flush, Forget, ForgetList, ForgetOne, GetAttr,
@@ -20,4 +18,3 @@ pub use fuse_operations::{
     ReadDirPlus, ReadLink, Release, ReleaseDir, RemoveXAttr, Rename, Rename2, RmDir, SetAttr,
     SetLk, SetXAttr, StatFs, SymLink, Unlink, Write,
 };
-pub use request::Request;

@@ -1,12 +1,13 @@
 // How a session ended.
-ghost use Rattle.std.specs.Prelude.{◌≡◌};
-ghost use Rattle.fuse_loop.specs.Progress.{nothing_yet};
+ghost use Rattle.std.specs.Prelude.{◌≡◌, [], Err};
+ghost use Rattle.fuse_loop.specs.Progress.{nothing_yet, progress};
 ghost use Rattle.fuse_run.specs.SessionEnd.{run_outcome};
 
 use crate::SessionError;
 use fuse_dispatch::Filesystem;
 use fuse_handshake::InvalidData;
-use fuse_loop::{End, Transcript};
+use fuse_loop::{Channel, End, Lines, Transcript};
+use fuse_wire::{Sink, Source};
 
 /// How a session ended. It hands back all that the session was given.
 #[derive(Debug, Drop)]
@@ -59,7 +60,7 @@ pub fn untouched<FS, S, K>(
 }
 
 /// The end of a session that took memory: `destroy` is called, and all is handed back.
-pub fn destroyed<FS: Filesystem, S, K>(
+pub(crate) fn destroyed<FS: Filesystem, S, K>(
     mut filesystem: FS,
     source: S,
     sink: K,
@@ -78,4 +79,21 @@ pub fn destroyed<FS: Filesystem, S, K>(
         outcome,
         transcript,
     }
+}
+
+/// The end of a session whose handshake opened none: its memory is let go, `destroy` is called, and all is handed back.
+pub fn unopened<FS: Filesystem, S: Source, K: Sink>(
+    filesystem: FS,
+    channel: Channel<S, K>,
+    lines: Lines,
+    error: SessionError,
+) -> Ended<FS, S, K>
+    ensures destroyed { FS.promise.may_destroy filesystem result.filesystem }
+    ensures channel { channel.progress ≡ progress (S.told result.source) (K.told result.sink) result.transcript [] }
+    ensures recorded { result.transcript.unrecorded ≡ 0 }
+    ensures outcome { result.outcome ≡ Err error }
+{
+    let (source, sink, buffers, transcript) = channel.close(lines);
+    drop(buffers);
+    destroyed(filesystem, source, sink, transcript, Err(error))
 }

@@ -9,7 +9,7 @@ mod error;
 mod options;
 mod runnable;
 
-pub use ended::{Ended, destroyed, untouched};
+pub use ended::{Ended, unopened, untouched};
 pub use error::SessionError;
 pub use options::{SessionMemory, prepare, prepare_device};
 pub use runnable::Runnable;

@@ -5,8 +5,8 @@ use Rattle.fuse_wire.specs.Faults.{counted}
 use Rattle.fuse_wire.specs.Source.{message, NothingLeft, Failed as SourceFailed}
 use Rattle.fuse_wire.proofs.Devices.{Takes-none, Takes-then}
 use Rattle.fuse_wire.specs.declared.newtypes.RequestId.{RequestId}
-use Rattle.fuse_request.specs.Header.{header}
-use Rattle.fuse_request.specs.declared.error.RequestError.{RequestError}
+use Rattle.fuse_header.specs.Header.{header}
+use Rattle.fuse_header.specs.declared.error.RequestError.{RequestError}
 use Rattle.fuse_sender.specs.Hearing.{HearsLast, HearsOn, StopsWith}
 use Rattle.fuse_loop.specs.Incoming.{id_of, incoming}
 use Rattle.fuse_loop.specs.Incoming.Incoming.{Destroy as IsDestroy, Request}

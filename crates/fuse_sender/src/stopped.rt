@@ -2,8 +2,8 @@
 ghost use Rattle.std.specs.Prelude.{◌≡◌};
 ghost use Rattle.fuse_sender.specs.Hearing.{end_of};
 
+use fuse_header::RequestError;
 use fuse_loop::End;
-use fuse_request::RequestError;
 use fuse_wire::RequestId;
 
 /// Why no more messages are taken.

@@ -9,10 +9,10 @@ use Rattle.fuse_config.specs.Values.{Configuration}
 use Rattle.fuse_config.specs.Configuration.{start}
 use Rattle.fuse_args.specs.declared.fixed.InitArguments.{InitArguments}
 use Rattle.fuse_operations.specs.InitOperation.{version}
-use Rattle.fuse_request.specs.Header.{header, body, request_of}
-use Rattle.fuse_request.specs.declared.any_request.Header.{Header}
-use Rattle.fuse_request.specs.declared.request.Request.{Request as Asker}
-use Rattle.fuse_request.specs.declared.error.RequestError.{RequestError}
+use Rattle.fuse_header.specs.Header.{header, body, request_of}
+use Rattle.fuse_header.specs.declared.header.Header.{Header}
+use Rattle.fuse_header.specs.declared.request.Request.{Request as Asker}
+use Rattle.fuse_header.specs.declared.error.RequestError.{RequestError}
 use Rattle.fuse_dispatch.specs.Promise.{MayInit}
 use Rattle.fuse_loop.specs.Incoming.{incoming, incoming_by, AllGoOn}
 use Rattle.fuse_loop.specs.Incoming.Incoming.{Broken, Request}

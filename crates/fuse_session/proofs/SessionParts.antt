@@ -149,19 +149,18 @@ opens_none-refused (refusal.Init n) = tt
 
 -- a session that its handshake ended, and all that is left of it
 pub Closed-unopened : {F : Type 0} (promise : Promise F) (page : ℕ) (threads : Option ℕ) (acl : SessionACL) (owner : ℕ) (fs fs1 fs' : F)
-    (outcome found : Outcome) (before after : Progress) (source source' : SourceState) (sink sink' : SinkState) (counts found_counts : Transcript)
+    (outcome found : Outcome) (before after : Progress) (source source' : SourceState) (sink sink' : SinkState) (counts : Transcript)
     → Unopened (setup_of promise page threads acl owner) fs fs1 found before after → before ≡ progress source sink nothing_yet []
-    → (counts ≡ found_counts) × (outcome ≡ found) → after ≡ progress source' sink' found_counts [] → promise.may_destroy fs1 fs'
+    → outcome ≡ found → after ≡ progress source' sink' counts [] → promise.may_destroy fs1 fs'
     → Closed (setup_of promise page threads acl owner) fs fs' outcome source source' sink sink' counts
-Closed-unopened {F} promise page threads acl owner fs fs1 fs' outcome found before after source source' sink sink' counts found_counts unopened start
-    told handed_back destroyed =
+Closed-unopened {F} promise page threads acl owner fs fs1 fs' outcome found before after source source' sink sink' counts unopened start told
+    handed_back destroyed =
     record {
       fs1 = fs1;
       unasked = [];
-      unopened = subst (λ (o : Outcome). Unopened s fs fs1 o (progress source sink nothing_yet []) (progress source' sink' counts [])) (sym told.1)
+      unopened = subst (λ (o : Outcome). Unopened s fs fs1 o (progress source sink nothing_yet []) (progress source' sink' counts [])) (sym told)
           (subst (λ (p : Progress). Unopened s fs fs1 found p (progress source' sink' counts [])) start
-          (subst (λ (t : Transcript). Unopened s fs fs1 found before (progress source' sink' t [])) (sym told.0)
-          (subst (λ (q : Progress). Unopened s fs fs1 found before q) handed_back unopened)));
+          (subst (λ (q : Progress). Unopened s fs fs1 found before q) handed_back unopened));
       destroyed = destroyed;
     }
   where

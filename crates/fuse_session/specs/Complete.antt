@@ -4,11 +4,11 @@ use Rattle.fuse_wire.specs.Faults.{last_count}
 use Rattle.fuse_wire.specs.Source.{SourceState, message}
 use Rattle.fuse_config.specs.Values.{Configuration}
 use Rattle.fuse_args.specs.declared.fixed.InitArguments.{InitArguments}
-use Rattle.fuse_request.specs.Header.{header, body}
+use Rattle.fuse_header.specs.Header.{header, body}
 use Rattle.fuse_request.specs.Decoding.{operation}
 use Rattle.fuse_operations.specs.Operation.Op.{Init}
-use Rattle.fuse_request.specs.declared.any_request.Header.{Header}
-use Rattle.fuse_request.specs.declared.request.Request.{Request}
+use Rattle.fuse_header.specs.declared.header.Header.{Header}
+use Rattle.fuse_header.specs.declared.request.Request.{Request}
 use Rattle.fuse_loop.specs.Incoming.{incoming}
 use Rattle.fuse_loop.specs.Incoming.Incoming.{Destroy, Request as IsRequest}
 use Rattle.fuse_dispatch.specs.Promise.{MayInit}

@@ -4,7 +4,7 @@ use Rattle.fuse_wire.specs.Source.{SourceState, Takes, message, NothingLeft, Fai
 use Rattle.fuse_wire.specs.Sink.{SinkState, Note}
 use Rattle.fuse_config.specs.declared.config.Config.{Config}
 use Rattle.fuse_config.specs.declared.session_acl.SessionACL.{SessionACL}
-use Rattle.fuse_request.specs.declared.error.RequestError.{RequestError}
+use Rattle.fuse_header.specs.declared.error.RequestError.{RequestError}
 use Rattle.fuse_reply.specs.declared.out.Out.{Out}
 use Rattle.fuse_reply.specs.declared.out.Out.TheVariants.{Frame}
 use Rattle.fuse_run.specs.Accounted.{Accounted}

@@ -1,7 +1,6 @@
 pub mod Exchange
 pub mod Session
 pub mod Starts
-pub mod Spawned
 pub mod Spawning
 pub mod Headline
 pub mod Complete

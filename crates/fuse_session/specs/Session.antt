@@ -3,7 +3,7 @@ use Rattle.std.specs.Prelude.{◌≡◌, ℕ, [], Option, Ok, Err}
 use Rattle.fuse_wire.specs.Source.{SourceState}
 use Rattle.fuse_wire.specs.Sink.{SinkState}
 use Rattle.fuse_config.specs.declared.session_acl.SessionACL.{SessionACL}
-use Rattle.fuse_request.specs.declared.error.RequestError.{RequestError}
+use Rattle.fuse_header.specs.declared.error.RequestError.{RequestError}
 use Rattle.fuse_run.specs.Ran.{Opened}
 use Rattle.fuse_run.specs.SessionEnd.{Outcome}
 use Rattle.fuse_session.specs.Exchange.{Setup, setup_of}

@@ -1,7 +1,7 @@
 -- Starting sessions in the background.
 use Rattle.std.specs.Prelude.{◌≡◌, ℕ, Result, Err}
 use Rattle.fuse_run.specs.Ran.{Opened}
-use Rattle.fuse_session.specs.Spawned.{CountsRefusal, StartsInline}
+use Rattle.fuse_session.specs.Starts.{CountsRefusal, StartsInline}
 use Rattle.fuse_run.specs.declared.ended.Ended.{Ended as End}
 use Rattle.fuse_session.specs.declared.background.SpawnError.{SpawnError}
 use Rattle.fuse_session.specs.declared.background.SpawnError.TheVariants as spawn

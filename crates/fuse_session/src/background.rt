@@ -29,8 +29,8 @@ pub struct BackgroundSession<FS: Filesystem, S: Source, K: Sink> {
 }
 
 impl<FS: Filesystem, S: Source, K: Sink> Model for BackgroundSession<FS, S, K> {
+    ghost use Rattle.fuse_background.specs.Started.{started};
     ghost use Rattle.fuse_run.specs.Ran.{Opened};
-    ghost use Rattle.fuse_session.specs.Spawned.{started};
 
     ghost Value = { Opened FS };
 
@@ -61,7 +61,8 @@ impl<FS: Filesystem, S: Source, K: Sink + Send> BackgroundSession<FS, S, K> {
         ensures later { (page : ℕ) (fs : _) (source : SourceState) (sink : SinkState) →
             IsOpened FS.promise page fs source sink self →
             result.outcome ≡ Ok tt → Lossless sink (K.told result.sink) result.transcript →
-            LaterHeadline FS.promise page self.acl self.owner fs source (S.told result.source) sink (K.told result.sink) }
+            LaterHeadline FS.promise page self.acl self.owner fs source (S.told result.source) sink
+            (K.told result.sink) }
 
         // Where no reply comes later, all could be recorded.
         ensures recorded { NeverLater self.threads FS.promise.defers → result.transcript.unrecorded ≡ 0 }

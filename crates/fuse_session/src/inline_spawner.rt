@@ -1,14 +1,13 @@
 // Sessions that run at once.
 ghost use Rattle.std.specs.Prelude.{◌≡◌, MatchResult};
+ghost use Rattle.fuse_background.specs.Started.{started};
 ghost use Rattle.fuse_wire.specs.Faults.{Rose};
-ghost use Rattle.fuse_session.specs.Spawned.{CountsRefusal, StartsInline, started};
+ghost use Rattle.fuse_session.specs.Starts.{CountsRefusal, StartsInline};
 
-use crate::running::AtEnd;
 use crate::{Filesystem, Running, Session};
 use fuse_wire::{Sink, Source};
 use std::alloc::AllocGlobal;
 use std::marker::Model;
-use std::snapshot::Snapshot;
 use std::sync::Wait;
 use std::thread::Threads;
 
@@ -59,12 +58,6 @@ impl InlineSpawner {
             return Err(session);
         }
         let Session { runnable, notifier } = session;
-        let seen = Snapshot::of(&runnable);
-        let ended = runnable.run(rt);
-        Ok(Running::AtEnd(AtEnd {
-            session: seen,
-            ended,
-            notifier,
-        }))
+        Ok(Running::at_once(rt, runnable, notifier))
     }
 }

@@ -7,18 +7,17 @@
 mod background;
 mod inline_spawner;
 pub mod laws;
-mod running;
 mod session;
 mod spawner;
 mod thread_spawner;
 
 pub use background::{BackgroundSession, SpawnError, spawn_mount};
+pub use fuse_background::Running;
 pub use fuse_dispatch::{Filesystem, Verdict, defaults, verdict};
 pub use fuse_handshake::InvalidData;
 pub use fuse_loop::Transcript;
 pub use fuse_run::{Ended, SessionError};
 pub use inline_spawner::InlineSpawner;
-pub use running::Running;
 pub use session::{Session, mount};
 pub use spawner::Spawner;
 pub use thread_spawner::ThreadSpawner;

@@ -1,5 +1,5 @@
 // Sessions: opened by the handshake, and then run.
-ghost use Rattle.std.specs.Prelude.{◌≡◌, ◌≢◌, ◌<◌, ◌⊎◌, ◌↔◌, ℕ, Ok, Err, Some, IfErr, IfOk, MatchResult, false};
+ghost use Rattle.std.specs.Prelude.{◌≡◌, ◌≢◌, ◌<◌, ◌⊎◌, ◌↔◌, ℕ, Ok, Err, Some, IfErr, IfOk, MatchResult};
 ghost use Rattle.fuse_config.specs.declared.session_acl.SessionACL.{SessionACL as ACL};
 ghost use Rattle.fuse_notify.specs.Queueing.{fresh_door};
 ghost use Rattle.fuse_run.specs.Accounted.{NeverLater};
@@ -7,7 +7,8 @@ ghost use Rattle.fuse_session.specs.Complete.{AcceptsAll, HandshakeWell, RunWell
 ghost use Rattle.fuse_session.specs.Exchange.{Closed, Mounted, Unopened, setup, setup_of};
 ghost use Rattle.fuse_session.specs.Headline.{Headline, LaterHeadline, Lossless};
 ghost use Rattle.fuse_handshake.specs.HandshakeStep.{HandshakeRun};
-ghost use Rattle.fuse_run.specs.Refused.{ClonesDevice, IsTaken, IsUntouched, OfOptions, OptionsWell, RefusedAs, Untouched};
+ghost use Rattle.fuse_run.specs.Refused.{ClonesDevice, IsTaken, IsUntouched, OfOptions, OptionsWell};
+ghost use Rattle.fuse_run.specs.Refused.{RefusedAs, Untouched};
 ghost use Rattle.fuse_session.specs.Spawning.{StartsOne, refused_by};
 ghost use Rattle.fuse_session.specs.Session.{EndsRun, IsOpened, OpensNone, Serves, setup_for};
 ghost use Rattle.fuse_run.specs.Ran.{Ran};
@@ -22,7 +23,7 @@ use fuse_dispatch::{AccessRule, Asking, Service, Shared};
 use fuse_handshake::{HandshakeOutcome, handshake};
 use fuse_loop::Channel;
 use fuse_notify::Notifier;
-use fuse_run::{Runnable, SessionMemory, destroyed, prepare, prepare_device, untouched};
+use fuse_run::{Runnable, SessionMemory, prepare, prepare_device, unopened, untouched};
 use fuse_wire::{NoMemory, Sink, Source};
 use std::marker::Model;
 use std::sync::Wait;
@@ -105,19 +106,15 @@ fn open<R: Wait + AllocGlobal, FS: Filesystem, S: Source, K: Sink>(
             };
             Ok(Session { runnable, notifier })
         }
-        Err(error) => {
-            let (source, sink, buffers, transcript) = channel.close(lines);
-            drop(buffers);
-            Err(destroyed(filesystem, source, sink, transcript, Err(error)))
-        }
+        Err(error) => Err(unopened(filesystem, channel, lines, error)),
     }
 }
 
 impl<FS: Filesystem, S: Source, K: Sink + Send> Session<FS, S, K> {
     /// Opens a session: first the options of `config` are looked at, then its memory is taken, the only memory that a
-    /// session takes itself (where messages are received, and the lines of its run), and then the kernel is greeted.
-    /// `owner` is the user whose session it is, and `config` says whose requests are served. `page_size` is in bytes, and
-    /// not 0: the kernel is told how many pages a request may span.
+    /// session takes itself (where messages are received, the lines of its run, and a notifier), and then the kernel is
+    /// greeted. `owner` is the user whose session it is, and `config` says whose requests are served. `page_size` is in
+    /// bytes, and not 0: the kernel is told how many pages a request may span.
     ///
     /// An error hands all back. Where the options are refused, or there is no memory, nothing else was done; otherwise
     /// `destroy` was called once. It is never `SessionError::Threads`.
@@ -271,7 +268,8 @@ impl<FS: Filesystem, S: Source, K: Sink + Send> Session<FS, S, K> {
         ensures later { (page : ℕ) (fs : _) (source : SourceState) (sink : SinkState) →
             IsOpened FS.promise page fs source sink self →
             result.outcome ≡ Ok tt → Lossless sink (K.told result.sink) result.transcript →
-            LaterHeadline FS.promise page self.acl self.owner fs source (S.told result.source) sink (K.told result.sink) }
+            LaterHeadline FS.promise page self.acl self.owner fs source (S.told result.source) sink
+            (K.told result.sink) }
 
         // Where no reply comes later, all could be recorded.
         ensures recorded { NeverLater self.threads FS.promise.defers → result.transcript.unrecorded ≡ 0 }

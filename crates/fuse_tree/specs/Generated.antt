@@ -3,7 +3,7 @@ use Rattle.std.specs.Prelude.{ℕ, zero, suc, ◌+◌, ◌*◌, ◌/◌, ◌%◌
 use Rattle.std.specs.Prelude.{replicate, if◌then◌else◌}
 use Rattle.std.specs.Int.{w32, w64, to_le_bytes}
 use Rattle.std.specs.List.{range_with_len}
-use Rattle.fuse_request.specs.Opcode.{FUSE_LOOKUP, FUSE_FORGET, FUSE_GETATTR, FUSE_READ, FUSE_WRITE, FUSE_INIT, FUSE_READDIR, FUSE_DESTROY}
+use Rattle.fuse_header.specs.Opcode.{FUSE_LOOKUP, FUSE_FORGET, FUSE_GETATTR, FUSE_READ, FUSE_WRITE, FUSE_INIT, FUSE_READDIR, FUSE_DESTROY}
 
 -- a message: len4 opcode4 unique8 nodeid8 uid4 gid4 pid4 _4 (`struct fuse_in_header`), where the length counts the header too and
 -- whoever asks is 0, and its body

@@ -1,5 +1,5 @@
 use Rattle.std.proofs.Common.{◌≡◌, Err, List, ℕ, refl, subst, take}
-use Rattle.fuse_request.specs.Header.{header}
+use Rattle.fuse_header.specs.Header.{header}
 use Rattle.fuse_loop.specs.Answering.{IsRequest}
 use Rattle.fuse_loop.specs.Arrives.{Arrives}
 use Rattle.fuse_loop.specs.declared.incoming.Incoming.TheVariants as found

@@ -1,6 +1,6 @@
 -- One turn of the loop: no message, one that ends the run, or one after which it goes on.
 use Rattle.std.proofs.Common.{◌≡◌, Err, List, ℕ, subst, take}
-use Rattle.fuse_request.specs.Header.{header}
+use Rattle.fuse_header.specs.Header.{header}
 use Rattle.fuse_reply.specs.Answer.Answer.{Empty}
 use Rattle.fuse_reply.specs.Frame.{reply}
 use Rattle.fuse_reply.specs.declared.out.Out.{Out}

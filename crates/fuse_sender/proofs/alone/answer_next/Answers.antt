@@ -3,7 +3,7 @@ use Rattle.fuse_reply.specs.Answer.Answer.{Empty}
 use Rattle.fuse_reply.specs.Frame.{reply}
 use Rattle.fuse_reply.specs.declared.out.Out.{Out}
 use Rattle.fuse_reply.specs.declared.out.Out.TheVariants.{Frame}
-use Rattle.fuse_request.specs.Header.{header}
+use Rattle.fuse_header.specs.Header.{header}
 use Rattle.fuse_sender.specs.Alone.{AnswersLast}
 use Rattle.fuse_loop.specs.Answering.{IsRequest, answering}
 use Rattle.fuse_loop.specs.Arrives.{Arrives}

@@ -1,5 +1,5 @@
 -- What a request came to without a door is owed.
-use Rattle.fuse_request.specs.Header.{header_fields, request_of}
+use Rattle.fuse_header.specs.Header.{header_fields, request_of}
 use Rattle.fuse_reply.specs.declared.door.NoDoor.TheVariants.{Shut}
 use Rattle.fuse_loop.specs.Incoming.{id_of}
 use Rattle.fuse_dispatch.specs.Verdict.{verdict}

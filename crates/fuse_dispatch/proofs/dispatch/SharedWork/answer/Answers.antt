@@ -1,6 +1,6 @@
 -- What a request came to by a door is owed, since the handler owes each call a reply that comes later.
 use Rattle.std.proofs.Common.{◌≡◌, true, rules}
-use Rattle.fuse_request.specs.Header.{header_fields, request_of}
+use Rattle.fuse_header.specs.Header.{header_fields, request_of}
 use Rattle.fuse_loop.specs.Incoming.{id_of}
 use Rattle.fuse_dispatch.specs.Verdict.{verdict}
 use Rattle.fuse_dispatch.proofs.Deferring.{owed-comes}

@@ -1,7 +1,7 @@
 -- Each thing that comes of a lookup is allowed.
 use Rattle.std.proofs.Common.{ℕ, List, Result, inl, inr, lit<}
 use Rattle.fuse_operations.specs.Call.Call.{Lookup}
-use Rattle.fuse_request.specs.declared.request.Request.{Request}
+use Rattle.fuse_header.specs.declared.request.Request.{Request}
 use Rattle.fuse_reply.specs.Door.{DoorSeen}
 use Rattle.fuse_reply.specs.declared.door.NoDoor.{NoDoor}
 use Rattle.fuse_reply.specs.declared.out.Out.{Out}

@@ -1,8 +1,8 @@
 -- The text of each error.
 use Rattle.std.specs.Prelude.{ℕ, List, ◌++◌, codes, decimal}
-use Rattle.fuse_request.specs.declared.error.RequestError.{RequestError}
-use Rattle.fuse_request.specs.declared.error.RequestError.TheVariants.{ShortReadHeader, ShortRead, UnknownOperation}
-use Rattle.fuse_request.specs.declared.error.RequestError.TheVariants.{InsufficientData}
+use Rattle.fuse_header.specs.declared.error.RequestError.{RequestError}
+use Rattle.fuse_header.specs.declared.error.RequestError.TheVariants.{ShortReadHeader, ShortRead, UnknownOperation}
+use Rattle.fuse_header.specs.declared.error.RequestError.TheVariants.{InsufficientData}
 
 -- what `{}` writes for an error
 abbrev pub error_text : RequestError → List ℕ

@@ -1,7 +1,7 @@
 -- Who asks: what a filesystem is told of every request.
 use Rattle.std.specs.Prelude.{ℕ}
 use Rattle.fuse_wire.specs.declared.newtypes.RequestId.{RequestId}
-use Rattle.fuse_request.specs.declared.request.Request.{Request}
+use Rattle.fuse_header.specs.declared.request.Request.{Request}
 
 abbrev pub unique_of : Request → RequestId
 unique_of request = request.unique

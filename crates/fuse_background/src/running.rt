@@ -1,73 +1,20 @@
 // Sessions that were started.
-ghost use Rattle.std.specs.Prelude.{◌≡◌, IfOk, false};
+ghost use Rattle.std.specs.Prelude.{◌≡◌, IfOk, MatchResult};
+ghost use Rattle.fuse_background.specs.Started.{started};
 ghost use Rattle.fuse_notify.specs.Queueing.{fresh_door};
 ghost use Rattle.fuse_run.specs.Ran.{Ran};
-ghost use Rattle.fuse_session.specs.Spawned.{CameOf, started};
 
-use crate::{Ended, Filesystem};
+use crate::carried::{Came, Handle};
+use crate::starting::start_thread;
+use fuse_dispatch::Filesystem;
 use fuse_notify::Notifier;
-use fuse_run::Runnable;
+use fuse_run::{Ended, Runnable};
 use fuse_wire::{NoMemory, Sink, Source};
 use std::alloc::AllocGlobal;
 use std::marker::Model;
 use std::snapshot::Snapshot;
 use std::sync::Wait;
-use std::thread::{Promise, PromisedHandle, Threads};
-
-/// A session on its way to a thread, or back from one that did not run it.
-pub(crate) struct Carried<FS, S: Source, K: Sink> {
-    runnable: Runnable<FS, S, K>,
-}
-
-impl<FS: Drop, S: Source + Drop, K: Sink + Drop> Drop for Carried<FS, S, K> {
-    fn drop(self) {
-        let Carried { runnable } = self;
-        runnable.discard();
-    }
-}
-
-impl<FS, S: Source, K: Sink> Carried<FS, S, K> {
-    pub(crate) fn new(runnable: Runnable<FS, S, K>) -> Carried<FS, S, K>
-        ensures { result.runnable ≡ runnable }
-    {
-        Carried { runnable }
-    }
-
-    /// What was carried.
-    pub(crate) fn into_runnable(self) -> Runnable<FS, S, K>
-        ensures { result ≡ self.runnable }
-    {
-        let Carried { runnable } = self;
-        runnable
-    }
-}
-
-/// What came of a session that was handed to a thread.
-#[derive(Drop)]
-pub(crate) enum Came<FS, S: Source, K: Sink> {
-    /// It was run to its end.
-    Ended(Ended<FS, S, K>),
-    /// It was held back.
-    Held(Carried<FS, S, K>),
-}
-
-/// That what comes of it comes of this session.
-pub(crate) struct ComesOf<FS, S: Source, K: Sink> {
-    pub(crate) session: Snapshot<Runnable<FS, S, K>>,
-}
-
-impl<FS, S: Source, K: Sink> Drop for ComesOf<FS, S, K> {
-    fn drop(self) {
-        let ComesOf { session: _ } = self;
-    }
-}
-
-impl<FS: Filesystem, S: Source, K: Sink> Promise<Came<FS, S, K>> for ComesOf<FS, S, K> {
-    ghost kept_by = { λ p r. CameOf FS.promise S.told K.told p.session.value r };
-}
-
-/// The handle of a thread that a session was handed to.
-pub(crate) type Handle<FS, S, K> = PromisedHandle<Came<FS, S, K>, ComesOf<FS, S, K>>;
+use std::thread::Threads;
 
 /// A session that a thread runs. A contract sees the session that was started.
 pub struct OnThread<FS: Filesystem, S: Source, K: Sink> {
@@ -116,8 +63,54 @@ pub enum Running<FS: Filesystem, S: Source, K: Sink> {
     AtEnd(AtEnd<FS, S, K>),
 }
 
+impl<
+    FS: Filesystem + Drop + 'static,
+    S: Source + Send + Drop + 'static,
+    K: Sink + Send + Drop + 'static,
+> Running<FS, S, K> {
+    /// Starts a thread for the session. Where there is none, or no memory, it comes back as it was.
+    pub fn on_thread<R: Threads + Wait + AllocGlobal + Send + Sync + Copy + 'static>(
+        rt: &R,
+        runnable: Runnable<FS, S, K>,
+        notifier: Notifier,
+    ) -> Result<Running<FS, S, K>, (Runnable<FS, S, K>, Notifier)>
+        requires { notifier ≡ fresh_door runnable.line }
+        ensures { MatchResult result (λ running. started running ≡ runnable)
+            (λ back. (back.0 ≡ runnable) × (back.1 ≡ notifier)) }
+    {
+        let session = Snapshot::of(&runnable);
+        match start_thread(rt, runnable) {
+            Ok(handle) => Ok(Running::OnThread(OnThread { handle, notifier })),
+            Err(Came::Ended(ended)) => Ok(Running::AtEnd(AtEnd {
+                session,
+                ended,
+                notifier,
+            })),
+            Err(Came::Held(carried)) => Err((carried.into_runnable(), notifier)),
+        }
+    }
+}
+
 impl<FS: Filesystem, S: Source, K: Sink + Send> Running<FS, S, K> {
-    /// Waits for the end of the session. It is an end that `Session::run` may come to.
+    /// Runs the session to its end, on this thread.
+    pub fn at_once<R: Threads + Wait + AllocGlobal + Sync>(
+        rt: &R,
+        runnable: Runnable<FS, S, K>,
+        notifier: Notifier,
+    ) -> Running<FS, S, K>
+        requires { notifier ≡ fresh_door runnable.line }
+        ensures { started result ≡ runnable }
+    {
+        let session = Snapshot::of(&runnable);
+        let ended = runnable.run(rt);
+        Running::AtEnd(AtEnd {
+            session,
+            ended,
+            notifier,
+        })
+    }
+
+    /// Waits for the end of the session. It is an end that `Runnable::run` may come to.
     pub fn join<R: Threads + Wait + AllocGlobal + Sync>(self, rt: &R) -> Ended<FS, S, K>
         ensures { Ran FS.promise (started self) result.filesystem result.outcome
             (S.told result.source) (K.told result.sink) result.transcript }
@@ -145,7 +138,7 @@ impl<FS: Filesystem, S: Source, K: Sink + Send> Running<FS, S, K> {
     }
 
     /// What queues notices for the session.
-    pub(crate) fn notifier(&mut self) -> Result<Notifier, NoMemory>
+    pub fn notifier(&mut self) -> Result<Notifier, NoMemory>
         ensures same { self.new ≡ self.old }
         ensures fresh { IfOk result (λ n. n ≡ fresh_door (started self.old).line) }
     {

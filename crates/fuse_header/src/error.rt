@@ -16,7 +16,7 @@ pub enum RequestError {
 
 impl fmt::Display for RequestError {
     ghost use Rattle.std.specs.Prelude.{Some};
-    ghost use Rattle.fuse_request.specs.ErrorText.{error_text};
+    ghost use Rattle.fuse_header.specs.ErrorText.{error_text};
 
     ghost output = { λ error. Some (error_text error) };
 

@@ -13,7 +13,7 @@ pub struct Request {
 }
 
 impl Request {
-    ghost use Rattle.fuse_request.specs.Asker.{unique_of, uid_of, gid_of, pid_of};
+    ghost use Rattle.fuse_header.specs.Asker.{unique_of, uid_of, gid_of, pid_of};
 
     /// The number of the request.
     pub fn unique(&self) -> RequestId

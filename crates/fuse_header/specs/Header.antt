@@ -1,11 +1,10 @@
 -- A message's header and body (`struct fuse_in_header` of `fuse.h`).
-use Rattle.std.specs.Prelude.{◌≡◌, ℕ, ◌-◌, List, Result, Ok, Err, length, take, drop, nat_lt, if◌then◌else◌}
+use Rattle.std.specs.Prelude.{ℕ, ◌-◌, List, Result, Ok, Err, length, take, drop, nat_lt, if◌then◌else◌}
 use Rattle.fuse_wire.specs.Numbers.{number}
-use Rattle.fuse_request.specs.declared.error.RequestError.{RequestError}
-use Rattle.fuse_request.specs.declared.error.RequestError.TheVariants.{ShortReadHeader, ShortRead, InsufficientData}
-use Rattle.fuse_request.specs.declared.any_request.Header.{Header}
-use Rattle.fuse_request.specs.declared.any_request.AnyRequest.{AnyRequest}
-use Rattle.fuse_request.specs.declared.request.Request.{Request}
+use Rattle.fuse_header.specs.declared.error.RequestError.{RequestError}
+use Rattle.fuse_header.specs.declared.error.RequestError.TheVariants.{ShortReadHeader, ShortRead, InsufficientData}
+use Rattle.fuse_header.specs.declared.header.Header.{Header}
+use Rattle.fuse_header.specs.declared.request.Request.{Request}
 
 -- the fields at their places: len4 opcode4 unique8 nodeid8 uid4 gid4 pid4 _4
 abbrev pub header_fields : List ℕ → Header
@@ -33,15 +32,3 @@ body m = take (number m 0 4 - 40) (drop 40 m)
 -- who asks
 abbrev pub request_of : Header → Request
 request_of h = record { unique = h.unique; uid = h.uid; gid = h.gid; pid = h.pid }
-
--- what a decoded message holds
-abbrev pub header_of : AnyRequest → Header
-header_of request = request.header
-
-abbrev pub body_of : AnyRequest → List ℕ
-body_of request = request.body.now
-
--- a message decodes exactly where its header is good, to that header and its body
-abbrev pub Decodes : Result AnyRequest RequestError → List ℕ → Type 0
-Decodes (Ok request) m = (header m ≡ Ok (header_of request)) × (body_of request ≡ body m)
-Decodes (Err e) m = header m ≡ Err e

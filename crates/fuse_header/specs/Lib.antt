@@ -1,0 +1,4 @@
+pub mod Asker
+pub mod Header
+pub mod Opcode
+pub mod ErrorText
