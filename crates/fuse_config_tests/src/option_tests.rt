@@ -255,6 +255,13 @@ fn reads_texts_that_nobody_wrote(rt: HostRuntime) {
     }
 }
 
+#[test]
+fn a_long_text_finds_memory(rt: HostRuntime) {
+    let text = "lowerdir=/a:".repeat(rt.alloc(), 400);
+    let text = text.expect(&rt, "there is memory");
+    expect_read(&rt, rt.alloc(), &text, ('c', &text));
+}
+
 /// Texts that name other options.
 const OTHERS: &[&str] = &["ro", "auto_unmount", "fsname=", "subtype=x"];
 

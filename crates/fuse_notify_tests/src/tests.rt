@@ -330,7 +330,7 @@ const REFUSED: &[Step] = &[
 ];
 
 /// A long payload.
-const LONG: &[u8] = &[0x61; 1000];
+const LONG: &[u8] = &[0x61; 100_000];
 
 /// It finds memory where there is some.
 const LONG_ONES: &[Step] = &[
@@ -338,9 +338,9 @@ const LONG_ONES: &[Step] = &[
     Step::Notify(News::Store(LONG), Ok(())),
     Step::Notify(News::Delete(LONG), Ok(())),
     Step::Drain(&[
-        (16 + 17 + 1000, &[]),
-        (16 + 24 + 1000, &[]),
-        (16 + 25 + 1000, &[]),
+        (16 + 17 + 100_000, &[]),
+        (16 + 24 + 100_000, &[]),
+        (16 + 25 + 100_000, &[]),
     ]),
 ];
 

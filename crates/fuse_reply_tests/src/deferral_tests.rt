@@ -177,16 +177,17 @@ fn put_off_through<R: Wait + Abort>(
     fail_later(rt, reply)
 }
 
-/// The mark of such a reply goes out at once, and its frame is queued, both under the message's number.
+/// The mark of such a reply goes out at once, and its frame is queued, once, both under the message's number.
 fn expect_queued<R: Wait + Abort>(rt: &R, alloc: Global, lists: bool) {
     let (mut desk, seal, door) = desk_of(rt, alloc, 2);
     drop(seal);
     let mark = put_off_through(rt, alloc, door, lists);
     let waits = desk.line.pop(rt, &mut desk.first);
+    let is_alone = desk.line.pop(rt, &mut desk.first).is_none();
     expect_same(
         rt,
-        &(mark, late_in(&waits)),
-        &(Ok(Some((SEQ, ID))), Some((SEQ, ID, false))),
+        &(mark, late_in(&waits), is_alone),
+        &(Ok(Some((SEQ, ID))), Some((SEQ, ID, false)), true),
     );
 }
 

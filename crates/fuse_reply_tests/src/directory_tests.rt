@@ -215,14 +215,14 @@ fn add_numbered(reply: &mut ReplyDirectory, i: u16) -> Result<bool, NoMemory> {
     reply.add(INodeNo(place), place, FileType::RegularFile, &digits(i))
 }
 
-/// Adds a thousand entries of 32 bytes each, and tells how many were taken before the first that was not.
-fn list_thousand(reply: &mut ReplyDirectory) -> Result<u16, NoMemory> {
-    for i in 0..1000 {
+/// Adds 8192 entries of 32 bytes each, and tells how many were taken before the first that was not.
+fn list_many(reply: &mut ReplyDirectory) -> Result<u16, NoMemory> {
+    for i in 0..8192 {
         if add_numbered(reply, i)? {
             return Ok(i);
         }
     }
-    Ok(1000)
+    Ok(8192)
 }
 
 /// The listing carries so many entries, which are so many bytes.
@@ -238,10 +238,10 @@ fn carries_numbered(
     carries(rt, alloc, reply.ok(), &[&entries]);
 }
 
-/// Of a thousand entries so many are taken in so many bytes, and they take so many bytes.
+/// Of 8192 entries so many are taken in so many bytes, and they take so many bytes.
 fn expect_cut(rt: &impl Abort, alloc: Global, size: usize, entries: u16, length: usize) {
     let mut reply = ReplyDirectory::new(alloc, ID, size);
-    let taken = list_thousand(&mut reply);
+    let taken = list_many(&mut reply);
     expect_same(rt, &(size, taken), &(size, Ok(entries)));
     carries_numbered(rt, alloc, reply, entries, length);
 }
@@ -259,8 +259,9 @@ const CUTS: &[(usize, u16, usize)] = &[
     (4096, 128, 4096),
     (31_999, 999, 31_968),
     (32_000, 1000, 32_000),
-    (4_294_967_295, 1000, 32_000),
-    (usize::MAX, 1000, 32_000),
+    (262_143, 8191, 262_112),
+    (4_294_967_295, 8192, 262_144),
+    (usize::MAX, 8192, 262_144),
 ];
 
 #[test]

@@ -15,6 +15,8 @@ mod fixed_tests;
 #[cfg(test)]
 mod frames;
 #[cfg(test)]
+mod long_tests;
+#[cfg(test)]
 mod stream_tests;
 #[cfg(test)]
 mod tests;

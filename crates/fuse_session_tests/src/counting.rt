@@ -13,17 +13,42 @@ use std::alloc::Global;
 use std::process::Abort;
 use std::sync::atomic::{AtomicU64, Ordering};
 use std::sync::{Arc, Wait};
+use std::thread;
 use std::thread::Threads;
+
+/// How often a lookup looks at most whether it may go on.
+const MOST_TURNS: u64 = 1_000_000;
 
 /// What a read gives where no other contents are said: more than a frame holds without memory.
 pub(crate) const CONTENTS: &[u8] = &[0x2a; 200];
 
+/// A count that others share, and how high it has to be before a lookup goes on.
+#[derive(Drop)]
+struct Gate {
+    count: Arc<AtomicU64, Global>,
+    awaited: u64,
+}
+
+impl Gate {
+    /// Whether the count was as high in time.
+    fn opens(&self) -> bool {
+        for _turn in 0..MOST_TURNS {
+            if self.count.load(Ordering::SeqCst) >= self.awaited {
+                return true;
+            }
+            thread::yield_now();
+        }
+        false
+    }
+}
+
 /// A filesystem that counts its calls, each row of a batch of forgets as one too, and how often it was destroyed. It
-/// knows no name and no attributes, and reads the same contents from every offset.
+/// knows no name and no attributes, and reads the same contents from every offset. Where it has a gate, it counts its
+/// calls there too, and a lookup for which that does not open in time is answered EIO.
 #[derive(Drop)]
 pub(crate) struct Counting {
     contents: Option<Vec<u8>>,
-    told: Option<Arc<AtomicU64, Global>>,
+    gate: Option<Gate>,
     calls: AtomicU64,
     destroyed: u64,
 }
@@ -96,19 +121,27 @@ impl Counting {
     pub(crate) fn new(contents: Option<Vec<u8>>) -> Counting {
         Counting {
             contents,
-            told: None,
+            gate: None,
             calls: AtomicU64::new(0),
             destroyed: 0,
         }
     }
 
-    /// It was not called yet, and counts its calls here too, for one that looks while it is served.
-    pub(crate) fn telling(told: Arc<AtomicU64, Global>) -> Counting {
+    /// It was not called yet. It counts its calls here too, and its lookups wait until this count is so high.
+    pub(crate) fn waiting(count: Arc<AtomicU64, Global>, awaited: u64) -> Counting {
         Counting {
             contents: None,
-            told: Some(told),
+            gate: Some(Gate { count, awaited }),
             calls: AtomicU64::new(0),
             destroyed: 0,
+        }
+    }
+
+    /// What a lookup fails by, once it goes on.
+    fn refusal(&self) -> Errno {
+        match &self.gate {
+            Some(gate) if !gate.opens() => Errno::EIO,
+            _ => Errno::ENOENT,
         }
     }
 
@@ -135,8 +168,8 @@ impl Probe for Counting {
         _texts: &[&[u8]],
     ) {
         self.calls.fetch_add(1, Ordering::SeqCst);
-        if let Some(told) = &self.told {
-            told.fetch_add(1, Ordering::SeqCst);
+        if let Some(gate) = &self.gate {
+            gate.count.fetch_add(1, Ordering::SeqCst);
         }
     }
 
@@ -147,7 +180,7 @@ impl Probe for Counting {
         _name: &[u8],
         reply: ReplyEntry,
     ) -> Replied {
-        reply.error(Errno::ENOENT)
+        reply.error(self.refusal())
     }
 
     fn forget(&self, ino: INodeNo, nlookup: u64) -> u64 {

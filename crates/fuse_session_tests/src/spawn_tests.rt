@@ -11,6 +11,7 @@ use fuse_session::{
     BackgroundSession, InlineSpawner, Session, SpawnError, Spawner, ThreadSpawner, spawn_mount,
 };
 use fuse_wire::{MemorySink, MemorySource};
+use std::alloc::Global;
 use std::process::Abort;
 use std::sync::atomic::{AtomicU64, Ordering};
 use std::sync::{Arc, Wait};
@@ -19,6 +20,9 @@ use std::thread::Threads;
 
 /// How often is looked, at most, whether a session has begun.
 const MOST_TURNS: u64 = 1_000_000;
+
+/// How high a count is once whoever looks has seen a call: more than any of these sessions has calls.
+const SEEN: u64 = 1000;
 
 type Background = BackgroundSession<Probing<Counting>, MemorySource, MemorySink>;
 
@@ -80,7 +84,7 @@ enum Look<'a> {
     Nothing,
     /// A notifier is made of it.
     Notifier,
-    /// Its filesystem is called, which counts here.
+    /// Its filesystem is called, which counts here. The call goes on once it was seen.
     Calls(&'a AtomicU64),
 }
 
@@ -93,7 +97,11 @@ fn joined<R: Threads + Wait + AllocGlobal + Sync>(
     let seen = match look {
         Look::Nothing => true,
         Look::Notifier => background.notifier().is_ok(),
-        Look::Calls(calls) => is_called(calls),
+        Look::Calls(calls) => {
+            let is_called = is_called(calls);
+            calls.fetch_add(SEEN, Ordering::SeqCst);
+            is_called
+        }
     };
     (background.join(rt), seen)
 }
@@ -237,15 +245,67 @@ fn a_session_runs_in_the_background_and_has_notifiers(rt: HostRuntime) {
     }
 }
 
+/// A count that is shared by two.
+fn shared_count<R: AllocGlobal + Abort>(
+    rt: &R,
+) -> (Arc<AtomicU64, Global>, Arc<AtomicU64, Global>) {
+    let count = Arc::new(rt.alloc(), AtomicU64::new(0)).expect(rt, "there is memory");
+    let share = Arc::try_clone(&count).expect(rt, "there is memory");
+    (count, share)
+}
+
+/// It is started before its lookup goes on, which waits for whoever started it.
 #[test]
-fn a_session_runs_before_it_is_joined(rt: HostRuntime) {
-    let calls = Arc::new(rt.alloc(), AtomicU64::new(0)).expect(&rt, "there is memory");
-    let told = Arc::try_clone(&calls).expect(&rt, "there is memory");
+fn a_session_runs_while_its_caller_goes_on(rt: HostRuntime) {
+    let (calls, share) = shared_count(&rt);
     let mut spawner = Spawner::Thread(ThreadSpawner::new());
-    let spawned = spawn(&rt, &mut spawner, None, Counting::telling(told), MESSAGES);
+    let waiting = Counting::waiting(share, SEEN);
+    let spawned = spawn(&rt, &mut spawner, None, waiting, MESSAGES);
     let (over, called) = over(&rt, spawned, Look::Calls(&calls));
     is_left(&rt, "called", over, &ANSWERED);
     expect_same(&rt, &called, &true);
+}
+
+/// INIT and five LOOKUPs under one id.
+const FIVE: &[Given] = &[
+    Given::Opening,
+    Given::Asked(Request::Lookup(2, 0)),
+    Given::Asked(Request::Lookup(2, 0)),
+    Given::Asked(Request::Lookup(2, 0)),
+    Given::Asked(Request::Lookup(2, 0)),
+    Given::Asked(Request::Lookup(2, 0)),
+];
+
+/// What a session of them leaves, which has answered all.
+const FIVE_ANSWERED: Left = Left {
+    end: End::Fine,
+    received: 6,
+    frames: &[
+        Frame::Accepted,
+        Frame::Error(2, ENOENT),
+        Frame::Error(2, ENOENT),
+        Frame::Error(2, ENOENT),
+        Frame::Error(2, ENOENT),
+        Frame::Error(2, ENOENT),
+    ],
+    destroyed: 1,
+};
+
+/// Each lookup waits until all five are called.
+#[test]
+fn as_many_calls_run_at_once_as_threads_serve(rt: HostRuntime) {
+    let (calls, share) = shared_count(&rt);
+    drop(calls);
+    let mut spawner = spawner_of(&rt, Some(&[]));
+    let spawned = spawn(
+        &rt,
+        &mut spawner,
+        Some(5),
+        Counting::waiting(share, 5),
+        FIVE,
+    );
+    let (over, _) = over(&rt, spawned, Look::Nothing);
+    is_left(&rt, "five at once", over, &FIVE_ANSWERED);
 }
 
 /// The session that a spawner refused to start.

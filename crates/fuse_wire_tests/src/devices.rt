@@ -426,6 +426,45 @@ fn fails_where_the_flush_fails(rt: HostRuntime) {
     expect_same(&rt, &answers, &[ByteWrite::Failed; 2]);
 }
 
+/// A writer that holds what it takes until it is flushed, and fails before it takes anything where it is to.
+#[derive(Drop)]
+struct Buffering {
+    fails: bool,
+    held: usize,
+    flushed: usize,
+}
+
+impl Write for Buffering {
+    fn write(&mut self, piece: &[u8]) -> io::Result<usize> {
+        if self.fails {
+            self.fails = false;
+            return Err(io::Error::from(io::ErrorKind::Interrupted));
+        }
+        self.held = self.held.saturating_add(piece.len());
+        Ok(piece.len())
+    }
+
+    fn flush(&mut self) -> io::Result<()> {
+        self.flushed = self.flushed.saturating_add(self.held);
+        self.held = 0;
+        Ok(())
+    }
+}
+
+#[test]
+fn flushes_what_it_wrote_and_tries_no_write_again(rt: HostRuntime) {
+    let mut writer = Buffering {
+        fails: true,
+        held: 0,
+        flushed: 0,
+    };
+    let mut sink = StdSink::new(&mut writer);
+    let answers = [sink.write(&[0]), sink.write(&[1, 2]), sink.write(&[3])];
+    let expected = [ByteWrite::Failed, ByteWrite::Wrote(2), ByteWrite::Wrote(1)];
+    let found = (answers, writer.held, writer.flushed);
+    expect_same(&rt, &found, &(expected, 0, 3));
+}
+
 #[test]
 fn writes_to_a_vector(rt: HostRuntime) {
     let mut bytes = Vec::new(rt.alloc());

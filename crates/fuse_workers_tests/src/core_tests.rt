@@ -1,8 +1,8 @@
 // What comes of events, from the state in which nothing has happened yet.
 use crate::asserts::expect_same;
 use fuse_loop::{Doors, Ending, RunLine};
-use fuse_reply::{LateFrame, Out, Parcel, ReplyEmpty};
-use fuse_wire::{Errno, Items, RequestId};
+use fuse_reply::{LateFrame, NoticeFrame, Out, Parcel, ReplyData, ReplyEmpty};
+use fuse_wire::{Errno, Items, PollHandle, RequestId};
 use fuse_workers::{Event, State, run, step};
 use std::process::Abort;
 use std::sync::Wait;
@@ -70,15 +70,42 @@ fn tag_of(letter: u8) -> (u64, RequestId) {
     }
 }
 
-/// What goes out by a letter: a mark, or of `a`, `A` and `o` the reply that the message failed.
+/// What goes out by a letter: a mark, or of `a`, `A` and `o` the reply that the message failed, of `w` one of many bytes,
+/// and of `i` a note.
 fn out_of<R: AllocGlobal>(rt: &R, letter: u8) -> Out {
     let (seq, id) = tag_of(letter);
     match letter {
         b'a' | b'A' | b'o' => ReplyEmpty::new(rt.alloc(), id)
             .error(Errno::ENOENT)
             .into_out(),
+        b'w' => ReplyData::new(rt.alloc(), id).data(&[7; 200]).into_out(),
+        b'i' => Out::note(id, 3),
         _ => Out::Deferred(seq, id),
     }
+}
+
+/// The frame of a parcel that is a notice.
+fn notice_of(parcel: Option<Parcel>) -> Option<NoticeFrame> {
+    match parcel {
+        Some(Parcel::Notice(frame)) => Some(frame),
+        other => {
+            drop(other);
+            None
+        }
+    }
+}
+
+/// The frame of a notice.
+fn notice<R: Wait + AllocGlobal + Abort>(rt: &R) -> Option<NoticeFrame> {
+    let mut line = RunLine::new(rt.alloc()).expect(rt, "there is memory");
+    let mut notifier = line.notifier().expect(rt, "there is memory");
+    notifier
+        .poll(rt, PollHandle(4))
+        .expect(rt, "the line has a place");
+    drop(notifier);
+    let parcel = line.next(rt);
+    drop(line);
+    notice_of(parcel)
 }
 
 /// What a worker or the sender does by a letter, a capital one that of the second worker.
@@ -102,6 +129,7 @@ fn event<R: Wait + AllocGlobal + Abort>(rt: &R, letter: u8) -> Event {
         b'o' | b'm' => Event::Own(message(rt), out_of(rt, letter)),
         b'b' => Event::Own(Items::from_vec(Vec::new(rt.alloc())), out_of(rt, letter)),
         b'l' | b'L' | b'M' => Event::Late(late(rt, seq, id).expect(rt, "the frame waits")),
+        b'n' => Event::Notify(notice(rt).expect(rt, "the notice waits")),
         _ => step_of(rt, letter),
     }
 }
@@ -145,6 +173,21 @@ const PROMPT: &[Row] = &[
     ("o", Some([1, 0, 1, 0, 0, 0, 0])),
     ("rotaps", Some([2, 0, 1, 1, 0, 0, 0])),
     ("b", None),
+    ("rtips", Some([1, 0, 0, 1, 0, 0, 0])),
+    ("rtwps", Some([1, 0, 0, 1, 0, 0, 0])),
+    ("n", Some([0, 0, 1, 0, 0, 0, 0])),
+    ("ns", Some([0, 0, 0, 0, 0, 0, 0])),
+    ("rtapns", Some([1, 0, 1, 1, 0, 0, 0])),
+];
+
+/// Two workers.
+const TWO: &[Row] = &[
+    ("rrtT", Some([2, 0, 0, 0, 0, 0, 0])),
+    ("rtT", None),
+    ("rrtTaA", Some([2, 0, 0, 0, 0, 0, 0])),
+    ("rrtTaAPp", Some([2, 0, 2, 0, 0, 0, 0])),
+    ("rrtTaAPpss", Some([2, 0, 0, 2, 0, 0, 0])),
+    ("rtaP", None),
 ];
 
 /// Marks.
@@ -220,15 +263,15 @@ fn seen_by(counts: &Option<Counts>) -> Option<Seen> {
     }
 }
 
-/// The state in which nothing has happened yet, with one worker.
-fn start<R: AllocGlobal + Abort>(rt: &R) -> State {
-    State::new(rt.alloc(), 1).expect(rt, "there is memory")
+/// The state in which nothing has happened yet, with so many workers.
+fn start<R: AllocGlobal + Abort>(rt: &R, workers: usize) -> State {
+    State::new(rt.alloc(), workers).expect(rt, "there is memory")
 }
 
 /// What is seen after a run of the events of these letters from there.
-fn once_run<R: Wait + AllocGlobal + Abort>(rt: &R, letters: &[u8]) -> Option<Seen> {
+fn once_run<R: Wait + AllocGlobal + Abort>(rt: &R, workers: usize, letters: &[u8]) -> Option<Seen> {
     let events = events_of(rt, letters);
-    let start = start(rt);
+    let start = start(rt, workers);
     let reached = run(rt.alloc(), &start, &events).expect(rt, "there is memory");
     drop(start);
     drop(events);
@@ -240,7 +283,7 @@ fn once_run<R: Wait + AllocGlobal + Abort>(rt: &R, letters: &[u8]) -> Option<See
 /// What is seen after a step by the event of this letter from there.
 fn once_stepped<R: Wait + AllocGlobal + Abort>(rt: &R, letter: u8) -> Option<Seen> {
     let event = event(rt, letter);
-    let start = start(rt);
+    let start = start(rt, 1);
     let stepped = step(rt.alloc(), &start, &event).expect(rt, "there is memory");
     drop(start);
     drop(event);
@@ -249,19 +292,28 @@ fn once_stepped<R: Wait + AllocGlobal + Abort>(rt: &R, letter: u8) -> Option<See
     seen
 }
 
-/// Events come to what these rows say.
-fn expect_rows<R: Wait + AllocGlobal + Abort>(rt: &R, rows: &[Row]) {
+/// Events come to what these rows say, with so many workers.
+fn expect_rows<R: Wait + AllocGlobal + Abort>(rt: &R, workers: usize, rows: &[Row]) {
     for (letters, wanted) in rows {
-        let found = once_run(rt, letters.as_bytes());
+        let found = once_run(rt, workers, letters.as_bytes());
         expect_same(rt, &(*letters, found), &(*letters, seen_by(wanted)));
     }
 }
 
 #[test]
 fn events_happen_where_they_may(rt: HostRuntime) {
-    expect_rows(&rt, PROMPT);
-    expect_rows(&rt, MARKS);
-    expect_rows(&rt, LATE);
+    expect_rows(&rt, 1, PROMPT);
+    expect_rows(&rt, 1, MARKS);
+    expect_rows(&rt, 1, LATE);
+    expect_rows(&rt, 2, TWO);
+}
+
+#[test]
+fn more_messages_are_answered_than_a_line_holds(rt: HostRuntime) {
+    let letters = b"rtaps".repeat(rt.alloc(), 70);
+    let letters = letters.expect(&rt, "there is memory");
+    let found = once_run(&rt, 1, &letters);
+    expect_same(&rt, &found, &Some(([70, 0, 0, 70, 0, 0, 0], None)));
 }
 
 #[test]
@@ -281,7 +333,10 @@ const FILLED: &[(u8, Option<Counts>)] = &[
 #[test]
 fn a_line_has_64_places(rt: HostRuntime) {
     for (letter, counts) in FILLED {
-        let found = (once_run(&rt, &[*letter; 64]), once_run(&rt, &[*letter; 65]));
+        let found = (
+            once_run(&rt, 1, &[*letter; 64]),
+            once_run(&rt, 1, &[*letter; 65]),
+        );
         expect_same(&rt, &found, &(seen_by(counts), None));
     }
 }

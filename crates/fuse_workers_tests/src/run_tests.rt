@@ -11,7 +11,7 @@ use crate::works::{Answering, Hold};
 use fuse_wire::{
     Items, MemorySink, MemorySource, Received, Sending, Source, receive_buffer, u64_at,
 };
-use fuse_workers::{Buffers, RunEnd};
+use fuse_workers::{Buffers, MOST_WORKERS, RunEnd};
 use std::process::Abort;
 use std::sync::Wait;
 use std::thread::Threads;
@@ -128,6 +128,21 @@ const ANSWERED: &[Row<'static>] = &[
         ids: 8,
         lost: 0,
         calls: 8,
+        last: None,
+        left: 0,
+    },
+    // So they do where a message is longer than a place of the line of jobs.
+    Row {
+        turns: &[Piece::Long(0, 3)],
+        hold: Hold::UntilCalled(3),
+        faults: 0,
+        workers: &[Some(3)],
+        rounds: 1,
+        end: b'g',
+        received: 3,
+        ids: 3,
+        lost: 0,
+        calls: 3,
         last: None,
         left: 0,
     },
@@ -250,6 +265,21 @@ const ANSWERED: &[Row<'static>] = &[
 
 /// Runs of which the sink refuses some sends.
 const LOST: &[Row<'static>] = &[
+    // What comes after a refused send is sent, and more than both lines hold.
+    Row {
+        turns: &[Piece::Requests(0, 1000), Piece::Destroy(1000)],
+        hold: Hold::No,
+        faults: 1,
+        workers: WORKERS,
+        rounds: 1,
+        end: b'd',
+        received: 1001,
+        ids: 1001,
+        lost: 0b1,
+        calls: 1000,
+        last: None,
+        left: 0,
+    },
     Row {
         turns: &[Piece::Requests(0, 10), Piece::Destroy(10)],
         hold: Hold::No,
@@ -473,10 +503,13 @@ fn expected_of(row: &Row) -> Found {
 }
 
 /// What is looked at. On four workers, which answer in any order, it is not known which of the first ten replies are lost:
-/// their bits are counted. The last reply is looked at where a row names it.
+/// their bits are counted. Of many messages it is not known which reply is lost, and how many are is counted. The last
+/// reply is looked at where a row names it.
 fn looked_at(row: &Row, workers: Option<usize>, found: Found) -> Found {
     let (mut became, calls, last, are_left) = found;
-    if row.lost != 0 && workers == Some(4) {
+    if row.lost != 0 && row.ids > 64 {
+        became.said.first = 0;
+    } else if row.lost != 0 && workers == Some(4) {
         let (ten, others) = (became.said.first & 0x3ff, became.said.first & !0x3ff);
         became.said.first = others | u64::from(ten.count_ones());
     }
@@ -540,5 +573,23 @@ fn what_comes_after_a_fault_of_the_source_is_not_taken(rt: HostRuntime) {
             left: 10 - place,
         };
         expect_row(&rt, &row);
+    }
+}
+
+/// How many calls of sixteen were under way at once, at most, where so many workers were asked for.
+fn most_at_once<R: Threads + Wait + AllocGlobal + Abort + Sync>(rt: &R, workers: usize) -> u64 {
+    let buffers = Buffers::new(rt.alloc()).expect(rt, "there is memory");
+    let work = Answering::new(Hold::Turns(10_000));
+    let (source, sink) = (source_of(rt, &[Piece::Requests(0, 16)]), sink_of(rt, 0));
+    drop(run_on(rt, &work, Some(workers), source, sink, buffers));
+    work.most_at_once()
+}
+
+#[test]
+fn no_more_answer_at_once_than_are_asked_for(rt: HostRuntime) {
+    expect_same(&rt, &MOST_WORKERS, &64);
+    for workers in 1..4 {
+        let is_kept = most_at_once(&rt, workers) <= workers as u64;
+        expect_same(&rt, &(workers, is_kept), &(workers, true));
     }
 }

@@ -29,6 +29,13 @@ pub(crate) fn id_of(message: &[u8]) -> RequestId
     }
 }
 
+/// Lets others go on for so many turns.
+fn pass_turns(count: u64) {
+    for _turn in 0..count {
+        thread::yield_now();
+    }
+}
+
 /// How long each answer is held.
 #[derive(Clone, Copy)]
 pub(crate) enum Hold {
@@ -38,6 +45,8 @@ pub(crate) enum Hold {
     ById,
     /// Until so many were called. Where they are not in time, the call counts twice.
     UntilCalled(u64),
+    /// For so many turns.
+    Turns(u64),
 }
 
 /// Answers each message by an empty reply, and counts its calls.
@@ -45,6 +54,8 @@ pub(crate) enum Hold {
 pub(crate) struct Answering {
     hold: Hold,
     calls: AtomicU64,
+    under_way: AtomicU64,
+    most: AtomicU64,
 }
 
 impl Answering {
@@ -53,7 +64,14 @@ impl Answering {
         Answering {
             hold,
             calls: AtomicU64::new(0),
+            under_way: AtomicU64::new(0),
+            most: AtomicU64::new(0),
         }
+    }
+
+    /// How many calls were under way at once, at most.
+    pub(crate) fn most_at_once(&self) -> u64 {
+        self.most.load(Ordering::SeqCst)
     }
 
     /// How often it was called.
@@ -77,13 +95,19 @@ impl Answering {
         self.calls.fetch_add(1, Ordering::SeqCst);
         match self.hold {
             Hold::No => {}
-            Hold::ById => {
-                for _turn in 0..id % 8 * 100 {
-                    thread::yield_now();
-                }
-            }
+            Hold::ById => pass_turns(id % 8 * 100),
             Hold::UntilCalled(count) => self.await_calls(count),
+            Hold::Turns(count) => self.stay(count),
         }
+    }
+
+    /// Stays for so many turns, and notes how many are here at once.
+    fn stay(&self, turns: u64) {
+        let others = self.under_way.fetch_add(1, Ordering::SeqCst);
+        self.most
+            .fetch_max(others.saturating_add(1), Ordering::SeqCst);
+        pass_turns(turns);
+        self.under_way.fetch_sub(1, Ordering::SeqCst);
     }
 }
 

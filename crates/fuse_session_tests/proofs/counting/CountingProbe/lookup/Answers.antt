@@ -1,6 +1,5 @@
 use Rattle.fuse_dispatch.proofs.Answering.{Answered-error}
-use Rattle.std.proofs.Common.{lit<}
 use Rattle.fuse_session_tests.proofs.counting.CountingProbe.lookup.Goals as goal
 
 pub returns : goal.returns
-returns c = Answered-error 2 (lit< tt) (lit< tt) tt c.error.ensures.reply
+returns c = Answered-error _ c.error.ensures.answer.0 c.error.ensures.answer.1 tt c.error.ensures.reply
