@@ -29,7 +29,7 @@ pub trait Filesystem: Send + Sync {
     /// Whether a reply may be given after its method has returned. Where it is true and more than one thread serves, a
     /// reply has a door, unless no memory was to be had for it (`NoDoor::Starved`): `defer` puts the reply off by it, and
     /// gives a token to keep. Else a reply has none (`NoDoor::Shut`), so that a method has to answer before it returns:
-    /// on one thread nothing else would be served meanwhile. A session asks for false yet.
+    /// on one thread nothing else would be served meanwhile.
     const DEFERS: bool;
 
     /// That constant, as a contract names it.
