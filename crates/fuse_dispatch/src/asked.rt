@@ -1,13 +1,11 @@
 // A request that is served.
-ghost use Rattle.std.specs.Prelude.{◌≡◌, [], Err};
+ghost use Rattle.std.specs.Prelude.{◌≡◌};
 ghost use Rattle.fuse_reply.specs.Answer.Answer.{Empty, Error};
-ghost use Rattle.fuse_reply.specs.Deferral.{prompt_reply};
 ghost use Rattle.fuse_reply.specs.Frame.{reply};
-ghost use Rattle.fuse_reply.specs.declared.door.NoDoor.TheVariants.{Shut};
 ghost use Rattle.fuse_reply.specs.declared.out.Out.{Out};
 
 use crate::error_reply::refusal;
-use fuse_reply::{EntryKind, Out, Reply, ReplyEmpty, ReplyListing};
+use fuse_reply::{Out, ReplyEmpty};
 use fuse_request::Request;
 use fuse_wire::{Errno, INodeNo, RequestId};
 use std::alloc::Global;
@@ -22,22 +20,6 @@ pub(crate) struct Asked {
 }
 
 impl Asked {
-    /// Its reply, of a fixed size or of data.
-    #[inline(always)]
-    pub(crate) fn reply<Kind>(&self) -> Reply<Kind>
-        ensures { result ≡ prompt_reply self.now.id.0 }
-    {
-        Reply::new(self.alloc, self.id)
-    }
-
-    /// Its reply, of entries that have at most so many bytes.
-    #[inline(always)]
-    pub(crate) fn listing<Kind: EntryKind>(&self, size: u32) -> ReplyListing<Kind>
-        ensures { result ≡ record { id = self.now.id.0; door = Err Shut; size = size; held = [] } }
-    {
-        ReplyListing::new(self.alloc, self.id, size as usize)
-    }
-
     /// The reply of an error. It is called, since with it in each arm the table would be too large to be inlined.
     pub(crate) fn refusal(&self, error: Errno) -> Out
         ensures { result ≡ Out.Frame (reply self.now.id.0 (Error error)) }

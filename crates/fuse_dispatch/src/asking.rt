@@ -33,7 +33,7 @@ impl<FS: Filesystem> Handler for Asking<FS> {
     ghost DEFERS = { FS.DEFERS };
 
     #[inline(always)]
-    fn lookup<G: Giving + Drop>(&self, asked: &Asked, giving: G, operation: &Lookup<'_>) -> Out {
+    fn lookup<G: Giving>(&self, asked: &Asked, giving: G, operation: &Lookup<'_>) -> Out {
         let reply = giving.reply(asked);
         self.filesystem
             .lookup(&asked.request, asked.node, operation.name(), reply)
@@ -41,7 +41,8 @@ impl<FS: Filesystem> Handler for Asking<FS> {
     }
 
     #[inline(always)]
-    fn forget<G: Giving + Drop>(&self, asked: &Asked, _giving: G, operation: &Forget) -> Out {
+    fn forget<G: Giving>(&self, asked: &Asked, giving: G, operation: &Forget) -> Out {
+        giving.unused();
         let mark = self
             .filesystem
             .forget(&asked.request, asked.node, operation.nlookup());
@@ -49,7 +50,7 @@ impl<FS: Filesystem> Handler for Asking<FS> {
     }
 
     #[inline(always)]
-    fn getattr<G: Giving + Drop>(&self, asked: &Asked, giving: G, operation: &GetAttr) -> Out {
+    fn getattr<G: Giving>(&self, asked: &Asked, giving: G, operation: &GetAttr) -> Out {
         let reply = giving.reply(asked);
         self.filesystem
             .getattr(&asked.request, asked.node, operation.file_handle(), reply)
@@ -57,7 +58,7 @@ impl<FS: Filesystem> Handler for Asking<FS> {
     }
 
     #[inline(always)]
-    fn setattr<G: Giving + Drop>(&self, asked: &Asked, giving: G, operation: &SetAttr) -> Out {
+    fn setattr<G: Giving>(&self, asked: &Asked, giving: G, operation: &SetAttr) -> Out {
         let (mode, uid, gid, size) = (
             operation.mode(),
             operation.uid(),
@@ -94,7 +95,7 @@ impl<FS: Filesystem> Handler for Asking<FS> {
     }
 
     #[inline(always)]
-    fn readlink<G: Giving + Drop>(&self, asked: &Asked, giving: G, _readlink: &ReadLink) -> Out {
+    fn readlink<G: Giving>(&self, asked: &Asked, giving: G, _readlink: &ReadLink) -> Out {
         let reply = giving.reply(asked);
         self.filesystem
             .readlink(&asked.request, asked.node, reply)
@@ -102,7 +103,7 @@ impl<FS: Filesystem> Handler for Asking<FS> {
     }
 
     #[inline(always)]
-    fn symlink<G: Giving + Drop>(&self, asked: &Asked, giving: G, operation: &SymLink<'_>) -> Out {
+    fn symlink<G: Giving>(&self, asked: &Asked, giving: G, operation: &SymLink<'_>) -> Out {
         let (link_name, target) = (operation.link_name(), operation.target());
         let reply = giving.reply(asked);
         self.filesystem
@@ -111,7 +112,7 @@ impl<FS: Filesystem> Handler for Asking<FS> {
     }
 
     #[inline(always)]
-    fn mknod<G: Giving + Drop>(&self, asked: &Asked, giving: G, operation: &MkNod<'_>) -> Out {
+    fn mknod<G: Giving>(&self, asked: &Asked, giving: G, operation: &MkNod<'_>) -> Out {
         let (mode, umask, rdev) = (operation.mode(), operation.umask(), operation.rdev());
         let reply = giving.reply(asked);
         self.filesystem
@@ -128,7 +129,7 @@ impl<FS: Filesystem> Handler for Asking<FS> {
     }
 
     #[inline(always)]
-    fn mkdir<G: Giving + Drop>(&self, asked: &Asked, giving: G, operation: &MkDir<'_>) -> Out {
+    fn mkdir<G: Giving>(&self, asked: &Asked, giving: G, operation: &MkDir<'_>) -> Out {
         let (mode, umask) = (operation.mode(), operation.umask());
         let reply = giving.reply(asked);
         self.filesystem
@@ -144,7 +145,7 @@ impl<FS: Filesystem> Handler for Asking<FS> {
     }
 
     #[inline(always)]
-    fn unlink<G: Giving + Drop>(&self, asked: &Asked, giving: G, operation: &Unlink<'_>) -> Out {
+    fn unlink<G: Giving>(&self, asked: &Asked, giving: G, operation: &Unlink<'_>) -> Out {
         let reply = giving.reply(asked);
         self.filesystem
             .unlink(&asked.request, asked.node, operation.name(), reply)
@@ -152,7 +153,7 @@ impl<FS: Filesystem> Handler for Asking<FS> {
     }
 
     #[inline(always)]
-    fn rmdir<G: Giving + Drop>(&self, asked: &Asked, giving: G, operation: &RmDir<'_>) -> Out {
+    fn rmdir<G: Giving>(&self, asked: &Asked, giving: G, operation: &RmDir<'_>) -> Out {
         let reply = giving.reply(asked);
         self.filesystem
             .rmdir(&asked.request, asked.node, operation.name(), reply)
@@ -160,7 +161,7 @@ impl<FS: Filesystem> Handler for Asking<FS> {
     }
 
     #[inline(always)]
-    fn rename<G: Giving + Drop>(&self, asked: &Asked, giving: G, operation: &Rename<'_>) -> Out {
+    fn rename<G: Giving>(&self, asked: &Asked, giving: G, operation: &Rename<'_>) -> Out {
         let (src, dest) = (operation.src(), operation.dest());
         let no_flags = RenameFlags::empty();
         let reply = giving.reply(asked);
@@ -178,7 +179,7 @@ impl<FS: Filesystem> Handler for Asking<FS> {
     }
 
     #[inline(always)]
-    fn link<G: Giving + Drop>(&self, asked: &Asked, giving: G, operation: &Link<'_>) -> Out {
+    fn link<G: Giving>(&self, asked: &Asked, giving: G, operation: &Link<'_>) -> Out {
         let reply = giving.reply(asked);
         self.filesystem
             .link(
@@ -192,7 +193,7 @@ impl<FS: Filesystem> Handler for Asking<FS> {
     }
 
     #[inline(always)]
-    fn open<G: Giving + Drop>(&self, asked: &Asked, giving: G, operation: &Open) -> Out {
+    fn open<G: Giving>(&self, asked: &Asked, giving: G, operation: &Open) -> Out {
         let reply = giving.reply(asked);
         self.filesystem
             .open(&asked.request, asked.node, operation.flags(), reply)
@@ -200,10 +201,10 @@ impl<FS: Filesystem> Handler for Asking<FS> {
     }
 
     #[inline(always)]
-    fn read<G: Giving + Drop>(&self, asked: &Asked, giving: G, operation: &Read) -> Out {
+    fn read<G: Giving>(&self, asked: &Asked, giving: G, operation: &Read) -> Out {
         let offset = match operation.offset() {
             Ok(offset) => offset,
-            Err(error) => return asked.refusal(error),
+            Err(error) => return giving.refusal(asked, error),
         };
         let (fh, size, flags, owner) = (
             operation.file_handle(),
@@ -227,10 +228,10 @@ impl<FS: Filesystem> Handler for Asking<FS> {
     }
 
     #[inline(always)]
-    fn write<G: Giving + Drop>(&self, asked: &Asked, giving: G, operation: &Write<'_>) -> Out {
+    fn write<G: Giving>(&self, asked: &Asked, giving: G, operation: &Write<'_>) -> Out {
         let offset = match operation.offset() {
             Ok(offset) => offset,
-            Err(error) => return asked.refusal(error),
+            Err(error) => return giving.refusal(asked, error),
         };
         let (fh, written, write_flags) = (
             operation.file_handle(),
@@ -255,7 +256,7 @@ impl<FS: Filesystem> Handler for Asking<FS> {
     }
 
     #[inline(always)]
-    fn statfs<G: Giving + Drop>(&self, asked: &Asked, giving: G, _statfs: &StatFs) -> Out {
+    fn statfs<G: Giving>(&self, asked: &Asked, giving: G, _statfs: &StatFs) -> Out {
         let reply = giving.reply(asked);
         self.filesystem
             .statfs(&asked.request, asked.node, reply)
@@ -263,7 +264,7 @@ impl<FS: Filesystem> Handler for Asking<FS> {
     }
 
     #[inline(always)]
-    fn release<G: Giving + Drop>(&self, asked: &Asked, giving: G, operation: &Release) -> Out {
+    fn release<G: Giving>(&self, asked: &Asked, giving: G, operation: &Release) -> Out {
         let (fh, flags) = (operation.file_handle(), operation.flags());
         let (owner, flush) = (operation.lock_owner(), operation.flush());
         let reply = giving.reply(asked);
@@ -273,7 +274,7 @@ impl<FS: Filesystem> Handler for Asking<FS> {
     }
 
     #[inline(always)]
-    fn fsync<G: Giving + Drop>(&self, asked: &Asked, giving: G, operation: &FSync) -> Out {
+    fn fsync<G: Giving>(&self, asked: &Asked, giving: G, operation: &FSync) -> Out {
         let reply = giving.reply(asked);
         self.filesystem
             .fsync(
@@ -287,12 +288,7 @@ impl<FS: Filesystem> Handler for Asking<FS> {
     }
 
     #[inline(always)]
-    fn setxattr<G: Giving + Drop>(
-        &self,
-        asked: &Asked,
-        giving: G,
-        operation: &SetXAttr<'_>,
-    ) -> Out {
+    fn setxattr<G: Giving>(&self, asked: &Asked, giving: G, operation: &SetXAttr<'_>) -> Out {
         let (name, value) = (operation.name(), operation.value());
         let (flags, position) = (operation.flags(), operation.position());
         let reply = giving.reply(asked);
@@ -310,12 +306,7 @@ impl<FS: Filesystem> Handler for Asking<FS> {
     }
 
     #[inline(always)]
-    fn getxattr<G: Giving + Drop>(
-        &self,
-        asked: &Asked,
-        giving: G,
-        operation: &GetXAttr<'_>,
-    ) -> Out {
+    fn getxattr<G: Giving>(&self, asked: &Asked, giving: G, operation: &GetXAttr<'_>) -> Out {
         let reply = giving.reply(asked);
         self.filesystem
             .getxattr(
@@ -329,7 +320,7 @@ impl<FS: Filesystem> Handler for Asking<FS> {
     }
 
     #[inline(always)]
-    fn listxattr<G: Giving + Drop>(&self, asked: &Asked, giving: G, operation: &ListXAttr) -> Out {
+    fn listxattr<G: Giving>(&self, asked: &Asked, giving: G, operation: &ListXAttr) -> Out {
         let reply = giving.reply(asked);
         self.filesystem
             .listxattr(&asked.request, asked.node, operation.size(), reply)
@@ -337,12 +328,7 @@ impl<FS: Filesystem> Handler for Asking<FS> {
     }
 
     #[inline(always)]
-    fn removexattr<G: Giving + Drop>(
-        &self,
-        asked: &Asked,
-        giving: G,
-        operation: &RemoveXAttr<'_>,
-    ) -> Out {
+    fn removexattr<G: Giving>(&self, asked: &Asked, giving: G, operation: &RemoveXAttr<'_>) -> Out {
         let reply = giving.reply(asked);
         self.filesystem
             .removexattr(&asked.request, asked.node, operation.name(), reply)
@@ -350,7 +336,7 @@ impl<FS: Filesystem> Handler for Asking<FS> {
     }
 
     #[inline(always)]
-    fn flush<G: Giving + Drop>(&self, asked: &Asked, giving: G, operation: &Flush) -> Out {
+    fn flush<G: Giving>(&self, asked: &Asked, giving: G, operation: &Flush) -> Out {
         let reply = giving.reply(asked);
         self.filesystem
             .flush(
@@ -364,7 +350,7 @@ impl<FS: Filesystem> Handler for Asking<FS> {
     }
 
     #[inline(always)]
-    fn opendir<G: Giving + Drop>(&self, asked: &Asked, giving: G, operation: &OpenDir) -> Out {
+    fn opendir<G: Giving>(&self, asked: &Asked, giving: G, operation: &OpenDir) -> Out {
         let reply = giving.reply(asked);
         self.filesystem
             .opendir(&asked.request, asked.node, operation.flags(), reply)
@@ -372,7 +358,7 @@ impl<FS: Filesystem> Handler for Asking<FS> {
     }
 
     #[inline(always)]
-    fn readdir<G: Giving + Drop>(&self, asked: &Asked, giving: G, operation: &ReadDir) -> Out {
+    fn readdir<G: Giving>(&self, asked: &Asked, giving: G, operation: &ReadDir) -> Out {
         let (fh, offset) = (operation.file_handle(), operation.offset());
         let reply = giving.listing(asked, operation.size());
         self.filesystem
@@ -381,12 +367,7 @@ impl<FS: Filesystem> Handler for Asking<FS> {
     }
 
     #[inline(always)]
-    fn releasedir<G: Giving + Drop>(
-        &self,
-        asked: &Asked,
-        giving: G,
-        operation: &ReleaseDir,
-    ) -> Out {
+    fn releasedir<G: Giving>(&self, asked: &Asked, giving: G, operation: &ReleaseDir) -> Out {
         let (fh, flags) = (operation.file_handle(), operation.flags());
         let reply = giving.reply(asked);
         self.filesystem
@@ -395,7 +376,7 @@ impl<FS: Filesystem> Handler for Asking<FS> {
     }
 
     #[inline(always)]
-    fn fsyncdir<G: Giving + Drop>(&self, asked: &Asked, giving: G, operation: &FSyncDir) -> Out {
+    fn fsyncdir<G: Giving>(&self, asked: &Asked, giving: G, operation: &FSyncDir) -> Out {
         let (fh, datasync) = (operation.file_handle(), operation.fdatasync());
         let reply = giving.reply(asked);
         self.filesystem
@@ -404,7 +385,7 @@ impl<FS: Filesystem> Handler for Asking<FS> {
     }
 
     #[inline(always)]
-    fn getlk<G: Giving + Drop>(&self, asked: &Asked, giving: G, operation: &GetLk) -> Out {
+    fn getlk<G: Giving>(&self, asked: &Asked, giving: G, operation: &GetLk) -> Out {
         let (fh, owner, lock) = (
             operation.file_handle(),
             operation.lock_owner(),
@@ -428,7 +409,7 @@ impl<FS: Filesystem> Handler for Asking<FS> {
     }
 
     #[inline(always)]
-    fn setlk<G: Giving + Drop>(&self, asked: &Asked, giving: G, operation: &SetLk) -> Out {
+    fn setlk<G: Giving>(&self, asked: &Asked, giving: G, operation: &SetLk) -> Out {
         let (fh, owner, lock) = (
             operation.file_handle(),
             operation.lock_owner(),
@@ -453,7 +434,7 @@ impl<FS: Filesystem> Handler for Asking<FS> {
     }
 
     #[inline(always)]
-    fn access<G: Giving + Drop>(&self, asked: &Asked, giving: G, operation: &Access) -> Out {
+    fn access<G: Giving>(&self, asked: &Asked, giving: G, operation: &Access) -> Out {
         let reply = giving.reply(asked);
         self.filesystem
             .access(&asked.request, asked.node, operation.mask(), reply)
@@ -461,7 +442,7 @@ impl<FS: Filesystem> Handler for Asking<FS> {
     }
 
     #[inline(always)]
-    fn create<G: Giving + Drop>(&self, asked: &Asked, giving: G, operation: &Create<'_>) -> Out {
+    fn create<G: Giving>(&self, asked: &Asked, giving: G, operation: &Create<'_>) -> Out {
         let (mode, umask) = (operation.mode(), operation.umask());
         let reply = giving.reply(asked);
         self.filesystem
@@ -478,7 +459,7 @@ impl<FS: Filesystem> Handler for Asking<FS> {
     }
 
     #[inline(always)]
-    fn bmap<G: Giving + Drop>(&self, asked: &Asked, giving: G, operation: &BMap) -> Out {
+    fn bmap<G: Giving>(&self, asked: &Asked, giving: G, operation: &BMap) -> Out {
         let reply = giving.reply(asked);
         self.filesystem
             .bmap(
@@ -492,9 +473,9 @@ impl<FS: Filesystem> Handler for Asking<FS> {
     }
 
     #[inline(always)]
-    fn ioctl<G: Giving + Drop>(&self, asked: &Asked, giving: G, operation: &IoCtl<'_>) -> Out {
+    fn ioctl<G: Giving>(&self, asked: &Asked, giving: G, operation: &IoCtl<'_>) -> Out {
         if operation.unrestricted() {
-            return asked.refusal(Errno::ENOSYS);
+            return giving.refusal(asked, Errno::ENOSYS);
         }
         let (fh, flags, command) = (
             operation.file_handle(),
@@ -518,7 +499,7 @@ impl<FS: Filesystem> Handler for Asking<FS> {
     }
 
     #[inline(always)]
-    fn poll<G: Giving + Drop>(
+    fn poll<G: Giving>(
         &self,
         asked: &Asked,
         giving: G,
@@ -527,7 +508,7 @@ impl<FS: Filesystem> Handler for Asking<FS> {
     ) -> Out {
         let ph = match notifier.poll_notifier(operation.kernel_handle()) {
             Ok(ph) => ph,
-            Err(_) => return asked.refusal(Errno::ENOMEM),
+            Err(_) => return giving.refusal(asked, Errno::ENOMEM),
         };
         let (fh, events, flags) = (
             operation.file_handle(),
@@ -541,12 +522,13 @@ impl<FS: Filesystem> Handler for Asking<FS> {
     }
 
     #[inline(always)]
-    fn batch_forget<G: Giving + Drop>(
+    fn batch_forget<G: Giving>(
         &self,
         asked: &Asked,
-        _giving: G,
+        giving: G,
         operation: &BatchForget<'_>,
     ) -> Out {
+        giving.unused();
         let mark = self
             .filesystem
             .batch_forget(&asked.request, operation.nodes());
@@ -554,14 +536,14 @@ impl<FS: Filesystem> Handler for Asking<FS> {
     }
 
     #[inline(always)]
-    fn fallocate<G: Giving + Drop>(&self, asked: &Asked, giving: G, operation: &FAllocate) -> Out {
+    fn fallocate<G: Giving>(&self, asked: &Asked, giving: G, operation: &FAllocate) -> Out {
         let offset = match operation.offset() {
             Ok(offset) => offset,
-            Err(error) => return asked.refusal(error),
+            Err(error) => return giving.refusal(asked, error),
         };
         let length = match operation.len() {
             Ok(length) => length,
-            Err(error) => return asked.refusal(error),
+            Err(error) => return giving.refusal(asked, error),
         };
         let (fh, mode) = (operation.file_handle(), operation.mode());
         let reply = giving.reply(asked);
@@ -571,12 +553,7 @@ impl<FS: Filesystem> Handler for Asking<FS> {
     }
 
     #[inline(always)]
-    fn readdirplus<G: Giving + Drop>(
-        &self,
-        asked: &Asked,
-        giving: G,
-        operation: &ReadDirPlus,
-    ) -> Out {
+    fn readdirplus<G: Giving>(&self, asked: &Asked, giving: G, operation: &ReadDirPlus) -> Out {
         let (fh, offset) = (operation.file_handle(), operation.offset());
         let reply = giving.listing(asked, operation.size());
         self.filesystem
@@ -585,7 +562,7 @@ impl<FS: Filesystem> Handler for Asking<FS> {
     }
 
     #[inline(always)]
-    fn rename2<G: Giving + Drop>(&self, asked: &Asked, giving: G, operation: &Rename2<'_>) -> Out {
+    fn rename2<G: Giving>(&self, asked: &Asked, giving: G, operation: &Rename2<'_>) -> Out {
         let (from, to) = (operation.from(), operation.to());
         let reply = giving.reply(asked);
         self.filesystem
@@ -602,7 +579,7 @@ impl<FS: Filesystem> Handler for Asking<FS> {
     }
 
     #[inline(always)]
-    fn lseek<G: Giving + Drop>(&self, asked: &Asked, giving: G, operation: &Lseek) -> Out {
+    fn lseek<G: Giving>(&self, asked: &Asked, giving: G, operation: &Lseek) -> Out {
         let (offset, whence) = (operation.offset(), operation.whence());
         let reply = giving.reply(asked);
         self.filesystem
@@ -618,7 +595,7 @@ impl<FS: Filesystem> Handler for Asking<FS> {
     }
 
     #[inline(always)]
-    fn copy_file_range<G: Giving + Drop>(
+    fn copy_file_range<G: Giving>(
         &self,
         asked: &Asked,
         giving: G,
@@ -626,11 +603,11 @@ impl<FS: Filesystem> Handler for Asking<FS> {
     ) -> Out {
         let src = match operation.src() {
             Ok(src) => src,
-            Err(error) => return asked.refusal(error),
+            Err(error) => return giving.refusal(asked, error),
         };
         let dest = match operation.dest() {
             Ok(dest) => dest,
-            Err(error) => return asked.refusal(error),
+            Err(error) => return giving.refusal(asked, error),
         };
         let (len, flags) = (operation.len(), operation.flags());
         let reply = giving.reply(asked);

@@ -39,7 +39,7 @@ pub struct Shared<H> {
 impl<H: Handler> Service<H> {
     /// What an operation of a user who is served comes to.
     #[inline(always)]
-    fn serve<G: Giving + Drop>(
+    fn serve<G: Giving>(
         &self,
         asked: &Asked,
         giving: G,
@@ -73,7 +73,7 @@ impl<H: Handler> Service<H> {
             Operation::ListXAttr(operation) => self.handler.listxattr(asked, giving, operation),
             Operation::RemoveXAttr(operation) => self.handler.removexattr(asked, giving, operation),
             Operation::Flush(operation) => self.handler.flush(asked, giving, operation),
-            Operation::Init(_) => asked.refusal(Errno::EIO),
+            Operation::Init(_) => giving.refusal(asked, Errno::EIO),
             Operation::OpenDir(operation) => self.handler.opendir(asked, giving, operation),
             Operation::ReadDir(operation) => self.handler.readdir(asked, giving, operation),
             Operation::ReleaseDir(operation) => self.handler.releasedir(asked, giving, operation),
@@ -82,12 +82,15 @@ impl<H: Handler> Service<H> {
             Operation::SetLk(operation) => self.handler.setlk(asked, giving, operation),
             Operation::Access(operation) => self.handler.access(asked, giving, operation),
             Operation::Create(operation) => self.handler.create(asked, giving, operation),
-            Operation::Interrupt(_) => asked.refusal(Errno::ENOSYS),
+            Operation::Interrupt(_) => giving.refusal(asked, Errno::ENOSYS),
             Operation::BMap(operation) => self.handler.bmap(asked, giving, operation),
-            Operation::Destroy(_) => asked.destroyed(),
+            Operation::Destroy(_) => {
+                giving.unused();
+                asked.destroyed()
+            }
             Operation::IoCtl(operation) => self.handler.ioctl(asked, giving, operation),
             Operation::Poll(operation) => self.handler.poll(asked, giving, notifier, operation),
-            Operation::NotifyReply(_) => asked.refusal(Errno::ENOSYS),
+            Operation::NotifyReply(_) => giving.refusal(asked, Errno::ENOSYS),
             Operation::BatchForget(operation) => self
                 .handler
                 .batch_forget(asked, giving, operation),
@@ -98,13 +101,13 @@ impl<H: Handler> Service<H> {
             Operation::CopyFileRange(operation) => self
                 .handler
                 .copy_file_range(asked, giving, operation),
-            Operation::CuseInit(_) => asked.refusal(Errno::ENOSYS),
+            Operation::CuseInit(_) => giving.refusal(asked, Errno::ENOSYS),
         }
     }
 
     /// What a request comes to, whose reply may be given so.
     #[inline(always)]
-    fn answer_by<G: Giving + Drop>(
+    fn answer_by<G: Giving>(
         &self,
         alloc: Global,
         notifier: &mut Notifier,
@@ -120,7 +123,10 @@ impl<H: Handler> Service<H> {
         let id = request.unique();
         let operation = match self.rule.operation(&request) {
             Ok(operation) => operation,
-            Err(error) => return refusal(alloc, id, error),
+            Err(error) => {
+                giving.unused();
+                return refusal(alloc, id, error);
+            }
         };
         let asked = Asked {
             alloc,

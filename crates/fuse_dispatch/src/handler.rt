@@ -35,111 +35,106 @@ pub(crate) trait Handler {
     /// That constant, as a contract names it.
     ghost DEFERS: { Bool };
 
-    fn lookup<G: Giving + Drop>(&self, asked: &Asked, giving: G, operation: &Lookup<'_>) -> Out
+    fn lookup<G: Giving>(&self, asked: &Asked, giving: G, operation: &Lookup<'_>) -> Out
         ensures { IsOwed (owes self.now) (G.door giving) asked.now (Operation.Lookup operation.now) result };
 
-    fn forget<G: Giving + Drop>(&self, asked: &Asked, giving: G, operation: &Forget) -> Out
+    fn forget<G: Giving>(&self, asked: &Asked, giving: G, operation: &Forget) -> Out
         ensures { IsOwed (owes self.now) (G.door giving) asked.now (Operation.Forget operation.now) result };
 
-    fn getattr<G: Giving + Drop>(&self, asked: &Asked, giving: G, operation: &GetAttr) -> Out
+    fn getattr<G: Giving>(&self, asked: &Asked, giving: G, operation: &GetAttr) -> Out
         ensures { IsOwed (owes self.now) (G.door giving) asked.now (Operation.GetAttr operation.now) result };
 
-    fn setattr<G: Giving + Drop>(&self, asked: &Asked, giving: G, operation: &SetAttr) -> Out
+    fn setattr<G: Giving>(&self, asked: &Asked, giving: G, operation: &SetAttr) -> Out
         ensures { IsOwed (owes self.now) (G.door giving) asked.now (Operation.SetAttr operation.now) result };
 
-    fn readlink<G: Giving + Drop>(&self, asked: &Asked, giving: G, operation: &ReadLink) -> Out
+    fn readlink<G: Giving>(&self, asked: &Asked, giving: G, operation: &ReadLink) -> Out
         ensures { IsOwed (owes self.now) (G.door giving) asked.now (Operation.ReadLink operation.now) result };
 
-    fn symlink<G: Giving + Drop>(&self, asked: &Asked, giving: G, operation: &SymLink<'_>) -> Out
+    fn symlink<G: Giving>(&self, asked: &Asked, giving: G, operation: &SymLink<'_>) -> Out
         ensures { IsOwed (owes self.now) (G.door giving) asked.now (Operation.SymLink operation.now) result };
 
-    fn mknod<G: Giving + Drop>(&self, asked: &Asked, giving: G, operation: &MkNod<'_>) -> Out
+    fn mknod<G: Giving>(&self, asked: &Asked, giving: G, operation: &MkNod<'_>) -> Out
         ensures { IsOwed (owes self.now) (G.door giving) asked.now (Operation.MkNod operation.now) result };
 
-    fn mkdir<G: Giving + Drop>(&self, asked: &Asked, giving: G, operation: &MkDir<'_>) -> Out
+    fn mkdir<G: Giving>(&self, asked: &Asked, giving: G, operation: &MkDir<'_>) -> Out
         ensures { IsOwed (owes self.now) (G.door giving) asked.now (Operation.MkDir operation.now) result };
 
-    fn unlink<G: Giving + Drop>(&self, asked: &Asked, giving: G, operation: &Unlink<'_>) -> Out
+    fn unlink<G: Giving>(&self, asked: &Asked, giving: G, operation: &Unlink<'_>) -> Out
         ensures { IsOwed (owes self.now) (G.door giving) asked.now (Operation.Unlink operation.now) result };
 
-    fn rmdir<G: Giving + Drop>(&self, asked: &Asked, giving: G, operation: &RmDir<'_>) -> Out
+    fn rmdir<G: Giving>(&self, asked: &Asked, giving: G, operation: &RmDir<'_>) -> Out
         ensures { IsOwed (owes self.now) (G.door giving) asked.now (Operation.RmDir operation.now) result };
 
-    fn rename<G: Giving + Drop>(&self, asked: &Asked, giving: G, operation: &Rename<'_>) -> Out
+    fn rename<G: Giving>(&self, asked: &Asked, giving: G, operation: &Rename<'_>) -> Out
         ensures { IsOwed (owes self.now) (G.door giving) asked.now (Operation.Rename operation.now) result };
 
-    fn link<G: Giving + Drop>(&self, asked: &Asked, giving: G, operation: &Link<'_>) -> Out
+    fn link<G: Giving>(&self, asked: &Asked, giving: G, operation: &Link<'_>) -> Out
         ensures { IsOwed (owes self.now) (G.door giving) asked.now (Operation.Link operation.now) result };
 
-    fn open<G: Giving + Drop>(&self, asked: &Asked, giving: G, operation: &Open) -> Out
+    fn open<G: Giving>(&self, asked: &Asked, giving: G, operation: &Open) -> Out
         ensures { IsOwed (owes self.now) (G.door giving) asked.now (Operation.Open operation.now) result };
 
-    fn read<G: Giving + Drop>(&self, asked: &Asked, giving: G, operation: &Read) -> Out
+    fn read<G: Giving>(&self, asked: &Asked, giving: G, operation: &Read) -> Out
         ensures { IsOwed (owes self.now) (G.door giving) asked.now (Operation.Read operation.now) result };
 
-    fn write<G: Giving + Drop>(&self, asked: &Asked, giving: G, operation: &Write<'_>) -> Out
+    fn write<G: Giving>(&self, asked: &Asked, giving: G, operation: &Write<'_>) -> Out
         ensures { IsOwed (owes self.now) (G.door giving) asked.now (Operation.Write operation.now) result };
 
-    fn statfs<G: Giving + Drop>(&self, asked: &Asked, giving: G, operation: &StatFs) -> Out
+    fn statfs<G: Giving>(&self, asked: &Asked, giving: G, operation: &StatFs) -> Out
         ensures { IsOwed (owes self.now) (G.door giving) asked.now (Operation.StatFs operation.now) result };
 
-    fn release<G: Giving + Drop>(&self, asked: &Asked, giving: G, operation: &Release) -> Out
+    fn release<G: Giving>(&self, asked: &Asked, giving: G, operation: &Release) -> Out
         ensures { IsOwed (owes self.now) (G.door giving) asked.now (Operation.Release operation.now) result };
 
-    fn fsync<G: Giving + Drop>(&self, asked: &Asked, giving: G, operation: &FSync) -> Out
+    fn fsync<G: Giving>(&self, asked: &Asked, giving: G, operation: &FSync) -> Out
         ensures { IsOwed (owes self.now) (G.door giving) asked.now (Operation.FSync operation.now) result };
 
-    fn setxattr<G: Giving + Drop>(&self, asked: &Asked, giving: G, operation: &SetXAttr<'_>) -> Out
+    fn setxattr<G: Giving>(&self, asked: &Asked, giving: G, operation: &SetXAttr<'_>) -> Out
         ensures { IsOwed (owes self.now) (G.door giving) asked.now (Operation.SetXAttr operation.now) result };
 
-    fn getxattr<G: Giving + Drop>(&self, asked: &Asked, giving: G, operation: &GetXAttr<'_>) -> Out
+    fn getxattr<G: Giving>(&self, asked: &Asked, giving: G, operation: &GetXAttr<'_>) -> Out
         ensures { IsOwed (owes self.now) (G.door giving) asked.now (Operation.GetXAttr operation.now) result };
 
-    fn listxattr<G: Giving + Drop>(&self, asked: &Asked, giving: G, operation: &ListXAttr) -> Out
+    fn listxattr<G: Giving>(&self, asked: &Asked, giving: G, operation: &ListXAttr) -> Out
         ensures { IsOwed (owes self.now) (G.door giving) asked.now (Operation.ListXAttr operation.now) result };
 
-    fn removexattr<G: Giving + Drop>(
-        &self,
-        asked: &Asked,
-        giving: G,
-        operation: &RemoveXAttr<'_>,
-    ) -> Out
+    fn removexattr<G: Giving>(&self, asked: &Asked, giving: G, operation: &RemoveXAttr<'_>) -> Out
         ensures { IsOwed (owes self.now) (G.door giving) asked.now (Operation.RemoveXAttr operation.now) result };
 
-    fn flush<G: Giving + Drop>(&self, asked: &Asked, giving: G, operation: &Flush) -> Out
+    fn flush<G: Giving>(&self, asked: &Asked, giving: G, operation: &Flush) -> Out
         ensures { IsOwed (owes self.now) (G.door giving) asked.now (Operation.Flush operation.now) result };
 
-    fn opendir<G: Giving + Drop>(&self, asked: &Asked, giving: G, operation: &OpenDir) -> Out
+    fn opendir<G: Giving>(&self, asked: &Asked, giving: G, operation: &OpenDir) -> Out
         ensures { IsOwed (owes self.now) (G.door giving) asked.now (Operation.OpenDir operation.now) result };
 
-    fn readdir<G: Giving + Drop>(&self, asked: &Asked, giving: G, operation: &ReadDir) -> Out
+    fn readdir<G: Giving>(&self, asked: &Asked, giving: G, operation: &ReadDir) -> Out
         ensures { IsOwed (owes self.now) (G.door giving) asked.now (Operation.ReadDir operation.now) result };
 
-    fn releasedir<G: Giving + Drop>(&self, asked: &Asked, giving: G, operation: &ReleaseDir) -> Out
+    fn releasedir<G: Giving>(&self, asked: &Asked, giving: G, operation: &ReleaseDir) -> Out
         ensures { IsOwed (owes self.now) (G.door giving) asked.now (Operation.ReleaseDir operation.now) result };
 
-    fn fsyncdir<G: Giving + Drop>(&self, asked: &Asked, giving: G, operation: &FSyncDir) -> Out
+    fn fsyncdir<G: Giving>(&self, asked: &Asked, giving: G, operation: &FSyncDir) -> Out
         ensures { IsOwed (owes self.now) (G.door giving) asked.now (Operation.FSyncDir operation.now) result };
 
-    fn getlk<G: Giving + Drop>(&self, asked: &Asked, giving: G, operation: &GetLk) -> Out
+    fn getlk<G: Giving>(&self, asked: &Asked, giving: G, operation: &GetLk) -> Out
         ensures { IsOwed (owes self.now) (G.door giving) asked.now (Operation.GetLk operation.now) result };
 
-    fn setlk<G: Giving + Drop>(&self, asked: &Asked, giving: G, operation: &SetLk) -> Out
+    fn setlk<G: Giving>(&self, asked: &Asked, giving: G, operation: &SetLk) -> Out
         ensures { IsOwed (owes self.now) (G.door giving) asked.now (Operation.SetLk operation.now) result };
 
-    fn access<G: Giving + Drop>(&self, asked: &Asked, giving: G, operation: &Access) -> Out
+    fn access<G: Giving>(&self, asked: &Asked, giving: G, operation: &Access) -> Out
         ensures { IsOwed (owes self.now) (G.door giving) asked.now (Operation.Access operation.now) result };
 
-    fn create<G: Giving + Drop>(&self, asked: &Asked, giving: G, operation: &Create<'_>) -> Out
+    fn create<G: Giving>(&self, asked: &Asked, giving: G, operation: &Create<'_>) -> Out
         ensures { IsOwed (owes self.now) (G.door giving) asked.now (Operation.Create operation.now) result };
 
-    fn bmap<G: Giving + Drop>(&self, asked: &Asked, giving: G, operation: &BMap) -> Out
+    fn bmap<G: Giving>(&self, asked: &Asked, giving: G, operation: &BMap) -> Out
         ensures { IsOwed (owes self.now) (G.door giving) asked.now (Operation.BMap operation.now) result };
 
-    fn ioctl<G: Giving + Drop>(&self, asked: &Asked, giving: G, operation: &IoCtl<'_>) -> Out
+    fn ioctl<G: Giving>(&self, asked: &Asked, giving: G, operation: &IoCtl<'_>) -> Out
         ensures { IsOwed (owes self.now) (G.door giving) asked.now (Operation.IoCtl operation.now) result };
 
-    fn poll<G: Giving + Drop>(
+    fn poll<G: Giving>(
         &self,
         asked: &Asked,
         giving: G,
@@ -149,37 +144,22 @@ pub(crate) trait Handler {
         ensures owed { IsOwed (owes self.now) (G.door giving) asked.now (Operation.Poll operation.now) result }
         ensures line { notifier.new.line ≡ notifier.old.line };
 
-    fn batch_forget<G: Giving + Drop>(
-        &self,
-        asked: &Asked,
-        giving: G,
-        operation: &BatchForget<'_>,
-    ) -> Out
+    fn batch_forget<G: Giving>(&self, asked: &Asked, giving: G, operation: &BatchForget<'_>) -> Out
         ensures { IsOwed (owes self.now) (G.door giving) asked.now (Operation.BatchForget operation.now) result };
 
-    fn fallocate<G: Giving + Drop>(&self, asked: &Asked, giving: G, operation: &FAllocate) -> Out
+    fn fallocate<G: Giving>(&self, asked: &Asked, giving: G, operation: &FAllocate) -> Out
         ensures { IsOwed (owes self.now) (G.door giving) asked.now (Operation.FAllocate operation.now) result };
 
-    fn readdirplus<G: Giving + Drop>(
-        &self,
-        asked: &Asked,
-        giving: G,
-        operation: &ReadDirPlus,
-    ) -> Out
+    fn readdirplus<G: Giving>(&self, asked: &Asked, giving: G, operation: &ReadDirPlus) -> Out
         ensures { IsOwed (owes self.now) (G.door giving) asked.now (Operation.ReadDirPlus operation.now) result };
 
-    fn rename2<G: Giving + Drop>(&self, asked: &Asked, giving: G, operation: &Rename2<'_>) -> Out
+    fn rename2<G: Giving>(&self, asked: &Asked, giving: G, operation: &Rename2<'_>) -> Out
         ensures { IsOwed (owes self.now) (G.door giving) asked.now (Operation.Rename2 operation.now) result };
 
-    fn lseek<G: Giving + Drop>(&self, asked: &Asked, giving: G, operation: &Lseek) -> Out
+    fn lseek<G: Giving>(&self, asked: &Asked, giving: G, operation: &Lseek) -> Out
         ensures { IsOwed (owes self.now) (G.door giving) asked.now (Operation.Lseek operation.now) result };
 
-    fn copy_file_range<G: Giving + Drop>(
-        &self,
-        asked: &Asked,
-        giving: G,
-        operation: &CopyFileRange,
-    ) -> Out
+    fn copy_file_range<G: Giving>(&self, asked: &Asked, giving: G, operation: &CopyFileRange) -> Out
         ensures { IsOwed (owes self.now) (G.door giving) asked.now (Operation.CopyFileRange operation.now) result };
 
     /// An error that is fixed is owed its reply.
