@@ -9,11 +9,12 @@ use std::alloc::Global;
 /// How a session is set up.
 #[derive(Debug, PartialEq, Eq, Drop)]
 pub struct Config {
-    /// What the filesystem is mounted with, in order.
+    /// The options of the mount, in order. Nothing is mounted here: whether they conflict is looked at, and no more.
     pub mount_options: Items<MountOption>,
     /// Whose requests are served.
     pub acl: SessionACL,
-    /// How many threads serve them. None is one; none can be served by 0.
+    /// How many threads serve them: None is one, and of more than 64 only 64 do. With 0 of them nobody is served, and
+    /// the session ends after its handshake.
     pub n_threads: Option<usize>,
     /// Each thread is to have a device of its own. No device is opened here, so a session of more than one thread
     /// refuses it.

@@ -8,7 +8,7 @@ ghost use Rattle.fuse_config.specs.Setters.{set_max_stack_depth, set_max_write, 
 ghost use Rattle.fuse_config.specs.Configuration.{init_layout, init_payload, init_payload_length, version_payload};
 
 use bitflags::Flags;
-use fuse_wire::consts::{FUSE_KERNEL_MINOR_VERSION, FUSE_KERNEL_VERSION};
+use fuse_wire::consts::{FUSE_KERNEL_MINOR_VERSION, FUSE_KERNEL_VERSION, MAX_WRITE_SIZE};
 use fuse_wire::{Duration, InitFlags, Version};
 use std::marker::Model;
 use std::mem;
@@ -20,9 +20,9 @@ const KNOWN_WITHOUT_EXT: u64 = 0x7ff_bfff_ffff;
 const DEFAULT_MAX_BACKGROUND: u16 = 16;
 
 /// The most bytes that a WRITE may carry, and what it may carry if nothing else is set.
-const LARGEST_WRITE: u32 = 16777216;
+const LARGEST_WRITE: u32 = MAX_WRITE_SIZE as u32;
 
-/// How many filesystems may be stacked, by the kernel's `fs.h`.
+/// How deep filesystems may be stacked, by the kernel's `fs.h`.
 const FILESYSTEM_MAX_STACK_DEPTH: u32 = 2;
 
 /// A second, in nanoseconds.
@@ -110,8 +110,11 @@ impl KernelConfig {
         self.kernel_abi
     }
 
-    /// Sets how many filesystems may be stacked on this one: at most 2, as the kernel's `fs.h` has it. It counts where
-    /// `FUSE_PASSTHROUGH` is granted. The answer is the value before; more than 2 is refused with 2.
+    /// Sets how deep this filesystem counts in a stack of filesystems: `max_stack_depth` of `struct fuse_init_out`, at
+    /// most 2 as the kernel's `fs.h` has it. It is sent where `FUSE_PASSTHROUGH` is granted, and else 0. Files that
+    /// reads and writes are passed through to lie on filesystems that count less: with 0 there are none, with 1 they
+    /// lie on one that is not stacked itself, and with 2 nothing may be stacked on this one. The answer is the value
+    /// before; more than 2 is refused with 2.
     pub fn set_max_stack_depth(&mut self, depth: u32) -> Result<u32, u32>
         ensures { (self.new, result) ≡ set_max_stack_depth depth self.old }
     {
@@ -141,8 +144,10 @@ impl KernelConfig {
         Ok(mem::replace(&mut self.time_granularity, granularity))
     }
 
-    /// Sets how many bytes a WRITE may carry: 1 to 16777216. The answer is the value before; 0 is refused with 1, and
-    /// more with 16777216.
+    /// Sets how many bytes a WRITE may carry: 1 to 16777216, and 16777216 where it is not set. The kernel takes less
+    /// than 4096 as 4096, and sends no more pages at once than it allows itself: 256 if nothing else is set there, and
+    /// 32 where `FUSE_MAX_PAGES` is not granted. The answer is the value before; 0 is refused with 1, and more with
+    /// 16777216.
     pub fn set_max_write(&mut self, bytes: u32) -> Result<u32, u32>
         ensures { (self.new, result) ≡ set_max_write bytes self.old }
     {
@@ -171,6 +176,11 @@ impl KernelConfig {
 
     /// Requests capabilities that the kernel offers, beside those requested before. Where some are not offered nothing
     /// is requested, and the error has those of them that this library knows, which may be none.
+    ///
+    /// Some change messages in ways that are not decoded here. With `FUSE_SETXATTR_EXT` each SETXATTR is longer, and
+    /// gets ENOSYS; with `FUSE_HANDLE_KILLPRIV_V2` a write alone says that the bits of set-user-id are to be cleared,
+    /// and not SETATTR, OPEN or CREATE. `FUSE_ALLOW_IDMAP`, `FUSE_OVER_IO_URING` and `FUSE_REQUEST_TIMEOUT` are of
+    /// versions after 7.40.
     pub fn add_capabilities(&mut self, capabilities: InitFlags) -> Result<(), InitFlags>
         ensures { (self.new, result) ≡ add_capabilities capabilities self.old }
     {

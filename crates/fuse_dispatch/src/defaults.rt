@@ -17,7 +17,8 @@ use fuse_reply::{
 use fuse_request::ForgetList;
 use fuse_wire::{Errno, FileHandle, FopenFlags, INodeNo};
 
-/// Accepts each kernel, with what it offers as it is.
+/// Accepts each kernel, and leaves the configuration as it is: of what is offered `FUSE_ASYNC_READ`, `FUSE_BIG_WRITES`
+/// and `FUSE_MAX_PAGES` are granted.
 pub fn init() -> Result<(), Errno>
     ensures { result ≡ Ok tt }
 {

@@ -35,34 +35,36 @@ pub trait Filesystem: Send + Sync {
     /// That constant, as a contract names it.
     ghost DEFERS: { Bool };
 
-    /// The kernel opens the connection: INIT, of a version from 7.6 to 7.x. `config` has what it offers and the values
+    /// The kernel opens the connection: INIT, of version 7.6 or a later 7.x. `config` has what it offers and the values
     /// that the reply gets, which may be set here. Ok accepts the kernel. An error refuses it: the error is the reply,
     /// and the session ends with `SessionError::Init`.
     fn init(&mut self, request: &Request, config: &mut KernelConfig) -> Result<(), Errno>
         ensures { promise.may_init self.old request.now config.old result self.new config.new };
 
-    /// LOOKUP: which inode the name means in the directory `parent`. The kernel asks before it does anything else with a
-    /// name for which it has no answer that still holds. The answer is the inode with its attributes, and how long the
-    /// kernel may rely on both. The error for a name that is not there is ENOENT, which the kernel does not keep; an
-    /// entry whose inode is 0 says the same, and is kept as long as the entry says. Each other entry counts as one
-    /// lookup of its inode, until `forget` gives it back. `defaults::lookup` answers ENOSYS, which the caller gets.
+    /// LOOKUP: which inode the name means in the directory `parent`. The kernel asks before it does anything else with
+    /// a name for which it has no answer that still holds. The answer is the inode with its attributes, and how long
+    /// the kernel may rely on both. The error for a name that is not there is ENOENT, which the kernel does not keep;
+    /// an entry whose inode is 0 says the same, and is kept as long as the entry says. Each other entry counts as one
+    /// lookup of its inode, until `forget` gives it back. For an entry that is the root (inode 1), or whose attributes
+    /// have a size above `i64::MAX`, the caller gets EIO. The names `.` and `..` come only where `FUSE_EXPORT_SUPPORT`
+    /// was granted. `defaults::lookup` answers ENOSYS, which the caller gets.
     fn lookup(&self, request: &Request, parent: INodeNo, name: &[u8], reply: ReplyEntry) -> Replied
         ensures { Answers promise.may_answer self.now request.now
             (Call.Lookup parent.0 name.now) reply.id reply.door result };
 
     /// FORGET: the kernel gives back `nlookup` lookups of this inode. Each inode that `lookup`, `symlink`, `mknod`,
-    /// `mkdir`, `link` or `create` answered counted as one, and so did each entry that `readdirplus` listed, but for `.`
-    /// and `..`. Once all are given back the kernel does not name the inode again before another lookup; at the end of a
-    /// session some may never be given back. There is no reply: the result is the mark that the sink notes beside the
-    /// request's id. `defaults::forget` gives 0.
+    /// `mkdir`, `link` or `create` answered counted as one, and so did each entry that `readdirplus` listed, but for
+    /// `.`, `..` and those of inode 0. Once all are given back the kernel does not name the inode again before another
+    /// lookup; at the end of a session some may never be given back. There is no reply: the result is the mark that the
+    /// sink notes beside the request's id. `defaults::forget` gives 0.
     fn forget(&self, request: &Request, ino: INodeNo, nlookup: u64) -> u64
         ensures { promise.may_note self.now request.now (Call.Forget ino.0 nlookup) result };
 
-    /// GETATTR: what the attributes of this inode are, as for `stat(2)`, where the kernel has none that still hold. `fh`
-    /// is the open file by which the kernel asks, if it asks by one; it may be None for a file that is open. The answer
-    /// is the attributes, and how long the kernel may rely on them. Where the kind is not the one that the kernel knows
-    /// of the inode, or the size is above `i64::MAX`, the caller gets EIO. `defaults::getattr` answers ENOSYS, which the
-    /// caller gets.
+    /// GETATTR: what the attributes of this inode are, as for `stat(2)`, where the kernel has none that still hold.
+    /// `fh` is the open file by which the kernel asks, if it asks by one; it may be None for a file that is open. The
+    /// answer is the attributes, and how long the kernel may rely on them. Where the kind is not the one that the
+    /// kernel knows of the inode, or the size is above `i64::MAX`, the caller gets EIO, and so does every later use of
+    /// the inode until the kernel has forgotten it. `defaults::getattr` answers ENOSYS, which the caller gets.
     fn getattr(
         &self,
         request: &Request,
@@ -208,9 +210,10 @@ pub trait Filesystem: Send + Sync {
     /// OPEN: opens a regular file. `flags` are those of `open(2)` without `O_CREAT`, `O_EXCL` and `O_NOCTTY`, and
     /// without `O_TRUNC` unless `FUSE_ATOMIC_O_TRUNC` was granted. Unless it is mounted with `default_permissions` the
     /// filesystem itself says whether the caller may open it so. The answer is a number, which is `fh` of each call on
-    /// this open file, and how the kernel treats it: without `FOPEN_KEEP_CACHE` it drops what it has cached of the file.
-    /// ENOSYS is remembered by a kernel that offers `FUSE_NO_OPEN_SUPPORT`: this open and all later ones succeed with 0
-    /// for `fh`, and no OPEN or RELEASE is sent again. `defaults::open` answers 0 and no flags.
+    /// this open file, and how the kernel treats it: without `FOPEN_KEEP_CACHE` it drops what it has cached of the
+    /// file. ENOSYS is remembered by a kernel that offers `FUSE_NO_OPEN_SUPPORT`: this open and all later ones succeed
+    /// with 0 for `fh` and with `FOPEN_KEEP_CACHE`, and no OPEN is sent again, nor a RELEASE for these.
+    /// `defaults::open` answers 0 and no flags.
     fn open(&self, request: &Request, ino: INodeNo, flags: OpenFlags, reply: ReplyOpen) -> Replied
         ensures { Answers promise.may_answer self.now request.now
             (Call.Open ino.0 flags.0) reply.id reply.door result };
@@ -260,14 +263,14 @@ pub trait Filesystem: Send + Sync {
 
     /// STATFS: how full the filesystem is, as for `statfs(2)`. `ino` is the inode that the caller asks by, which may be
     /// any of the filesystem. The kernel asks each time. `defaults::statfs` answers no blocks and no inodes at all,
-    /// blocks of 512 bytes, names of at most 255 bytes, and 0 for the size of a block that is counted.
+    /// blocks of 512 bytes, names of at most 255 bytes, and 0 for `frsize`, the unit that blocks are counted in.
     fn statfs(&self, request: &Request, ino: INodeNo, reply: ReplyStatfs) -> Replied
         ensures { Answers promise.may_answer self.now request.now (Call.StatFs ino.0) reply.id reply.door result };
 
-    /// RELEASE: an open file is no longer used, by a descriptor or a mapping. It comes once for each `open` that
-    /// opened it, and `fh` is free then. `flags` are those that the file was open with. `lock_owner` is Some where
-    /// `flock(2)` took locks by this open file that the filesystem keeps: they are given up. Where `flush` is true it is
-    /// a flush too. No caller gets an error of it. `defaults::release` answers that it is done.
+    /// RELEASE: an open file is no longer used, by a descriptor or a mapping. It comes once for each `open` or `create`
+    /// that opened it, and `fh` is free then. `flags` are those that the file was open with. `lock_owner` is Some where
+    /// `flock(2)` took locks by this open file that the filesystem keeps: they are given up. Where `flush` is true it
+    /// is a flush too. No caller gets an error of it. `defaults::release` answers that it is done.
     fn release(
         &self,
         request: &Request,
@@ -351,11 +354,12 @@ pub trait Filesystem: Send + Sync {
         ensures { Answers promise.may_answer self.now request.now
             (Call.RemoveXAttr ino.0 name.now) reply.id reply.door result };
 
-    /// FLUSH: a descriptor of an open file is closed. It comes at each `close(2)`, so that one open may have many, or
-    /// none. Its error is that of the `close(2)`: here failed writes can be told. Nothing need be brought to the disk.
-    /// Where the filesystem keeps the locks of `fcntl(2)`, all that `lock_owner` has on this file are given up. ENOSYS
+    /// FLUSH: a descriptor of an open file is closed. It comes at each `close(2)`, unless the file was opened with
+    /// `FOPEN_NOFLUSH` and no writes are cached; so one open may have many, or none. Its error is that of the
+    /// `close(2)`: here failed writes can be told. Nothing need be brought to the disk. Where `FUSE_POSIX_LOCKS` was
+    /// granted, all locks that `lock_owner` has on this file are given up here, since no SETLK comes for them. ENOSYS
     /// is remembered: this close and all later ones succeed, and no FLUSH is sent again. `defaults::flush` answers
-    /// ENOSYS.
+    /// ENOSYS, so it is not for a filesystem that keeps such locks.
     fn flush(
         &self,
         request: &Request,
@@ -385,8 +389,9 @@ pub trait Filesystem: Send + Sync {
     /// READDIR: the entries of an open directory, as many as fit into `reply`, which has the size that the kernel asks
     /// for. The first time `offset` is 0. Later it is the one that an entry was added with, and the listing goes on
     /// after that entry. What an offset means is for the filesystem to choose, and any u64 may come. No entry is the
-    /// end. `.` and `..` are entries like others: the kernel adds neither. For a name that is empty or has a `/` the
-    /// caller gets EIO. The entries do not count as lookups. `defaults::readdir` answers ENOSYS, which the caller gets.
+    /// end. `.` and `..` are entries like others: the kernel adds neither. For a name that is empty, has a `/` or is
+    /// longer than 1024 bytes the caller gets EIO. The entries do not count as lookups. `defaults::readdir` answers
+    /// ENOSYS, which the caller gets.
     fn readdir(
         &self,
         request: &Request,
@@ -567,11 +572,11 @@ pub trait Filesystem: Send + Sync {
         ensures { promise.may_note self.now request.now (Call.BatchForget (rows_of nodes.entry)) result };
 
     /// FALLOCATE: makes room in an open file for `length` bytes from `offset` on, for `fallocate(2)`. Both are in bytes
-    /// and at most `i64::MAX`; the session does not check their sum. `mode` 0 makes a file that ends before them longer,
-    /// and with `FALLOC_FL_KEEP_SIZE` (1) the size stays. With `FALLOC_FL_PUNCH_HOLE` (2) room is given up, with
-    /// `FALLOC_FL_ZERO_RANGE` (16) it is kept, and the bytes become zero. The error for a mode that the filesystem does
-    /// not have is EOPNOTSUPP. ENOSYS is remembered: this caller and all later ones get EOPNOTSUPP, and no FALLOCATE is
-    /// sent again. `defaults::fallocate` answers ENOSYS.
+    /// and at most `i64::MAX`; the session does not check their sum. `mode` 0 makes a file that ends before the last of
+    /// them longer, and with `FALLOC_FL_KEEP_SIZE` (1) the size stays. With `FALLOC_FL_PUNCH_HOLE` (2, which comes with
+    /// 1) room is given up, with `FALLOC_FL_ZERO_RANGE` (16) it is kept, and the bytes become zero. The error for a
+    /// mode that the filesystem does not have is EOPNOTSUPP. ENOSYS is remembered: this caller and all later ones get
+    /// EOPNOTSUPP, and no FALLOCATE is sent again. `defaults::fallocate` answers ENOSYS.
     fn fallocate(
         &self,
         request: &Request,
@@ -585,11 +590,11 @@ pub trait Filesystem: Send + Sync {
         ensures { Answers promise.may_answer self.now request.now
             (Call.FAllocate ino.0 fh.0 offset length mode) reply.id reply.door result };
 
-    /// READDIRPLUS: as `readdir`, and each entry has what `lookup` answers for its name, which the kernel may rely on as
-    /// long. Each counts as one lookup of its inode, but `.` and `..` do not. It is sent only where
-    /// `FUSE_DO_READDIRPLUS` was granted; with `FUSE_READDIRPLUS_AUTO` besides, the kernel chooses between this and
-    /// READDIR. ENOSYS is not remembered, and READDIR is not sent for it. `defaults::readdirplus` answers ENOSYS, which
-    /// the caller gets.
+    /// READDIRPLUS: as `readdir`, and each entry has what `lookup` answers for its name, which the kernel may rely on
+    /// as long. Each counts as one lookup of its inode, but `.` and `..` do not. An entry whose inode is 0 is listed
+    /// too: it has no attributes that count, and is no lookup. It is sent only where `FUSE_DO_READDIRPLUS` was granted;
+    /// with `FUSE_READDIRPLUS_AUTO` besides, the kernel chooses between this and READDIR. ENOSYS is not remembered, and
+    /// READDIR is not sent for it. `defaults::readdirplus` answers ENOSYS, which the caller gets.
     fn readdirplus(
         &self,
         request: &Request,
@@ -621,10 +626,11 @@ pub trait Filesystem: Send + Sync {
 
     /// COPY_FILE_RANGE: copies `len` bytes between two open files of this filesystem, or within one, for
     /// `copy_file_range(2)`: from `offset_in` of the first on, to `offset_out` of the second. Offsets are in bytes, and
-    /// at most `i64::MAX`. No flag has a meaning yet. The answer is how many bytes were copied, at most `len`, and as a
-    /// u32 it may be fewer; 0 is the end of the first file. ENOSYS is remembered: the kernel copies by reads and writes
-    /// itself, this time and later, and no COPY_FILE_RANGE is sent again. For EOPNOTSUPP and EXDEV it does so this time.
-    /// `defaults::copy_file_range` answers ENOSYS.
+    /// at most `i64::MAX`. No flag has a meaning yet. The answer is how many bytes were copied, at most `len`. It is a
+    /// u32, so that a longer copy is answered in part, and the caller goes on from there; 0 is the end of the first
+    /// file. ENOSYS is remembered: the kernel copies by reads and writes itself, this time and later, and no
+    /// COPY_FILE_RANGE is sent again. For EOPNOTSUPP and EXDEV it does so this time. `defaults::copy_file_range`
+    /// answers ENOSYS.
     fn copy_file_range(
         &self,
         request: &Request,
@@ -642,8 +648,9 @@ pub trait Filesystem: Send + Sync {
             (Call.CopyFileRange ino_in.0 fh_in.0 offset_in ino_out.0 fh_out.0 offset_out len flags.0)
             reply.id reply.door result };
 
-    /// The session is over. It is called once and last on each end of a session, but for the want of memory at its
-    /// start, where nothing is called.
+    /// The session is over. It is called once and last on each end of a session, also where no INIT came or `init`
+    /// refused it. Where options are refused, or memory is wanting at the start, no session began, and nothing is
+    /// called.
     fn destroy(&mut self)
         ensures { promise.may_destroy self.old self.new };
 

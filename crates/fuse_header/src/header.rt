@@ -17,9 +17,9 @@ pub struct Header {
     pub nodeid: INodeNo,
     /// The user on whose behalf it is made.
     pub uid: u32,
-    /// That user's group.
+    /// The group of the caller, as for access to files (`fsgid`).
     pub gid: u32,
-    /// The process that makes it.
+    /// The number of the calling thread, as the mount's namespace has it, or 0 where it has none there.
     pub pid: u32,
 }
 

@@ -1,4 +1,5 @@
-//! The numbers of the operations, as a header has them: `enum fuse_opcode` of `fuse.h`.
+//! The numbers of the operations that are decoded, as a header has them: `enum fuse_opcode` of `fuse.h`. Of the
+//! protocol's later ones SETUPMAPPING, REMOVEMAPPING, SYNCFS, TMPFILE and STATX (48 to 52) are not.
 
 /// LOOKUP.
 pub const FUSE_LOOKUP: u32 = 1;

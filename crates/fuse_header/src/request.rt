@@ -3,7 +3,8 @@ ghost use Rattle.std.specs.Prelude.{◌≡◌};
 
 use fuse_wire::RequestId;
 
-/// Who asks: what a filesystem is told of every request.
+/// Who asks: what a filesystem is told of every request. User, group and thread are 0 where the kernel asks on its own
+/// account, as in INIT, FORGET, RELEASE, or a WRITE that comes from its cache.
 #[derive(Clone, Copy, Debug, PartialEq, Eq)]
 pub struct Request {
     pub(crate) unique: RequestId,
@@ -29,14 +30,14 @@ impl Request {
         self.uid
     }
 
-    /// That user's group.
+    /// The group of the caller, as for access to files (`fsgid`).
     pub fn gid(&self) -> u32
         ensures { result ≡ gid_of self.now }
     {
         self.gid
     }
 
-    /// The process that makes it.
+    /// The number of the calling thread, as the mount's namespace has it, or 0 where it has none there.
     pub fn pid(&self) -> u32
         ensures { result ≡ pid_of self.now }
     {

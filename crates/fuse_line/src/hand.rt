@@ -16,6 +16,7 @@ pub enum Kind {
 
 /// What a pass knows. No value of it is made.
 pub struct Hand<T> {
+    /// Which kind of pass it is.
     pub kind: Kind,
     /// How many inner passes were split off it and not joined back.
     pub others: u64,

@@ -21,6 +21,7 @@ use std::sync::atomic::{AtomicBool, Ordering};
 /// The line was full, and this is the item that was to be pushed.
 #[derive(Debug, Drop, PartialEq, Eq)]
 pub struct Full<T> {
+    /// That item.
     pub item: T,
 }
 

@@ -15,8 +15,8 @@ pub enum Undelivered {
     Failed,
 }
 
-/// Sends a notice at once. Where the kernel has nothing of what the notice speaks of, there is nothing to be done, and
-/// that is no error: only of a poll it is told.
+/// Sends a notice at once. Where the kernel keeps nothing of what the notice speaks of (its ENOENT), that is well,
+/// since nothing is to be dropped; only for a poll it is an error, `Absent`. `Failed` where the device failed.
 pub fn deliver<K: Sink>(notice: &Notice, sink: &mut K) -> Result<(), Undelivered>
     ensures { Delivers result notice.now (K.told sink.old) (K.told sink.new) }
 {

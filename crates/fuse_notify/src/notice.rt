@@ -97,7 +97,8 @@ impl Notice {
         })
     }
 
-    /// The kernel is to keep these bytes of an inode, from an offset on.
+    /// The kernel is to keep these bytes of an inode, from an offset on, which is in bytes. Where they end behind the
+    /// file's end, the kernel takes the file to be that long.
     pub fn store(
         alloc: Global,
         ino: INodeNo,

@@ -25,7 +25,8 @@ pub enum NotifyError {
 }
 
 /// Tells the kernel what it has not asked for, as a filesystem does whose files change by other ways than its requests.
-/// Each call queues one notice for whoever sends, and waits for nobody. Contracts see its door to the line.
+/// Each call queues one notice for whoever sends, and waits for nobody. The kernel may hold the write of a notice until
+/// requests about the same file or directory are answered: see `Sink::send`. Contracts see its door to the line.
 #[derive(Drop)]
 pub struct Notifier {
     line: Arc<Line<Parcel>, Global>,
@@ -115,7 +116,8 @@ impl Notifier {
         self.queue(rt, made)
     }
 
-    /// The kernel is to keep these bytes of an inode, from an offset on.
+    /// The kernel is to keep these bytes of an inode, from an offset on, which is in bytes. Where they end behind the
+    /// file's end, the kernel takes the file to be that long.
     pub fn store<R: Wait + AllocGlobal>(
         &mut self,
         rt: &R,

@@ -88,7 +88,8 @@ impl Lseek {
         FileHandle(self.arguments.fh)
     }
 
-    /// How far from the place that `whence` says.
+    /// The place from which `whence` counts, in bytes. What the kernel sends, `SEEK_DATA` (3) and `SEEK_HOLE` (4),
+    /// counts from the beginning of the file.
     pub fn offset(&self) -> i64
         ensures { result ≡ self.now.offset }
     {

@@ -53,7 +53,7 @@ impl Init {
 #[derive(Clone, Copy)]
 pub struct Destroy;
 
-/// INTERRUPT: a request need not be answered any more.
+/// INTERRUPT: the caller of a request would have it cut short. That request is still owed its one reply.
 #[derive(Drop)]
 pub struct Interrupt {
     /// The number of that request.
@@ -152,7 +152,7 @@ pub enum Operation<'a> {
     Access(Access),
     /// A file is made and opened.
     Create(Create<'a>),
-    /// A request need not be answered any more.
+    /// The caller of a request would have it cut short.
     Interrupt(Interrupt),
     /// Which block of the device a block of a file is.
     BMap(BMap),

@@ -94,7 +94,7 @@ impl<Kind> Reply<Kind> {
         Replied::failed(alloc, id, error)
     }
 
-    /// Nothing answered it: an error of input or output.
+    /// EIO: the filesystem has no answer.
     pub fn unanswered(self) -> Replied
         ensures { result ≡ Out.Frame (reply self.id (Error EIO)) }
     {

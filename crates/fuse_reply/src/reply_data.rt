@@ -20,7 +20,8 @@ pub type ReplyData = Reply<Bytes>;
 
 impl Reply<Bytes> {
     #[tactic(auto, using(crate::proofs::AreReplies::data_is_reply))]
-    /// These are the bytes. Where they are more than 144 and no memory is to be had for them, it failed for that.
+    /// These are the bytes, at most `u32::MAX - 16` of them. More than 144 take memory; where none is to be had, the
+    /// reply is ENOMEM.
     pub fn data(self, bytes: &[u8]) -> Replied
         requires { length bytes.now ≤ max_payload }
         ensures replies { RepliesWith self.id (Data bytes.now) result }

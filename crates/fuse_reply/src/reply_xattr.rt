@@ -27,8 +27,8 @@ impl Reply<Xattrs> {
         Replied::by(Packed::short(alloc, id, &word_bytes(size)))
     }
 
-    /// These are the bytes: the attribute, or the names, a zero byte after each. Where they are more than 144 and no
-    /// memory is to be had for them, it failed for that.
+    /// These are the bytes: the attribute, or the names, a zero byte after each; at most `u32::MAX - 16` of them. More
+    /// than 144 take memory; where none is to be had, the reply is ENOMEM.
     pub fn data(self, bytes: &[u8]) -> Replied
         requires { length bytes.now ≤ max_payload }
         ensures replies { RepliesWith self.id (Data bytes.now) result }

@@ -68,14 +68,14 @@ impl<'a> AnyRequest<'a> {
         self.header.uid
     }
 
-    /// That user's group.
+    /// The group of the caller, as for access to files (`fsgid`).
     pub fn gid(&self) -> u32
         ensures { result ≡ (header_of self.now).gid }
     {
         self.header.gid
     }
 
-    /// The process that makes it.
+    /// The number of the calling thread, as the mount's namespace has it, or 0 where it has none there.
     pub fn pid(&self) -> u32
         ensures { result ≡ (header_of self.now).pid }
     {

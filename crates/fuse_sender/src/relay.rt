@@ -10,7 +10,9 @@ use fuse_wire::Sink;
 /// The end that frames go out by, with the book of replies that come later.
 #[derive(Drop)]
 pub struct Relay<K: Sink> {
+    /// Where frames and notes go.
     pub outlet: Outlet<K>,
+    /// The marks of replies that come later, and the late frames without one yet.
     pub book: Book<LateFrame>,
 }
 

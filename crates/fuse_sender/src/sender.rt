@@ -17,7 +17,9 @@ use std::sync::atomic::AtomicBool;
 /// The end that frames go out by, with its book, lent to the sender, and its pass.
 #[derive(Drop)]
 pub struct LentRelay<'a, K: Sink> {
+    /// The end that is lent.
     pub relay: &'a mut Relay<K>,
+    /// The sender's pass of the line of frames.
     pub pass: Pass<Parcel>,
 }
 

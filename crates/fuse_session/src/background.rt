@@ -80,8 +80,7 @@ impl<FS: Filesystem, S: Source, K: Sink + Send> BackgroundSession<FS, S, K> {
         running.join(rt)
     }
 
-    /// What queues notices, which the session sends after the reply that follows. One that is queued after its end is not
-    /// sent.
+    /// What queues notices, as `Session::notifier` does. One that is queued after the session's end is not sent.
     pub fn notifier(&mut self) -> Result<Notifier, NoMemory>
         ensures same { self.new ≡ self.old }
         ensures fresh { IfOk result (λ n. n ≡ fresh_door self.old.line) }

@@ -241,10 +241,13 @@ impl<FS: Filesystem, S: Source, K: Sink + Send> Session<FS, S, K> {
         }
     }
 
-    /// Serves the session, until the source ends or the kernel sends DESTROY. On one thread each message is answered before
-    /// the next is taken. On more of them this one receives, as many answer as were asked for, but at most 64 and no more
-    /// than can be started, and one more sends; replies go out in any order. A frame or a note that the sink refuses is
-    /// counted as lost, and not sent again. `destroy` is called once.
+    /// Serves the session until the source ends or the kernel sends DESTROY, whose outcome is Ok. Else the outcome is
+    /// `InvalidData`, of a header that is not good, `Receive`, where the source failed, or `Threads`, where no thread
+    /// was to serve. On one thread each message is answered before the next is taken. On more of them this one
+    /// receives, as many workers answer as were asked for, but at most 64 and no more than can be started, and one more
+    /// sends; replies go out in any order. This thread answers too what it can't hand on to a worker, and sends where
+    /// no sender could be started. A frame or a note that the sink refuses is counted as lost, and not sent again.
+    /// `destroy` is called once.
     pub fn run<R: Threads + Wait + AllocGlobal + Sync>(self, rt: &R) -> Ended<FS, S, K>
 
         // What was taken, sent, lost and counted after the handshake, why it ended so, and that `destroy` was called once.
@@ -290,7 +293,8 @@ impl<FS: Filesystem, S: Source, K: Sink + Send> Session<FS, S, K> {
         runnable.run(rt)
     }
 
-    /// What queues notices, which the session sends after the reply that follows.
+    /// What queues notices. On one thread they are sent after the next message is answered, on several as soon as the
+    /// sender comes to them. One that is queued after the session's end is not sent.
     pub fn notifier(&mut self) -> Result<Notifier, NoMemory>
         ensures same { self.new ≡ self.old }
         ensures fresh { IfOk result (λ n. n ≡ fresh_door self.old.line) }

@@ -101,7 +101,7 @@ pub struct FAllocateArguments {
 pub struct LseekArguments {
     /// The open file.
     pub fh: u64,
-    /// How far from the place that `whence` says.
+    /// The place from which `whence` counts, in bytes.
     pub offset: i64,
     /// The directive of `lseek(2)`.
     pub whence: i32,

@@ -16,13 +16,13 @@ impl FopenFlags {
     /// What is cached of the file stays valid at this open.
     pub const FOPEN_KEEP_CACHE: FopenFlags = FopenFlags(1 << 1);
 
-    /// The file has no place that could be moved.
+    /// The file can't be read from another place: `lseek(2)` fails.
     pub const FOPEN_NONSEEKABLE: FopenFlags = FopenFlags(1 << 2);
 
     /// The entries of this directory may be cached.
     pub const FOPEN_CACHE_DIR: FopenFlags = FopenFlags(1 << 3);
 
-    /// The file is a stream, with no place at all.
+    /// The file is a stream: it has no position at all, and no read or write waits for another because of it.
     pub const FOPEN_STREAM: FopenFlags = FopenFlags(1 << 4);
 
     /// Closing the file sends no FLUSH, unless writes are cached.
@@ -31,7 +31,7 @@ impl FopenFlags {
     /// Direct writes to the file may go on at the same time.
     pub const FOPEN_PARALLEL_DIRECT_WRITES: FopenFlags = FopenFlags(1 << 6);
 
-    /// The kernel reads and writes a file of its own in place of this one.
+    /// The kernel reads and writes another file in place of this one: one that the server registered with it.
     pub const FOPEN_PASSTHROUGH: FopenFlags = FopenFlags(1 << 7);
 }
 

@@ -95,7 +95,8 @@ impl InitFlags {
     /// Directories may be mounted as filesystems of their own.
     pub const FUSE_SUBMOUNTS: InitFlags = InitFlags(1 << 27);
 
-    /// As `FUSE_HANDLE_KILLPRIV`, but writes and truncations clear them only for a caller who may not keep them.
+    /// As `FUSE_HANDLE_KILLPRIV`, but writes and truncations clear them only for a caller who may not keep them, and
+    /// the one of set-group-id only where the group may execute the file.
     pub const FUSE_HANDLE_KILLPRIV_V2: InitFlags = InitFlags(1 << 28);
 
     /// SETXATTR has the longer form of `struct fuse_setxattr_in`.
@@ -122,7 +123,7 @@ impl InitFlags {
     /// A file opened with `FOPEN_DIRECT_IO` may be mapped and shared.
     pub const FUSE_DIRECT_IO_ALLOW_MMAP: InitFlags = InitFlags(1 << 36);
 
-    /// Reads and writes may go to a file of the kernel's own.
+    /// Reads and writes may be passed through to a file that the server registered with the kernel.
     pub const FUSE_PASSTHROUGH: InitFlags = InitFlags(1 << 37);
 
     /// The filesystem can't be exported.

@@ -12,7 +12,7 @@ use std::fmt;
 pub struct IoctlFlags(u32);
 
 impl IoctlFlags {
-    /// A program of 32 bits called on a machine of 64.
+    /// A 32-bit program calls, on a 64-bit machine.
     pub const FUSE_IOCTL_COMPAT: IoctlFlags = IoctlFlags(1 << 0);
 
     /// The command need not say what it reads and writes, and may be tried again.
