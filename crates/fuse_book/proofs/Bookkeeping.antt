@@ -1,5 +1,5 @@
 -- That a book stays one where a mark or a late frame comes, and what it tells of them.
-use Rattle.std.proofs.Common.{◌≡◌, ◌≤◌, ◌<◌, ◌⊎◌, ◌+◌, ◌++◌, ℕ, zero, suc, Bool, true, false, cond, List, [], ◌∷◌, Option, Some, None}
+use Rattle.std.proofs.Common.{◌≡◌, ◌≢◌, ◌≤◌, ◌<◌, ◌⊎◌, ◌+◌, ◌-◌, ◌++◌, ℕ, zero, suc, Bool, true, false, cond, List, [], ◌∷◌, Option, Some, None}
 use Rattle.std.proofs.Common.{length, map, slice_index_or, refl, sym, ap, subst, ◌∙◌, ⊎_elim, inl, inr, arith}
 use Rattle.std.proofs.Common.{append_assoc, append-nil, length-append}
 use Rattle.std.specs.List.{All, Contains, filter}
@@ -9,10 +9,12 @@ use Rattle.std.proofs.lemmas.List.{map-append}
 use Rattle.std.proofs.lemmas.List.Elements.{All-append, All-cons, All-contains_itself, All-head, All-nil, All-tail, All-weaker}
 use Rattle.std.proofs.lemmas.List.Elements.{Contains-append_left, Contains-append_right, filter-append}
 use Rattle.std.proofs.lemmas.Map.{update-update}
+use Rattle.fuse_wire.specs.Faults.{counted}
 use Rattle.fuse_book.specs.declared.unmatched.Unmatched.{Unmatched}
 use Rattle.fuse_book.specs.declared.unmatched.Unmatched.TheVariants.{Marks, Frames}
 use Rattle.fuse_book.specs.declared.book.Book.{Book}
-use Rattle.fuse_book.specs.Book.{Accounts, Backs, EachSent, EachWaiting, IsBookOf, Meets, frames_of, frames_waiting, marks_waiting, tagged, tags_of, waiting}
+use Rattle.fuse_book.specs.Book.{Accounts, Backs, Counts, EachSent, EachWaiting, IsBookOf, Loses, Meets}
+use Rattle.fuse_book.specs.Book.{frames_of, frames_waiting, how_many, marks_waiting, tagged, tags_of, waiting}
 use Rattle.fuse_book.specs.Matched.{HasUnused, Matched, Tag, same, times}
 use Rattle.fuse_book.proofs.Matching.{Matched-from_times, once_if_same, same_is, same_self, times-cons}
 
@@ -30,6 +32,13 @@ put_or_none {X} waits tag left none k = by_test (same tag k) (same_is tag k) whe
   by_test : (b : Bool) → (b ≡ true → tag ≡ k) → (waits k ≡ cond b left (waits k)) ⊎ (waits k ≡ None)
   by_test true at = inr (ap waits (sym (at refl)) ∙ none)
   by_test false at = inl refl
+
+-- a tag that is another is not the same
+pub same_not : (tag k : Tag) → k ≢ tag → same tag k ≡ false
+same_not tag k other = by_test (same tag k) (same_is tag k) where
+  by_test : (b : Bool) → (b ≡ true → tag ≡ k) → b ≡ false
+  by_test true at = absurd (other (sym (at refl)))
+  by_test false at = refl
 
 -- an item of a list with one more in front
 module _ {X : Type 0} where
@@ -135,6 +144,23 @@ module _ {F : Type 0} where
           accounts = λ whole.
               let s = stored whole in still_accounts (waiting old) (waiting new) (met s.0) (λ k. s.2 k ∙ put k) (book.accounts s.1);
         }
+
+  -- no more waits under the tag than was put there
+  at_most_left : (tag : Tag) (left : Option (Unmatched F)) (before after : Tag → Option (Unmatched F))
+      → (after tag ≡ update same before tag left tag) ⊎ (after tag ≡ None) → how_many (after tag) ≤ how_many left
+  at_most_left tag left before after stored = ⊎_elim
+      (λ is.
+      let here : after tag ≡ left = is ∙ ap (λ b. cond b left (before tag)) (same_self tag) in omega (arith, ap how_many here))
+      (λ none. omega (arith, ap how_many none)) stored
+
+  -- A mark or a late frame comes: what is counted is what was not kept of it, and what is missing of what was put back.
+  pub Counts-after : (tag : Tag) (goes : Option F) (left : Option (Unmatched F)) (unkept : ℕ) (old new : Book F) (mid : Tag → Option (Unmatched F))
+      → Loses (waiting old tag) goes left unkept
+      → ((k : Tag) → (waiting new k ≡ update same mid tag left k) ⊎ (waiting new k ≡ None))
+      → new.unrecorded ≡ counted old.unrecorded (unkept + (how_many left - how_many (waiting new tag)))
+      → Counts old new tag goes
+  Counts-after tag goes left unkept old new mid loses stored told =
+      (unkept + (how_many left - how_many (waiting new tag)), omega (arith, loses, at_most_left tag left mid (waiting new) (stored tag)), told)
 
   module _ (P : F → Type 0) where
     All-maybe : (frame : Option F) → IfSome frame P → All P (option_to_list frame)

@@ -1,9 +1,9 @@
 -- What the sender's book tells of the marks and late frames that came, and of those that were sent.
-use Rattle.std.specs.Prelude.{◌≡◌, ◌≤◌, ◌⊎◌, ◌+◌, ◌++◌, ℕ, Bool, true, List, [], ◌∷◌, Option, None, Some, length, map, min}
+use Rattle.std.specs.Prelude.{◌≡◌, ◌≤◌, ◌⊎◌, ◌+◌, ◌*◌, ◌++◌, ℕ, Bool, true, List, [], ◌∷◌, Option, None, Some, length, map}
 use Rattle.std.specs.HashMap.{get}
 use Rattle.std.specs.List.{All, Contains, filter}
 use Rattle.std.specs.Option.{option_to_list}
-use Rattle.fuse_wire.specs.Faults.{last_count}
+use Rattle.fuse_wire.specs.Faults.{counted}
 use Rattle.fuse_book.specs.declared.book.Book.{Book}
 use Rattle.fuse_book.specs.declared.unmatched.Unmatched.{Unmatched}
 use Rattle.fuse_book.specs.declared.unmatched.Unmatched.TheVariants.{Marks, Frames}
@@ -33,9 +33,9 @@ frames_waiting None = []
 frames_waiting (Some (Marks others)) = []
 frames_waiting (Some (Frames first later)) = first ∷ later.items
 
--- how many marks or frames wait, as a u64 counts them
+-- how many marks or frames wait
 abbrev pub how_many : {F : Type 0} → Option (Unmatched F) → ℕ
-how_many waits = min (marks_waiting waits + length (frames_waiting waits)) last_count
+how_many waits = marks_waiting waits + length (frames_waiting waits)
 
 -- what waits under a tag
 abbrev pub waiting : {F : Type 0} → Book F → Tag → Option (Unmatched F)
@@ -49,6 +49,14 @@ Backs waits marks goes left = length (option_to_list goes) + marks_waiting left 
 pub record Meets {F : Type 0} (waits : Option (Unmatched F)) (marks : ℕ) (comes goes : Option F) (left : Option (Unmatched F)) : Type 0 where
   pub counted : marks_waiting waits + marks ≡ length (option_to_list goes) + marks_waiting left
   pub in_order : frames_waiting waits ++ option_to_list comes ≡ option_to_list goes ++ frames_waiting left
+
+-- What waited and the one that comes are the frame that goes with its mark, what is left, and so many that are lost.
+abbrev pub Loses : {F : Type 0} → (waits : Option (Unmatched F)) → (goes : Option F) → (left : Option (Unmatched F)) → (lost : ℕ) → Type 0
+Loses waits goes left lost = how_many waits + 1 ≡ 2 * length (option_to_list goes) + how_many left + lost
+
+-- A mark or a late frame of the tag comes: as many are counted as are lost, of it and of what waited under the tag.
+abbrev pub Counts : {F : Type 0} → (old new : Book F) → (tag : Tag) → (goes : Option F) → Type 0
+Counts old new tag goes = (lost : ℕ) × Loses (waiting old tag) goes (waiting new tag) lost × (new.unrecorded ≡ counted old.unrecorded lost)
 
 -- Of each tag the marks are as many as the frames sent and the marks that wait; and the frames that came are those sent, and then
 -- those that wait, in order.

@@ -1,10 +1,11 @@
 // The marks and late frames that whoever sends keeps.
-ghost use Rattle.std.specs.Prelude.{◌≡◌, ◌==◌, ◌≤◌, ◌⊎◌, ◌++◌, List, [], ◌∷◌, slice_get};
+ghost use Rattle.std.specs.Prelude.{◌≡◌, ◌≢◌, ◌==◌, ◌≤◌, ◌⊎◌, ◌+◌, ◌-◌, ◌++◌, List, [], ◌∷◌, min, slice_get};
 ghost use Rattle.std.specs.Prelude.{if◌then◌else◌, Bool, true, None, Some};
 ghost use Rattle.std.specs.HashMap.{get};
 ghost use Rattle.std.specs.Map.{update};
 ghost use Rattle.std.specs.Option.{IfSome};
-ghost use Rattle.fuse_book.specs.Book.{EachWaiting, IsBookOf};
+ghost use Rattle.fuse_wire.specs.Faults.{counted, last_count};
+ghost use Rattle.fuse_book.specs.Book.{Counts, EachWaiting, IsBookOf};
 ghost use Rattle.fuse_book.specs.Book.{frames_waiting, how_many, marks_waiting, tagged, waiting};
 ghost use Rattle.fuse_book.specs.Matched.{Tag, same};
 
@@ -49,6 +50,8 @@ impl<F: Drop> Book<F> {
             IsBookOf self.new (marks ++ (seq, id.0) ∷ []) came (sent ++ tagged (seq, id.0) result) }
         ensures own { (test : Tag → F → Bool) → EachWaiting test self.old →
             EachWaiting test self.new × IfSome result (λ f. test (seq, id.0) f ≡ true) }
+        ensures counted { Counts self.old self.new (seq, id.0) result }
+        ensures others { (k : Tag) → k ≢ (seq, id.0) → waiting self.new k ≡ waiting self.old k }
     {
         let tag = (seq, id.0);
         let (go, left, kept) = with_mark(self.waiting.remove(&tag));
@@ -63,6 +66,8 @@ impl<F: Drop> Book<F> {
             IsBookOf self.new marks (came ++ ((seq, id.0), frame) ∷ []) (sent ++ tagged (seq, id.0) result) }
         ensures own { (test : Tag → F → Bool) → test (seq, id.0) frame ≡ true → EachWaiting test self.old →
             EachWaiting test self.new × IfSome result (λ f. test (seq, id.0) f ≡ true) }
+        ensures counted { Counts self.old self.new (seq, id.0) result }
+        ensures others { (k : Tag) → k ≢ (seq, id.0) → waiting self.new k ≡ waiting self.old k }
     {
         let tag = (seq, id.0);
         let (go, left, kept) = with_frame(self.alloc, self.waiting.remove(&tag), frame);
@@ -86,6 +91,9 @@ impl<F: Drop> Book<F> {
             (waiting self.new k ≡ None) }
         ensures kept { self.new.unrecorded ≡ 0 → (kept ≡ true) × (self.old.unrecorded ≡ 0) ×
             ((k : Tag) → waiting self.new k ≡ update same (waiting self.old) tag left k) }
+        ensures counted { self.new.unrecorded ≡ counted self.old.unrecorded
+            ((if kept then 0 else 1) + (how_many left - how_many (waiting self.new tag))) }
+        ensures others { (k : Tag) → k ≢ tag → waiting self.new k ≡ waiting self.old k }
     {
         let refused = keep(&mut self.waiting, tag, left);
         let lost = u64::from(!kept).saturating_add(refused);
@@ -100,7 +108,9 @@ fn keep<F: Drop>(waiting: &mut Waiting<F>, tag: Key, left: Option<Unmatched<F>>)
         marks_waiting (update same (get same waiting.old) tag left k) }
     ensures left { (k : Tag) → (get same waiting.new k ≡ update same (get same waiting.old) tag left k) ⊎
         (get same waiting.new k ≡ None) }
-    ensures lost { (result ≡ 0) ⊎ (result ≡ how_many left) }
+    ensures lost { (result ≡ 0) ⊎ (result ≡ min (how_many left) last_count) }
+    ensures counted { result ≡ min (how_many left - how_many (get same waiting.new tag)) last_count }
+    ensures others { (k : Tag) → k ≢ tag → get same waiting.new k ≡ get same waiting.old k }
     ensures kept { result ≡ 0 → (k : Tag) → get same waiting.new k ≡ update same (get same waiting.old) tag left k }
 {
     match left {

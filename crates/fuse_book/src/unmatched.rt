@@ -1,6 +1,7 @@
 // What waits under one tag: a mark for its late frame, or a late frame for its mark.
-ghost use Rattle.std.specs.Prelude.{◌≡◌, ◌==◌, if◌then◌else◌, true, false, None, Some, slice_get};
-ghost use Rattle.fuse_book.specs.Book.{Backs, Meets, frames_waiting, how_many, marks_waiting};
+ghost use Rattle.std.specs.Prelude.{◌≡◌, ◌==◌, if◌then◌else◌, true, false, None, Some, min, slice_get};
+ghost use Rattle.fuse_wire.specs.Faults.{last_count};
+ghost use Rattle.fuse_book.specs.Book.{Backs, Loses, Meets, frames_waiting, how_many, marks_waiting};
 
 use std::alloc::Global;
 use std::collections::VecDeque;
@@ -17,7 +18,7 @@ pub(crate) enum Unmatched<F> {
 impl<F> Unmatched<F> {
     /// How many marks or frames wait.
     pub(crate) fn count(&self) -> u64
-        ensures { result ≡ how_many (Some self.now) }
+        ensures { result ≡ min (how_many (Some self.now)) last_count }
     {
         match self {
             Unmatched::Marks(others) => others.saturating_add(1),
@@ -34,6 +35,7 @@ pub(crate) fn with_mark<F: Drop>(
     ensures backed { Backs waiting 1 result.0 result.1 }
     ensures kept { result.2 ≡ true → Meets waiting 1 None result.0 result.1 }
     ensures refused { result.2 ≡ false → (result.0 ≡ None) × (frames_waiting result.1 ≡ frames_waiting waiting) }
+    ensures lost { Loses waiting result.0 result.1 (if result.2 then 0 else 1) }
 {
     match waiting {
         None => (None, Some(Unmatched::Marks(0)), true),
@@ -58,6 +60,7 @@ pub(crate) fn with_frame<F: Drop>(
     ensures backed { Backs waiting 0 result.0 result.1 }
     ensures kept { result.2 ≡ true → Meets waiting 0 (Some frame) result.0 result.1 }
     ensures refused { result.2 ≡ false → (result.0 ≡ None) × (frames_waiting result.1 ≡ frames_waiting waiting) }
+    ensures lost { Loses waiting result.0 result.1 (if result.2 then 0 else 1) }
 {
     match waiting {
         None => {

@@ -1,9 +1,9 @@
-use Rattle.std.proofs.Common.{◌++◌, [], ◌∷◌, None, append-nil, subst}
+use Rattle.std.proofs.Common.{◌∙◌, ◌++◌, [], ◌∷◌, None, append-nil, subst}
 use Rattle.std.specs.HashMap.{get}
 use Rattle.std.proofs.lemmas.List.Sums.{sum_by_push}
 use Rattle.fuse_book.specs.Book.{IsBookOf, tagged}
 use Rattle.fuse_book.specs.Matched.{Tag, same}
-use Rattle.fuse_book.proofs.Bookkeeping.{EachWaiting-after, IsBookOf-after}
+use Rattle.fuse_book.proofs.Bookkeeping.{Counts-after, EachWaiting-after, IsBookOf-after, same_not}
 use Rattle.fuse_book.proofs.Matching.{once_if_same}
 use Rattle.fuse_book.proofs.book.Book.mark.Goals as goal
 
@@ -24,3 +24,14 @@ returns-clause-own g c = λ test before.
     let at = c.with_mark-go.result in
     EachWaiting-after test tag 1 None at.0 at.1 c.args.self.now c.put.new.self (get same c.remove.new.self) at.2
     c.remove.ensures.updates.0 (rw (← c.remove.ensures.value) met.kept) (rw (← c.remove.ensures.value) met.refused) c.put.ensures.left tt before
+
+pub returns-clause-counted : goal.returns-clause-counted
+returns-clause-counted g c =
+    let tag : Tag = (c.args.seq, c.args.id.0) in
+    let at = c.with_mark-go.result in
+    Counts-after tag at.0 at.1 _ c.args.self.now c.put.new.self (get same c.remove.new.self)
+    (rw (← c.remove.ensures.value) c.with_mark-go.ensures.lost) c.put.ensures.left c.put.ensures.counted
+
+pub returns-clause-others : goal.returns-clause-others
+returns-clause-others g c = λ k other.
+    let tag : Tag = (c.args.seq, c.args.id.0) in c.put.ensures.others k other ∙ c.remove.ensures.updates.2 k (same_not tag k other)
