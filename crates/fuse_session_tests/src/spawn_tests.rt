@@ -6,7 +6,7 @@ use crate::messages::{Frame, Given, Request, source_of};
 use crate::session_tests::{Left, Over, is_left};
 use fuse_config::{Config, SessionACL};
 use fuse_probing::Probing;
-use fuse_probing::test_messages::ENOENT;
+use fuse_probing::test_messages::{EIO, ENOENT, error_reply};
 use fuse_session::{
     BackgroundSession, InlineSpawner, Session, SpawnError, Spawner, ThreadSpawner, spawn_mount,
 };
@@ -306,6 +306,37 @@ fn as_many_calls_run_at_once_as_threads_serve(rt: HostRuntime) {
     );
     let (over, _) = over(&rt, spawned, Look::Nothing);
     is_left(&rt, "five at once", over, &FIVE_ANSWERED);
+}
+
+/// INIT and three LOOKUPs.
+const THREE: &[Given] = &[
+    Given::Opening,
+    Given::Asked(Request::Lookup(2, 0)),
+    Given::Asked(Request::Lookup(2, 0)),
+    Given::Asked(Request::Lookup(2, 0)),
+];
+
+/// Each lookup waits for all three. Two threads serve, so that the first to give up has waited in vain.
+#[test]
+fn no_more_calls_run_at_once_than_threads_serve(rt: HostRuntime) {
+    let (calls, share) = shared_count(&rt);
+    drop(calls);
+    let mut spawner = spawner_of(&rt, Some(&[]));
+    let spawned = spawn(
+        &rt,
+        &mut spawner,
+        Some(2),
+        Counting::waiting(share, 3),
+        THREE,
+    );
+    let (over, _) = over(&rt, spawned, Look::Nothing);
+    let in_vain = error_reply(2, EIO);
+    let sent = over.sink.frames();
+    let is_any = sent
+        .iter()
+        .any(|frame| frame.as_slice() == in_vain.as_slice());
+    expect_same(&rt, &(sent.len(), is_any), &(4, true));
+    drop(over);
 }
 
 /// The session that a spawner refused to start.
