@@ -1,8 +1,11 @@
 -- What the code decides of a message, as plain data.
-use Rattle.std.specs.Prelude.{◌≡◌, ℕ, Some, Result, Ok, Err}
+use Rattle.std.specs.Prelude.{◌≡◌, ⊤, ℕ, List, Some, Result, Ok, Err}
+use Rattle.fuse_header.specs.Header.{body, header_fields}
+use Rattle.fuse_header.specs.declared.header.Header.{Header}
 use Rattle.fuse_operations.specs.Call.{Call as Asked, call}
 use Rattle.fuse_operations.specs.Operation.{Op, plain}
 use Rattle.fuse_operations.specs.declared.operation.Operation.{Operation}
+use Rattle.fuse_request.specs.Decoding.{Is, Keeps, operation}
 use Rattle.fuse_dispatch.specs.Verdict.{Verdict as Decision}
 use Rattle.fuse_dispatch.specs.Verdict.Verdict.{Broken as IsBroken, Ends as IsEnds, Fixed as IsFixed, Forgets, Calls}
 use Rattle.fuse_dispatch.specs.declared.decision.Verdict.{Verdict}
@@ -15,6 +18,22 @@ Decides node Ends v = v ≡ IsEnds
 Decides node (Fixed errno) v = v ≡ IsFixed errno
 Decides node (Forget op) v = (c : Asked) × (call node (plain op) ≡ Some c) × (v ≡ Forgets c)
 Decides node (Call op) v = (c : Asked) × (call node (plain op) ≡ Some c) × (v ≡ Calls c)
+
+-- this operation is what a request of that header and body asks, and keeps its node
+abbrev pub IsAskedBy : Header → List ℕ → Operation → Type 0
+IsAskedBy h rest op = Is (Ok op) (operation h.opcode rest) × Keeps (Ok op) h.nodeid
+
+-- the operation of a forget or a call is what the message asks, whole
+abbrev pub Carries : Verdict → List ℕ → Type 0
+Carries (Forget op) m = IsAskedBy (header_fields m) (body m) op
+Carries (Call op) m = IsAskedBy (header_fields m) (body m) op
+Carries v m = ⊤
+
+-- the operation of a forget or a call is this one
+abbrev pub IsOf : Verdict → Operation → Type 0
+IsOf (Forget op) operation = op ≡ operation
+IsOf (Call op) operation = op ≡ operation
+IsOf v operation = ⊤
 
 -- an operation that is served, as plain data
 abbrev pub plain_result : Result Operation ℕ → Result Op ℕ

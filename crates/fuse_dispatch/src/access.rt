@@ -1,8 +1,8 @@
 // The access rule: whose requests are served.
-ghost use Rattle.std.specs.Prelude.{◌≡◌};
+ghost use Rattle.std.specs.Prelude.{◌≡◌, IfOk};
 ghost use Rattle.fuse_request.specs.Message.{body_of, header_of};
 ghost use Rattle.fuse_request.specs.Decoding.{operation};
-ghost use Rattle.fuse_dispatch.specs.Decided.{plain_result};
+ghost use Rattle.fuse_dispatch.specs.Decided.{IsAskedBy, plain_result};
 ghost use Rattle.fuse_dispatch.specs.Verdict.{admitted, admitted_operation, always_passes};
 
 use fuse_config::SessionACL;
@@ -61,8 +61,9 @@ impl AccessRule {
     /// where its user is not served.
     #[inline(always)]
     pub(crate) fn operation<'a>(self, request: &AnyRequest<'a>) -> Result<Operation<'a>, Errno>
-        ensures { plain_result result ≡ admitted_operation self.acl self.owner (header_of request.now)
+        ensures admitted { plain_result result ≡ admitted_operation self.acl self.owner (header_of request.now)
             (operation (header_of request.now).opcode (body_of request.now)) }
+        ensures asked { IfOk result (IsAskedBy (header_of request.now) (body_of request.now)) }
     {
         let operation = match request.operation() {
             Ok(operation) => operation,

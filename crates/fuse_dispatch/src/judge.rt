@@ -2,7 +2,7 @@
 ghost use Rattle.std.specs.Prelude.{◌≡◌, ℕ};
 ghost use Rattle.fuse_header.specs.Header.{header_fields};
 ghost use Rattle.fuse_operations.specs.Operation.{plain};
-ghost use Rattle.fuse_dispatch.specs.Decided.{Decides};
+ghost use Rattle.fuse_dispatch.specs.Decided.{Carries, Decides, IsOf};
 ghost use Rattle.fuse_dispatch.specs.Verdict.{fixed_error, is_forget, served, verdict};
 
 use crate::Verdict;
@@ -39,7 +39,8 @@ fn is_forget(operation: &Operation<'_>) -> bool
 
 /// The verdict on an operation of a user who is served.
 fn judge(operation: Operation<'_>) -> Verdict<'_>
-    ensures { (node : ℕ) → Decides node result (served node (plain operation.entry)) }
+    ensures decides { (node : ℕ) → Decides node result (served node (plain operation.entry)) }
+    ensures same { IsOf result operation.entry }
 {
     if let Some(error) = fixed_error(&operation) {
         return Verdict::Fixed(error);
@@ -67,7 +68,8 @@ fn judge(operation: Operation<'_>) -> Verdict<'_>
 /// - FORGET and BATCH_FORGET: `Forget`;
 /// - all else: `Call`.
 pub fn verdict(acl: SessionACL, owner: u32, message: &[u8]) -> Verdict<'_>
-    ensures { Decides (header_fields message.now).nodeid.0 result (verdict acl owner message.now) }
+    ensures decides { Decides (header_fields message.now).nodeid.0 result (verdict acl owner message.now) }
+    ensures operation { Carries result message.now }
 {
     match Incoming::of(message) {
         Incoming::Broken(error) => return Verdict::Broken(error),
