@@ -187,8 +187,7 @@ fn run_work<R: Threads + Wait + AllocGlobal + Abort + Sync>(
     setup: Setup,
     full: &Counter,
 ) -> Became {
-    let most_turns = if setup.is_held_back { MOST_TURNS } else { 0 };
-    let sink = WatchedSink::new(rt, share(rt, full), most_turns);
+    let sink = WatchedSink::new(rt, share(rt, full), u64::from(setup.is_held_back));
     let source = source_of(rt, setup.turns);
     let buffers = Buffers::new(rt.alloc()).expect(rt, "there is memory");
     let RunEnd {

@@ -26,6 +26,13 @@ pub(crate) fn share<R: Abort>(rt: &R, counter: &Counter) -> Counter {
     Arc::try_clone(counter).expect(rt, "there is memory")
 }
 
+/// Lets others go on for so many turns.
+pub(crate) fn pass_turns(count: u64) {
+    for _turn in 0..count {
+        thread::yield_now();
+    }
+}
+
 /// A source that gives a message once the frame of the one before it was sent. It tells nothing.
 #[derive(Drop)]
 pub(crate) struct PacedSource {
@@ -35,14 +42,14 @@ pub(crate) struct PacedSource {
     sent: Counter,
 }
 
-/// A sink that counts its frames, and may hold each back until something was counted. It tells nothing either.
+/// A sink that counts its frames, and may hold the first back until something was counted. It tells nothing either.
 #[derive(Drop)]
 pub(crate) struct WatchedSink {
     pub(crate) inner: MemorySink,
     faults: u64,
     sent: Counter,
     awaited: Counter,
-    most_turns: u64,
+    least: u64,
 }
 
 /// Both, over these turns.
@@ -92,29 +99,37 @@ impl Source for PacedSource {
 }
 
 impl WatchedSink {
-    /// An empty one, which waits so often at most until what is awaited was counted.
-    pub(crate) fn new<R: AllocGlobal + Abort>(
-        rt: &R,
-        awaited: Counter,
-        most_turns: u64,
-    ) -> WatchedSink {
+    /// An empty one, which holds its first frame back until at least so many were counted of what is awaited.
+    pub(crate) fn new<R: AllocGlobal + Abort>(rt: &R, awaited: Counter, least: u64) -> WatchedSink {
         WatchedSink {
             inner: taking(rt.alloc()),
             faults: 0,
             sent: new_counter(rt),
             awaited,
-            most_turns,
+            least,
         }
     }
 
-    /// Waits until something was counted, or it has taken too long.
-    fn wait(&self) {
-        for _turn in 0..self.most_turns {
-            if self.awaited.load(Ordering::SeqCst) > 0 {
-                return;
+    /// Waits until so many were counted, and says whether they were in time.
+    fn wait(&self) -> bool {
+        for _turn in 0..MOST_TURNS {
+            if self.awaited.load(Ordering::SeqCst) >= self.least {
+                return true;
             }
             thread::yield_now();
         }
+        false
+    }
+
+    /// Whether a frame may go. The first waits, and some turns more, in which those that wait for it fall asleep.
+    fn lets_go(&mut self) -> bool {
+        if self.least == 0 {
+            return true;
+        }
+        let is_in_time = self.wait();
+        self.least = 0;
+        pass_turns(10_000);
+        is_in_time
     }
 }
 
@@ -127,9 +142,13 @@ impl Sink for WatchedSink {
       origin = record { bytes = None; faults = 0 };
     } };
 
+    /// Loses the first frame where it waited too long.
     fn send(&mut self, header: &[u8; 16], payload: &[u8]) -> Sending {
-        self.wait();
-        let sending = self.inner.send(header, payload);
+        let sending = if self.lets_go() {
+            self.inner.send(header, payload)
+        } else {
+            Sending::Failed
+        };
         self.sent.fetch_add(1, Ordering::SeqCst);
         if sending != Sending::Sent {
             self.faults = self.faults.saturating_add(1);

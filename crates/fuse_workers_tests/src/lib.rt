@@ -18,6 +18,8 @@ mod devices;
 #[cfg(test)]
 mod frames;
 #[cfg(test)]
+mod full_tests;
+#[cfg(test)]
 mod notice_tests;
 #[cfg(test)]
 mod paced_tests;

@@ -4,6 +4,7 @@ ghost use Rattle.fuse_wire.specs.MemorySink.{EachFails, NumbersDiffer};
 ghost use Rattle.fuse_wire.specs.declared.consts.TheConstants.{BUFFER_SIZE};
 
 use crate::asserts::expect_same;
+use crate::devices::new_counter;
 use crate::frames::{Said, bits_below, replied_id};
 use crate::runs::{Became, WORKERS, counts, outcome_of, run_on};
 use crate::turns::{Piece, source_of};
@@ -468,7 +469,7 @@ fn run_row<R: Threads + Wait + AllocGlobal + Abort + Sync>(
     workers: Option<usize>,
 ) -> Found {
     let buffers = Buffers::new(rt.alloc()).expect(rt, "there is memory");
-    let work = Answering::new(row.hold);
+    let work = Answering::new(row.hold, new_counter(rt));
     let (source, sink) = (source_of(rt, row.turns), sink_of(rt, row.faults));
     let RunEnd {
         end,
@@ -579,7 +580,7 @@ fn what_comes_after_a_fault_of_the_source_is_not_taken(rt: HostRuntime) {
 /// How many calls of sixteen were under way at once, at most, where so many workers were asked for.
 fn most_at_once<R: Threads + Wait + AllocGlobal + Abort + Sync>(rt: &R, workers: usize) -> u64 {
     let buffers = Buffers::new(rt.alloc()).expect(rt, "there is memory");
-    let work = Answering::new(Hold::Turns(10_000));
+    let work = Answering::new(Hold::Turns(10_000), new_counter(rt));
     let (source, sink) = (source_of(rt, &[Piece::Requests(0, 16)]), sink_of(rt, 0));
     drop(run_on(rt, &work, Some(workers), source, sink, buffers));
     work.most_at_once()

@@ -6,6 +6,7 @@ ghost use Rattle.fuse_reply.specs.declared.out.Out.TheVariants.{Frame};
 ghost use Rattle.fuse_loop.specs.Answering.{IsRequest};
 ghost use Rattle.fuse_loop.specs.Incoming.{id_of as id_in};
 
+use crate::devices::{Counter, pass_turns};
 use fuse_notify::Notifier;
 use fuse_reply::{Door, NoDoor, Out, ReplyEmpty};
 use fuse_request::AnyRequest;
@@ -29,13 +30,6 @@ pub(crate) fn id_of(message: &[u8]) -> RequestId
     }
 }
 
-/// Lets others go on for so many turns.
-fn pass_turns(count: u64) {
-    for _turn in 0..count {
-        thread::yield_now();
-    }
-}
-
 /// How long each answer is held.
 #[derive(Clone, Copy)]
 pub(crate) enum Hold {
@@ -53,17 +47,17 @@ pub(crate) enum Hold {
 #[derive(Drop)]
 pub(crate) struct Answering {
     hold: Hold,
-    calls: AtomicU64,
+    calls: Counter,
     under_way: AtomicU64,
     most: AtomicU64,
 }
 
 impl Answering {
-    /// Holds each answer so.
-    pub(crate) fn new(hold: Hold) -> Answering {
+    /// Holds each answer so, and counts the calls by this counter.
+    pub(crate) fn new(hold: Hold, calls: Counter) -> Answering {
         Answering {
             hold,
-            calls: AtomicU64::new(0),
+            calls,
             under_way: AtomicU64::new(0),
             most: AtomicU64::new(0),
         }
