@@ -8,7 +8,7 @@ use fuse_probing::test_messages::ENOENT;
 use fuse_wire::MemorySink;
 
 #[test]
-fn two_calls_run_at_once(rt: HostRuntime) {
+fn two_calls_at_once(rt: HostRuntime) {
     let probe = Telling::new(rt, rt.alloc(), None);
     let source = source_after_init(&rt, &[Message::Lookup(2, b'a'), Message::Lookup(3, b'b')]);
     let sink = MemorySink::new(rt.alloc(), Vec::new(rt.alloc()));
