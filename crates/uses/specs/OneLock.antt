@@ -1,7 +1,9 @@
 -- A filesystem with one lock, for which its callers wait.
 use Rattle.std.specs.Prelude.{◌≡◌, ◌⊎◌, ℕ, Bool, true, false, Result, Ok}
+use Rattle.fuse_wire.specs.declared.flags.init_flags.InitFlags.{InitFlags}
+use Rattle.fuse_config.specs.Setters.{add_capabilities}
 use Rattle.fuse_operations.specs.Call.{Call}
-use Rattle.fuse_operations.specs.Call.Call.{SetLk}
+use Rattle.fuse_operations.specs.Call.Call.{Flush, SetLk}
 use Rattle.fuse_reply.specs.Answer.{Answer}
 use Rattle.fuse_reply.specs.Answer.Answer.{Empty, Error}
 use Rattle.fuse_reply.specs.Door.{DoorSeen}
@@ -12,6 +14,10 @@ use Rattle.fuse_reply.specs.declared.out.Out.TheVariants.{Frame}
 use Rattle.fuse_dispatch.specs.Defaults.{default_answer, default_mark}
 use Rattle.fuse_dispatch.specs.Owed.{IsPutOff}
 use Rattle.fuse_dispatch.specs.Promise.{Promise}
+
+-- the kernel sends the calls for locks, in place of keeping them itself (`linux/fuse.h`)
+abbrev pub FUSE_POSIX_LOCKS : InitFlags
+FUSE_POSIX_LOCKS = record { 0 = 2 }
 
 -- it would have to wait (`asm-generic/errno-base.h`, `asm-generic/errno.h`)
 abbrev pub EAGAIN : ℕ
@@ -30,15 +36,18 @@ abbrev pub MayFail : (sleep : Bool) → Answer → Type 0
 MayFail false a = a ≡ Error EAGAIN
 MayFail true a = (a ≡ Error EDEADLK) ⊎ (a ≡ Error ENOLCK)
 
--- all else is answered by default
+-- FLUSH is done; all else is answered by default
 abbrev pub MayHave : Call → Answer → Type 0
 MayHave (SetLk ino fh owner start end typ pid sleep) a = (a ≡ Empty) ⊎ MayFail sleep a
+MayHave (Flush ino fh owner) a = Empty ≡ a
 MayHave c a = default_answer c ≡ a
 
--- every kernel is accepted, with what is negotiated left as it is; nothing happens when the session is over
+-- every kernel is accepted, and asked for the calls for locks where it offers them, and for nothing else; nothing happens when the
+-- session is over
 abbrev pub promise : {F : Type 0} → Promise F
 promise = record {
-  may_init = λ old request before result new after. (result ≡ Ok tt) × (after ≡ before) × (new ≡ old);
+  may_init = λ old request before result new after.
+      (result ≡ Ok tt) × (after ≡ (add_capabilities FUSE_POSIX_LOCKS before).0) × (new ≡ old);
   may_answer = λ fs request call a. MayHave call a;
   may_note = λ fs request call mark. mark ≡ default_mark;
   may_destroy = λ old new. new ≡ old;

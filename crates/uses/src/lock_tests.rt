@@ -4,12 +4,14 @@ use crate::asserts::expect_same;
 use crate::tests::{ACCEPTED, INIT, source_of, took_in_order};
 use fuse_config::{Config, SessionACL};
 use fuse_session::{Ended, SessionError, mount};
-use fuse_wire::{Items, MemorySink, MemorySource};
+use fuse_wire::{Items, LockOwner, MemorySink, MemorySource};
 use std::process::Abort;
 use std::sync::Wait;
 use std::thread::Threads;
 
 // Linux's numbers: `include/uapi/linux/fuse.h`, `fcntl.h`, `errno-base.h` and `errno.h`.
+const FLUSH: u8 = 25;
+
 const SETLK: u8 = 32;
 
 const SETLKW: u8 = 33;
@@ -22,16 +24,45 @@ const EAGAIN: u8 = 11;
 
 const EDEADLK: u8 = 35;
 
-/// A call for the lock of node 1, with this id, by the owner of that number: `struct fuse_in_header`, then
-/// `struct fuse_lk_in`.
-fn lock_call(opcode: u8, id: u8, typ: u8) -> [u8; 88] {
+// Two owners of the lock.
+const ONE: u8 = 0x71;
+
+const OTHER: u8 = 0x72;
+
+/// INIT that offers `FUSE_POSIX_LOCKS`, the bit 1 of `flags` in `struct fuse_init_in`.
+fn init_with_locks() -> [u8; 56] {
+    let mut message = INIT;
+    message[52] = 1 << 1;
+    message
+}
+
+/// The reply that grants it, in `flags` of `struct fuse_init_out`.
+fn accepted_with_locks() -> [u8; 40] {
+    let mut frame = ACCEPTED;
+    frame[28] = 1 << 1;
+    frame
+}
+
+/// A call for the lock of node 1, with this id, by this owner: `struct fuse_in_header`, then `struct fuse_lk_in`.
+fn lock_call(opcode: u8, id: u8, owner: u8, typ: u8) -> [u8; 88] {
     let mut message = [0; 88];
     message[0] = 88;
     message[4] = opcode;
     message[8] = id;
     message[16] = 1;
-    message[48] = id;
+    message[48] = owner;
     message[72] = typ;
+    message
+}
+
+/// FLUSH of node 1, with this id, by this owner: `struct fuse_in_header`, then `struct fuse_flush_in`.
+fn flush(id: u8, owner: u8) -> [u8; 64] {
+    let mut message = [0; 64];
+    message[0] = 64;
+    message[4] = FLUSH;
+    message[8] = id;
+    message[16] = 1;
+    message[56] = owner;
     message
 }
 
@@ -102,28 +133,63 @@ fn ended_well(rt: &impl Abort, rest: &Rest, messages: u64) {
     expect_same(rt, &(rest.outcome, rest.counts), &expected);
 }
 
+/// On one thread the lock gave these frames for these messages, in this order.
+fn serves_alone<R: Threads + Wait + AllocGlobal + Abort + Copy + Sync + Send>(
+    rt: R,
+    messages: &[&[u8]],
+    frames: &[&[u8]],
+) {
+    let (lock, rest) = serve(&rt, OneLock::new(rt, rt.alloc()), None, messages);
+    lock.close();
+    ended_well(&rt, &rest, messages.len() as u64);
+    took_in_order(&rt, rest.sink.frames(), frames);
+}
+
 #[test]
 fn nobody_waits_on_one_thread(rt: HostRuntime) {
     let messages: [&[u8]; 6] = [
-        &INIT,
-        &lock_call(SETLK, 2, F_WRLCK),
-        &lock_call(SETLK, 3, F_WRLCK),
-        &lock_call(SETLKW, 4, F_WRLCK),
-        &lock_call(SETLK, 5, F_UNLCK),
-        &lock_call(SETLKW, 6, F_WRLCK),
+        &init_with_locks(),
+        &lock_call(SETLK, 2, ONE, F_WRLCK),
+        &lock_call(SETLK, 3, OTHER, F_WRLCK),
+        &lock_call(SETLKW, 4, OTHER, F_WRLCK),
+        &lock_call(SETLK, 5, ONE, F_UNLCK),
+        &lock_call(SETLKW, 6, OTHER, F_WRLCK),
     ];
     let frames: [&[u8]; 6] = [
-        &ACCEPTED,
+        &accepted_with_locks(),
         &done(2),
         &failed(3, EAGAIN),
         &failed(4, EDEADLK),
         &done(5),
         &done(6),
     ];
-    let (lock, rest) = serve(&rt, OneLock::new(rt, rt.alloc()), None, &messages);
-    lock.close();
-    ended_well(&rt, &rest, 6);
-    took_in_order(&rt, rest.sink.frames(), &frames);
+    serves_alone(rt, &messages, &frames);
+}
+
+/// F_UNLCK and FLUSH of the other are done, and change nothing; FLUSH of the one that holds the lock frees it.
+#[test]
+fn its_holder_alone_gives_it_up(rt: HostRuntime) {
+    let messages: [&[u8]; 8] = [
+        &INIT,
+        &lock_call(SETLK, 2, ONE, F_WRLCK),
+        &lock_call(SETLK, 3, ONE, F_WRLCK),
+        &lock_call(SETLK, 4, OTHER, F_UNLCK),
+        &flush(5, OTHER),
+        &lock_call(SETLK, 6, OTHER, F_WRLCK),
+        &flush(7, ONE),
+        &lock_call(SETLK, 8, OTHER, F_WRLCK),
+    ];
+    let frames: [&[u8]; 8] = [
+        &ACCEPTED,
+        &done(2),
+        &done(3),
+        &done(4),
+        &done(5),
+        &failed(6, EAGAIN),
+        &done(7),
+        &done(8),
+    ];
+    serves_alone(rt, &messages, &frames);
 }
 
 /// Of two workers the one waits for the lock that the other gives up. Whichever comes first, both are done.
@@ -131,15 +197,16 @@ fn nobody_waits_on_one_thread(rt: HostRuntime) {
 fn one_waits_for_the_other(rt: HostRuntime) {
     let messages: [&[u8]; 3] = [
         &INIT,
-        &lock_call(SETLKW, 2, F_WRLCK),
-        &lock_call(SETLK, 3, F_UNLCK),
+        &lock_call(SETLKW, 2, OTHER, F_WRLCK),
+        &lock_call(SETLK, 3, ONE, F_UNLCK),
     ];
     let lock = OneLock::new(rt, rt.alloc());
-    let was_free = lock.takes();
+    let (one, other) = (LockOwner(u64::from(ONE)), LockOwner(u64::from(OTHER)));
+    let was_free = lock.takes(one);
     let (lock, rest) = serve(&rt, lock, Some(2), &messages);
-    let is_free = lock.takes();
+    let passed_on = (lock.takes(one), lock.takes(other));
     lock.close();
-    expect_same(&rt, &(was_free, is_free), &(true, false));
+    expect_same(&rt, &(was_free, passed_on), &(true, (false, true)));
     ended_well(&rt, &rest, 3);
     let sent = rest.sink.frames();
     took_in_order(&rt, sent.get(..1).unwrap_or(&[]), &[&ACCEPTED]);

@@ -1,5 +1,6 @@
 // A filesystem with one lock, whose callers wait for it without a thread.
-ghost use Rattle.std.specs.Prelude.{true, refl};
+ghost use Rattle.std.specs.Prelude.{◌≡◌, ◌≢◌, ◌↔◌, ◌++◌, true, refl, Some, IsTrue, IsNone, slice_get};
+ghost use Rattle.std.specs.Prelude.{option_map, option_to_list, unwrap_or};
 ghost use Rattle.uses.specs.OneLock.{ComesOfWaiting, promise};
 
 use fuse_config::KernelConfig;
@@ -12,8 +13,9 @@ use fuse_reply::{
 use fuse_request::{ForgetList, Request};
 use fuse_session::{Filesystem, defaults};
 use fuse_wire::{
-    AccessFlags, BsdFileFlags, CopyFileRangeFlags, Errno, FileHandle, INodeNo, IoctlFlags,
-    LockOwner, OpenFlags, PollEvents, PollFlags, RenameFlags, SystemTime, TimeOrNow, WriteFlags,
+    AccessFlags, BsdFileFlags, CopyFileRangeFlags, Errno, FileHandle, INodeNo, InitFlags,
+    IoctlFlags, LockOwner, OpenFlags, PollEvents, PollFlags, RenameFlags, SystemTime, TimeOrNow,
+    WriteFlags,
 };
 use std::alloc::{AllocFailed, Global};
 use std::collections::VecDeque;
@@ -22,9 +24,14 @@ use std::sync::{Mutex, Wait};
 /// The type of a lock that is given up: `F_UNLCK`.
 const UNLOCKED: i32 = 2;
 
-/// A filesystem with one lock for all its files, which answers all else by default. Whoever waits for the lock (SETLKW)
-/// waits without a thread: the reply is put off, and the call that gives the lock up sends it.
+/// A filesystem with one lock for all its files, of whatever type and range, which answers all else by default. Whoever
+/// waits for the lock (SETLKW) waits without a thread: the reply is put off, and the call that gives the lock up sends it.
 ///
+/// - `init` requests `FUSE_POSIX_LOCKS`. A kernel that does not offer it keeps such locks itself, and sends no call for
+///   them.
+/// - Only its holder gives the lock up: by `F_UNLCK`, which changes nothing where another owner sends it, and by FLUSH.
+///   Where a process closes the file or dies no `F_UNLCK` comes, but a FLUSH with the same owner.
+/// - Whoever waits has a turn of its own, also where its owner has the lock by then. POSIX would answer it at once.
 /// - `DEFERS` is true, and the promise says the same. So each reply has a door where several threads serve.
 /// - `defer` spends a reply that has a door into two things. The `Replied` is what the method returns: it says that the
 ///   frame comes later. The `Later` is a token, which is kept. A reply without a door comes back, with the reason, and
@@ -40,20 +47,57 @@ pub struct OneLock<R> {
     desk: Mutex<Desk>,
 }
 
-/// Whether the lock is held, and the replies that wait for it, the first to come first.
+/// Who holds the lock, and who waits for it, the first to come first.
 struct Desk {
-    is_held: bool,
-    waiting: VecDeque<Later<ReplyEmpty>>,
+    holder: Option<LockOwner>,
+    waiting: VecDeque<Waiter>,
+}
+
+/// An owner that waits for the lock, and the reply that it waits for.
+struct Waiter {
+    owner: LockOwner,
+    later: Later<ReplyEmpty>,
+}
+
+impl Desk {
+    /// Whether the lock was free, or this owner's already: then it is this owner's from now on.
+    fn takes(&mut self, owner: LockOwner) -> bool
+        ensures holder { self.new.holder ≡ Some (unwrap_or self.old.holder owner) }
+        ensures taken { IsTrue result ↔ (self.new.holder ≡ Some owner) }
+        ensures waiting { self.new.waiting.items ≡ self.old.waiting.items }
+    {
+        let holder = self.holder.unwrap_or(owner);
+        self.holder = Some(holder);
+        holder == owner
+    }
+
+    /// Takes the lock from this owner, where it holds it, and gives it to the one that waits longest. Where none waits it
+    /// is free.
+    fn give_up(&mut self, owner: LockOwner) -> Option<Waiter>
+        ensures longest { self.old.holder ≡ Some owner → result ≡ slice_get self.old.waiting.items 0 }
+        ensures holder { self.old.holder ≡ Some owner → self.new.holder ≡ option_map (λ w. w.owner) result }
+        ensures others { self.old.holder ≢ Some owner → (self.new.holder ≡ self.old.holder) × IsNone result }
+        ensures waiting { self.old.waiting.items ≡ option_to_list result ++ self.new.waiting.items }
+    {
+        if self.holder != Some(owner) {
+            return None;
+        }
+        let next = self.waiting.pop_front();
+        self.holder = next.as_ref().map(|waiter| waiter.owner);
+        next
+    }
 }
 
 /// Answers that the lock is held from now on.
-fn grant<R: Wait>(rt: &R, later: Later<ReplyEmpty>) {
+fn grant<R: Wait>(rt: &R, waiter: Waiter) {
+    let Waiter { owner: _, later } = waiter;
     let (reply, token) = later.reply();
     token.send_or_retire(rt, reply.ok());
 }
 
 /// Answers that no more can wait for the lock.
-fn refuse<R: Wait>(rt: &R, later: Later<ReplyEmpty>) {
+fn refuse<R: Wait>(rt: &R, waiter: Waiter) {
+    let Waiter { owner: _, later } = waiter;
     let (reply, token) = later.reply();
     token.send_or_retire(rt, reply.error(Errno::ENOLCK));
 }
@@ -64,34 +108,31 @@ impl<R: Wait> OneLock<R> {
         OneLock {
             rt,
             desk: Mutex::new(Desk {
-                is_held: false,
+                holder: None,
                 waiting: VecDeque::new(alloc),
             }),
         }
     }
 
-    /// Whether the lock was free. It is held from now on.
-    pub(crate) fn takes(&self) -> bool {
-        let mut desk = self.desk.lock(&self.rt);
-        let was_free = !desk.is_held;
-        desk.is_held = true;
-        was_free
+    /// Whether the lock was free, or this owner's already: then it is this owner's from now on.
+    pub(crate) fn takes(&self, owner: LockOwner) -> bool {
+        self.desk.lock(&self.rt).takes(owner)
     }
 
     /// Takes the lock, or puts the reply off until it is free. A reply that can't be put off is refused: by EDEADLK where
     /// nobody else is served meanwhile, and by ENOLCK where there is no memory.
-    fn wait_for(&self, reply: ReplyEmpty) -> Replied
+    fn wait_for(&self, owner: LockOwner, reply: ReplyEmpty) -> Replied
         ensures { ComesOfWaiting reply.id reply.door result }
     {
         let mut desk = self.desk.lock(&self.rt);
-        if !desk.is_held {
-            desk.is_held = true;
+        if desk.takes(owner) {
             return reply.ok();
         }
         match reply.defer() {
             Ok((replied, later)) => {
-                if let Err(AllocFailed { value: later }) = desk.waiting.push_back(later) {
-                    refuse(&self.rt, later);
+                let waiter = Waiter { owner, later };
+                if let Err(AllocFailed { value: waiter }) = desk.waiting.push_back(waiter) {
+                    refuse(&self.rt, waiter);
                 }
                 replied
             }
@@ -100,18 +141,12 @@ impl<R: Wait> OneLock<R> {
         }
     }
 
-    /// The reply that waits longest, whose lock it is from now on. Where none waits, the lock is free.
-    fn next(&self) -> Option<Later<ReplyEmpty>> {
-        let mut desk = self.desk.lock(&self.rt);
-        let next = desk.waiting.pop_front();
-        desk.is_held = next.is_some();
-        next
-    }
-
-    /// Gives the lock up.
-    fn give_up(&self) {
-        if let Some(later) = self.next() {
-            grant(&self.rt, later);
+    /// Gives the lock up where this owner holds it, and answers whoever has waited longest.
+    fn give_up(&self, owner: LockOwner) {
+        // The answer may have to wait for the sender: the desk is free again by then.
+        let next = self.desk.lock(&self.rt).give_up(owner);
+        if let Some(waiter) = next {
+            grant(&self.rt, waiter);
         }
     }
 
@@ -122,11 +157,11 @@ impl<R: Wait> OneLock<R> {
     {
         let OneLock { rt, desk } = self;
         let Desk {
-            is_held: _,
+            holder: _,
             mut waiting,
         } = desk.into_inner();
-        while let Some(later) = waiting.pop_front() {
-            refuse(&rt, later);
+        while let Some(waiter) = waiting.pop_front() {
+            refuse(&rt, waiter);
         }
         waiting.destroy_empty();
     }
@@ -139,8 +174,9 @@ impl<R: Wait + Send + Sync> Filesystem for OneLock<R> {
 
     ghost DEFERS = { true };
 
-    fn init(&mut self, _request: &Request, _config: &mut KernelConfig) -> Result<(), Errno> {
-        defaults::init()
+    fn init(&mut self, _request: &Request, config: &mut KernelConfig) -> Result<(), Errno> {
+        let _ = config.add_capabilities(InitFlags::FUSE_POSIX_LOCKS);
+        Ok(())
     }
 
     fn lookup(
@@ -388,10 +424,11 @@ impl<R: Wait + Send + Sync> Filesystem for OneLock<R> {
         _request: &Request,
         _ino: INodeNo,
         _fh: FileHandle,
-        _lock_owner: LockOwner,
+        lock_owner: LockOwner,
         reply: ReplyEmpty,
     ) -> Replied {
-        defaults::flush(reply)
+        self.give_up(lock_owner);
+        reply.ok()
     }
 
     fn opendir(
@@ -457,7 +494,7 @@ impl<R: Wait + Send + Sync> Filesystem for OneLock<R> {
         _request: &Request,
         _ino: INodeNo,
         _fh: FileHandle,
-        _lock_owner: LockOwner,
+        lock_owner: LockOwner,
         _start: u64,
         _end: u64,
         typ: i32,
@@ -466,12 +503,12 @@ impl<R: Wait + Send + Sync> Filesystem for OneLock<R> {
         reply: ReplyEmpty,
     ) -> Replied {
         if typ == UNLOCKED {
-            self.give_up();
+            self.give_up(lock_owner);
             return reply.ok();
         }
         if sleep {
-            self.wait_for(reply)
-        } else if self.takes() {
+            self.wait_for(lock_owner, reply)
+        } else if self.takes(lock_owner) {
             reply.ok()
         } else {
             reply.error(Errno::EAGAIN)

@@ -1,5 +1,5 @@
 use Rattle.uses.proofs.one_lock.OneLock.close.Given as goal
 
--- a token less each time
-abbrev pub decreases-loop-later : goal.decreases-loop-later
-decreases-loop-later g l = l.waiting.len
+-- a waiter less each time
+abbrev pub decreases-loop-waiter : goal.decreases-loop-waiter
+decreases-loop-waiter g l = l.waiting.len
