@@ -41,18 +41,20 @@ const REPLIES: &[&[u8]] = &[
 
 const NO_ENTRY: &[u8; 16] = b"\x10\0\0\0\xfe\xff\xff\xff\x02\0\0\0\0\0\0\0";
 
-/// Runs the program over streams that fail at these calls.
-fn run_failing<R: Threads + Wait + AllocGlobal + Abort + Sync>(
+/// Runs the program over these bytes, so many of which are read or written at a time, and streams that fail at these calls.
+pub(crate) fn run_failing<R: Threads + Wait + AllocGlobal + Abort + Sync>(
     rt: &R,
+    parts: &[&[u8]],
+    step: usize,
     reads: &[u64],
     writes: &[u64],
 ) -> Run {
     let alloc = rt.alloc();
-    let bytes = joined(rt, STREAM);
+    let step = step.max(1);
     let reads = reads.to_vec(alloc).expect(rt, "there is memory");
     let writes = writes.to_vec(alloc).expect(rt, "there is memory");
-    let input = MemoryBytes::new(bytes, 1000, reads);
-    run_over(rt, form(), input, MemoryOut::new(alloc, 1000, writes))
+    let input = MemoryBytes::new(joined(rt, parts), step, reads);
+    run_over(rt, form(), input, MemoryOut::new(alloc, step, writes))
 }
 
 /// The program so run ends with this status, has written so many of the bytes, and has left so many unread.
@@ -64,7 +66,7 @@ fn ends_so<R: Threads + Wait + AllocGlobal + Abort + Sync>(
     count: usize,
     left: usize,
 ) {
-    let run = run_failing(rt, reads, writes);
+    let run = run_failing(rt, STREAM, 1000, reads, writes);
     let replies = joined(rt, REPLIES);
     let found = (run.status, Some(run.written.as_slice()), run.unread.len());
     let expected = (status, replies.get(..count), left);

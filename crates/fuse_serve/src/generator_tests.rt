@@ -90,12 +90,12 @@ fn five_words() -> &'static [&'static [u8]] {
 const FIVE_WORDS: &[&[u8]] = &[b"gen", b"1", b"5"];
 
 /// The bytes that `gen 1 5` writes.
-fn five_requests_in_a_stream<R: AllocGlobal + Abort>(rt: &R) -> Vec<u8> {
+pub(crate) fn five_requests_in_a_stream<R: AllocGlobal + Abort>(rt: &R) -> Vec<u8> {
     stream_of(rt, FIVE, 7)
 }
 
 /// The bytes of the replies to them.
-fn answers<R: AllocGlobal + Abort>(rt: &R) -> Vec<u8> {
+pub(crate) fn answers<R: AllocGlobal + Abort>(rt: &R) -> Vec<u8> {
     let mut bytes = Vec::new(rt.alloc());
     for (piece, (first, after)) in ANSWERS {
         bytes.extend_from_slice(piece).expect(rt, "there is memory");

@@ -46,6 +46,7 @@ const LINES: &[Ending] = &[
     ),
     (&[b"load", b"1", b"5", b"1"], 1, &[], 0, FIVE),
     (&[b"load", b"1", b"5", b"2"], 1, &[], 0, FIVE),
+    (&[b"load", b"1", b"5", b"3"], 1, &[], 0, FIVE),
     (&[b"load", b"1", b"5", b"64"], 1, &[], 0, FIVE),
     (&[b"load", b"1", b"5", b"1024"], 1, &[], 0, FIVE),
 ];

@@ -19,6 +19,8 @@ mod load_tests;
 #[cfg(test)]
 mod runs;
 #[cfg(test)]
+mod sweep_tests;
+#[cfg(test)]
 mod tests;
 #[cfg(test)]
 mod tree_tests;

@@ -349,9 +349,15 @@ fn all_after_a_failed_write_is_lost(rt: HostRuntime) {
     expect_same(&rt, &(run.status, run.written.as_slice()), &(8, reply()));
 }
 
-#[test]
-fn all_after_a_failed_write_counts_as_lost(rt: HostRuntime) {
-    let (input, output) = two_lookups(&rt);
+/// A session from these bytes to those ends well all the same, with this count of messages taken, of frames sent and of
+/// frames lost, and has written these bytes.
+fn breaks_so<R: Threads + Wait + AllocGlobal + Abort + Sync>(
+    rt: &R,
+    input: MemoryBytes,
+    output: MemoryOut,
+    counts: (u64, u64, u64),
+    written: &[u8],
+) {
     let (source, sink) = (StreamSource::new(input), StreamSink::new(output));
     let Ended {
         filesystem: _,
@@ -359,13 +365,48 @@ fn all_after_a_failed_write_counts_as_lost(rt: HostRuntime) {
         sink,
         outcome,
         transcript,
-    } = mount_tree(&rt, Some(1), SessionACL::All, 0, source, sink);
+    } = mount_tree(rt, Some(1), SessionACL::All, 0, source, sink);
     drop(source.into_inner());
     let broken = sink.broken();
     let output = sink.into_inner();
-    let counts = (transcript.received, transcript.frames, transcript.lost);
-    expect_same(&rt, &(outcome, counts, broken), &(Ok(()), (3, 1, 2), true));
-    expect_same(&rt, &output.bytes(), &reply());
+    let found = (transcript.received, transcript.frames, transcript.lost);
+    expect_same(rt, &(outcome, found, broken), &(Ok(()), counts, true));
+    expect_same(rt, &output.bytes(), &written);
+}
+
+#[test]
+fn all_after_a_failed_write_counts_as_lost(rt: HostRuntime) {
+    let (input, output) = two_lookups(&rt);
+    breaks_so(&rt, input, output, (3, 1, 2), reply());
+}
+
+/// INIT, and an output that takes seven bytes at a write and fails at its fourth, the first of the payload of the reply.
+fn torn_reply<R: AllocGlobal + Abort>(rt: &R) -> (MemoryBytes, MemoryOut) {
+    let alloc = rt.alloc();
+    let faults = [4].to_vec(alloc).expect(rt, "there is memory");
+    (
+        MemoryBytes::new(after_init(rt, &[]), 1000, Vec::new(alloc)),
+        MemoryOut::new(alloc, 7, faults),
+    )
+}
+
+/// The header of the reply to INIT.
+fn reply_header() -> &'static [u8] {
+    b"\x28\0\0\0\0\0\0\0\x0d\xf0\xad\xba\xef\xbe\xad\xde"
+}
+
+#[test]
+fn a_frame_may_be_torn_behind_its_header(rt: HostRuntime) {
+    let (input, output) = torn_reply(&rt);
+    let run = run_over(&rt, form(), input, output);
+    let found = (run.status, run.written.as_slice());
+    expect_same(&rt, &found, &(8, reply_header()));
+}
+
+#[test]
+fn a_torn_frame_counts_as_lost(rt: HostRuntime) {
+    let (input, output) = torn_reply(&rt);
+    breaks_so(&rt, input, output, (1, 0, 1), reply_header());
 }
 
 /// Over devices that tell nothing the program ends with this status, and writes these bytes.

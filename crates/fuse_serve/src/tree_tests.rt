@@ -2,6 +2,8 @@
 use crate::asserts::expect_same;
 use crate::runs::{joined, mount_tree};
 use fuse_config::SessionACL;
+use fuse_header::RequestError;
+use fuse_session::{InvalidData, SessionError};
 use fuse_wire::{Items, MemorySink, MemorySource, RequestId, Turn};
 use std::process::Abort;
 use std::sync::Wait;
@@ -90,7 +92,7 @@ fn frames_of<R: AllocGlobal + Abort>(rt: &R, replies: &[Sent]) -> Vec<Vec<u8>> {
 }
 
 /// Puts a turn of this message at the end.
-fn put_turn<R: AllocGlobal + Abort>(rt: &R, turns: &mut Vec<Turn>, message: &[u8]) {
+pub(crate) fn put_turn<R: AllocGlobal + Abort>(rt: &R, turns: &mut Vec<Turn>, message: &[u8]) {
     let bytes = message.to_vec(rt.alloc()).expect(rt, "there is memory");
     let turn = Turn::Message(Items::from_vec(bytes));
     turns.push(turn).expect(rt, "there is memory");
@@ -190,8 +192,8 @@ fn took(
     noted_each(rt, sink.notes(), notes);
 }
 
-/// Serves these requests after an INIT, in one session of the user 7 on so many threads, which sends these frames and
-/// notes.
+/// Serves these requests after an INIT, in one session of the user 7 on so many threads, which takes them all, sends these
+/// frames and notes, and ends so.
 fn serves_on<R: Threads + Wait + AllocGlobal + Abort + Sync>(
     rt: &R,
     n_threads: Option<usize>,
@@ -199,6 +201,7 @@ fn serves_on<R: Threads + Wait + AllocGlobal + Abort + Sync>(
     requests: &[Vec<u8>],
     frames: &[Vec<u8>],
     notes: &[(RequestId, u64)],
+    outcome: &Result<(), SessionError>,
 ) {
     let alloc = rt.alloc();
     let source = after_init(rt, requests);
@@ -206,7 +209,7 @@ fn serves_on<R: Threads + Wait + AllocGlobal + Abort + Sync>(
     let ended = mount_tree(rt, n_threads, acl, 7, source, sink);
     let expected = (requests.len() as u64).saturating_add(1);
     let counts = (ended.transcript.received, ended.transcript.lost);
-    expect_same(rt, &ended.outcome, &Ok(()));
+    expect_same(rt, &ended.outcome, outcome);
     expect_same(rt, &counts, &(expected, 0));
     took(rt, n_threads, &ended.sink, frames, notes);
     drop(ended);
@@ -220,8 +223,8 @@ fn serves<R: Threads + Wait + AllocGlobal + Abort + Sync>(
     frames: &[Vec<u8>],
     notes: &[(RequestId, u64)],
 ) {
-    serves_on(rt, None, acl, requests, frames, notes);
-    serves_on(rt, Some(2), acl, requests, frames, notes);
+    serves_on(rt, None, acl, requests, frames, notes, &Ok(()));
+    serves_on(rt, Some(2), acl, requests, frames, notes, &Ok(()));
 }
 
 /// Whether a request passes whoever sends it: INIT, DESTROY, forgets, and those that go by an open file.
@@ -386,7 +389,7 @@ const CONTENTS: &[Case] = &[
     (
         15,
         2,
-        &[FH, b"\xff\xff\xff\xff\xff\xff\xff\x7f\x05\0\0\0", REST],
+        &[FH, b"\xff\xff\xff\xff\xff\xff\xff\x7fd\0\0\0", REST],
         0,
         &[],
     ),
@@ -630,4 +633,86 @@ fn each_operation(rt: HostRuntime) {
     let operations = [first_operations(), last_operations()];
     serve_all(&rt, &operations);
     serve_user(&rt, SessionACL::Owner, 5, false, &operations);
+}
+
+/// Eight bytes of ones, and the number 2^63.
+const ONES: &[u8; 8] = &[0xff; 8];
+
+const HIGHEST_BIT: &[u8; 8] = b"\0\0\0\0\0\0\0\x80";
+
+/// Messages that do not decode: no name or one without an end, one name of two, fewer rows than are counted, a value of
+/// another size than is said, fewer bytes than an IOCTL has, and an INIT and a CUSE_INIT that are a byte too short.
+const BROKEN: &[Case] = &[
+    (1, 1, &[b"ab"], 0xda, &[]),
+    (1, 1, &[], 0xda, &[]),
+    (12, 1, &[&[0; 8], b"a\0"], 0xda, &[]),
+    (6, 1, &[b"a\0"], 0xda, &[]),
+    (42, 0, &[b"\x02\0\0\0\0\0\0\0", &[0; 16]], 0xda, &[]),
+    (42, 0, &[b"\xff\xff\xff\xff\0\0\0\0"], 0xda, &[]),
+    (21, 2, &[b"\x03\0\0\0\0\0\0\0n\0ab"], 0xda, &[]),
+    (21, 2, &[b"\x03\0\0\0\0\0\0\0n\0abcd"], 0xda, &[]),
+    (39, 2, &[&[0; 24], b"\x05\0\0\0\0\0\0\0abcd"], 0xda, &[]),
+    (26, 0, &[&[0; 15]], 0xda, &[]),
+    (4096, 0, &[&[0; 63]], 0xda, &[]),
+];
+
+fn broken() -> &'static [Case] {
+    BROKEN
+}
+
+/// They are refused before it is looked at who sent them.
+#[test]
+fn what_does_not_decode(rt: HostRuntime) {
+    let broken = [broken()];
+    serve_all(&rt, &broken);
+    serve_user(&rt, SessionACL::Owner, 5, true, &broken);
+}
+
+/// An IOCTL with a byte more than it counts, one that is not restricted, offsets and a length in no file, and a listing that
+/// has no room.
+const ODD: &[Case] = &[
+    (39, 2, &[&[0; 24], b"\x04\0\0\0\0\0\0\0abcde"], 0xda, &[]),
+    (39, 2, &[FH, b"\x02\0\0\0", &[0; 20]], 0xda, &[]),
+    (43, 2, &[FH, HIGHEST_BIT, &[0; 16]], 0xea, &[]),
+    (43, 2, &[FH, &[0; 8], HIGHEST_BIT, &[0; 8]], 0xea, &[]),
+    (47, 2, &[FH, ONES, &[0; 40]], 0xea, &[]),
+    (47, 2, &[&[0; 32], ONES, &[0; 16]], 0xea, &[]),
+    (28, 1, &[FH, &[0; 12], REST], 0, &[]),
+];
+
+fn odd() -> &'static [Case] {
+    ODD
+}
+
+#[test]
+fn what_is_odd_and_decodes(rt: HostRuntime) {
+    let odd = [odd()];
+    serve_all(&rt, &odd);
+    serve_user(&rt, SessionACL::Owner, 5, false, &odd);
+}
+
+#[test]
+fn bytes_after_those_that_a_header_counts_are_ignored(rt: HostRuntime) {
+    let mut messages = Vec::new(rt.alloc());
+    let message = joined(&rt, &[&header(3, 2, 0, 16), &[0; 16], &[7; 44]]);
+    put(&rt, &mut messages, message);
+    let frames = frames_of(&rt, &[(0, &[HELD, HELLO])]);
+    serves(&rt, SessionACL::All, &messages, &frames, &[]);
+}
+
+/// A GETATTR of 48 bytes whose header counts 4294967295.
+const SHORT: Parts = &[
+    b"\xff\xff\xff\xff\x03\0\0\0\x02\0\0\0\0\0\0\0\x02\0\0\0\0\0\0\0",
+    &[0; 24],
+];
+
+#[test]
+fn a_message_shorter_than_its_header_counts_ends_the_session(rt: HostRuntime) {
+    let mut messages = Vec::new(rt.alloc());
+    put(&rt, &mut messages, joined(&rt, SHORT));
+    let error = RequestError::ShortRead(48, 4294967295);
+    let outcome = Err(SessionError::InvalidData(InvalidData::Header(error)));
+    let all = SessionACL::All;
+    serves_on(&rt, None, all, &messages, &[], &[], &outcome);
+    serves_on(&rt, Some(2), all, &messages, &[], &[], &outcome);
 }
