@@ -122,12 +122,11 @@ impl WatchedSink {
     }
 
     /// Whether a frame may go. The first waits, and some turns more, in which those that wait for it fall asleep.
-    fn lets_go(&mut self) -> bool {
+    fn lets_go(&self) -> bool {
         if self.least == 0 {
             return true;
         }
         let is_in_time = self.wait();
-        self.least = 0;
         pass_turns(10_000);
         is_in_time
     }
@@ -144,7 +143,9 @@ impl Sink for WatchedSink {
 
     /// Loses the first frame where it waited too long.
     fn send(&mut self, header: &[u8; 16], payload: &[u8]) -> Sending {
-        let sending = if self.lets_go() {
+        let may_go = self.lets_go();
+        self.least = 0;
+        let sending = if may_go {
             self.inner.send(header, payload)
         } else {
             Sending::Failed
