@@ -8,7 +8,8 @@ use fuse_config::{Config, SessionACL};
 use fuse_probing::Probing;
 use fuse_probing::test_messages::{EIO, ENOENT, error_reply};
 use fuse_session::{
-    BackgroundSession, InlineSpawner, Session, SpawnError, Spawner, ThreadSpawner, spawn_mount,
+    BackgroundSession, InlineSpawner, Session, SessionError, SpawnError, Spawner, ThreadSpawner,
+    Transcript, spawn_mount,
 };
 use fuse_wire::{MemorySink, MemorySource};
 use std::alloc::Global;
@@ -186,14 +187,6 @@ const TRIALS: &[Trial] = &[
         started: &[true],
     },
     Trial {
-        refusals: None,
-        n_threads: Some(2),
-        given: MESSAGES,
-        is_notified: false,
-        left: ANSWERED,
-        started: &[true],
-    },
-    Trial {
         refusals: Some(&[]),
         n_threads: None,
         given: MESSAGES,
@@ -239,10 +232,59 @@ const TRIALS: &[Trial] = &[
 ];
 
 #[test]
-fn a_session_runs_in_the_background_and_has_notifiers(rt: HostRuntime) {
+fn sessions_run_in_the_background_and_have_notifiers(rt: HostRuntime) {
     for trial in TRIALS {
         go(&rt, trial);
     }
+}
+
+/// A session of those messages is over: it wanted memory and took none of them, or all were answered, but for the
+/// frames that its sink found no memory for.
+fn is_answered_or_wants_memory<R: Abort>(rt: &R, over: Over) {
+    let starved = over.sink.starved();
+    let expected = match over.outcome {
+        Err(SessionError::Memory) => (Err(SessionError::Memory), 0, 0, 0),
+        _ => (Ok(()), 2, 2_u64.saturating_sub(starved), starved),
+    };
+    let Transcript {
+        received,
+        frames,
+        lost,
+        ..
+    } = over.transcript;
+    expect_same(rt, &(over.outcome, received, frames, lost), &expected);
+    let destroyed = over.filesystem.probe.destroyed();
+    expect_same(rt, &(destroyed, received), &(received.min(1), received));
+    drop(over);
+}
+
+/// A session on two threads that is to run on a thread of its own, and is run here where none can be started; and
+/// whether it was started.
+fn on_a_thread<R: Threads + Wait + AllocGlobal + Abort + Send + Sync + Copy + 'static>(
+    rt: &R,
+) -> (Over, bool) {
+    let mut spawner = spawner_of(rt, None);
+    let spawned = spawn(rt, &mut spawner, Some(2), Counting::new(None), MESSAGES);
+    over(rt, spawned, Look::Nothing)
+}
+
+#[test]
+fn a_session_runs_in_the_background(rt: HostRuntime) {
+    let (over, is_started) = on_a_thread(&rt);
+    is_left(&rt, "on a thread", over, &ANSWERED);
+    expect_same(&rt, &is_started, &true);
+}
+
+#[test]
+fn a_session_runs_in_the_background_or_here(rt: HostRuntime) {
+    let (over, _) = on_a_thread(&rt);
+    is_left(&rt, "on a thread or here", over, &ANSWERED);
+}
+
+#[test]
+fn a_session_runs_in_the_background_or_here_or_wants_memory(rt: HostRuntime) {
+    let (over, _) = on_a_thread(&rt);
+    is_answered_or_wants_memory(&rt, over);
 }
 
 /// A count that is shared by two.
