@@ -99,3 +99,12 @@ pub Owed-destroy : (owes : Owes) → ((request : Request) (seq id : ℕ) → owe
 Owed-destroy owes owes_end acl owner seq m is =
     subst (λ (v : Verdict). owes (request_of (header_fields m)) v seq (id_of m) (Frame (reply (id_of m) Empty)))
     (sym (ends-destroy acl owner (header m) (body m) is)) (owes_end (request_of (header_fields m)) seq (id_of m))
+
+-- and nothing else
+pub Owed-destroy-alone : (owes : Owes)
+    → ((request : Request) (seq id : ℕ) (out : Out) → owes request Ends seq id out → out ≡ Frame (reply id Empty))
+    → (acl : SessionACL) (owner seq : ℕ) (m : List ℕ) (out : Out) → incoming m ≡ Destroy
+    → OwedMessage owes acl owner seq m out → out ≡ Frame (reply (id_of m) Empty)
+Owed-destroy-alone owes end_alone acl owner seq m out is owed =
+    end_alone (request_of (header_fields m)) seq (id_of m) out
+    (subst (λ (v : Verdict). owes (request_of (header_fields m)) v seq (id_of m) out) (ends-destroy acl owner (header m) (body m) is) owed)

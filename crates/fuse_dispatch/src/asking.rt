@@ -631,5 +631,7 @@ impl<FS: Filesystem> Handler for Asking<FS> {
 
     ghost owes_end = { λ handler request seq id. refl };
 
+    ghost owes_end_alone = { λ handler request seq id out is. is };
+
     ghost owes_later = { λ handler request call seq id later. inr (inr (FS.deferral ∙ later, refl)) };
 }

@@ -170,6 +170,10 @@ pub(crate) trait Handler {
     ghost owes_end: { (handler : Self) (request : Request) (seq id : ℕ)
         → owes handler request Ends seq id (Frame (reply id Empty)) };
 
+    /// It is owed nothing else.
+    ghost owes_end_alone: { (handler : Self) (request : Request) (seq id : ℕ) (out : Goes)
+        → owes handler request Ends seq id out → out ≡ Frame (reply id Empty) };
+
     /// Where replies may come later, a call is owed one that does.
     ghost owes_later: { (handler : Self) (request : Request) (call : Call) (seq id : ℕ) → IsTrue DEFERS
         → owes handler request (Calls call) seq id (Deferred seq (record { 0 = id })) };

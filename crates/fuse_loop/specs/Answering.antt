@@ -1,5 +1,6 @@
 -- On which conditions a message is answered, what its answer is, and when its reply may come later.
-use Rattle.std.specs.Prelude.{◌≡◌, ◌==◌, ◌↔◌, ℕ, List, Bool, false, Result, Ok, Err, IsOk, IfOk}
+use Rattle.std.specs.Prelude.{◌≡◌, ◌==◌, ◌↔◌, ℕ, List, Bool, false, Result, Ok, Err, IsOk, IfOk, if◌then◌else◌}
+use Rattle.std.proofs.Common.{◌∙◌, ap, sym}
 use Rattle.atomic_table.specs.Seated.{TableId}
 use Rattle.fuse_header.specs.Header.{header}
 use Rattle.fuse_header.specs.Opcode.{FUSE_DESTROY}
@@ -12,12 +13,19 @@ use Rattle.fuse_reply.specs.declared.out.Out.TheVariants.{Frame, Note, Deferred}
 use Rattle.fuse_core.specs.OneEach.{Owing}
 use Rattle.fuse_core.specs.Step.{StandsFor}
 use Rattle.fuse_core.specs.declared.state.Job.{Job}
-use Rattle.fuse_loop.specs.Incoming.{IsBroken}
+use Rattle.fuse_loop.specs.Incoming.{Incoming, IsBroken, incoming, incoming_by}
+use Rattle.fuse_loop.specs.Incoming.Incoming.{Destroy}
 use Rattle.fuse_loop.specs.Progress.{IsPrompt}
 
 -- the message has a good header, and is no DESTROY
 abbrev pub IsRequest : List ℕ → Type 0
 IsRequest m = (h : Header) × (header m ≡ Ok h) × ((h.opcode == FUSE_DESTROY) ≡ false)
+
+-- a request is no DESTROY
+pub request-is-no-destroy : (m : List ℕ) → IsRequest m → ¬ (incoming m ≡ Destroy)
+request-is-no-destroy m (h, good, other) is =
+    let no : Incoming.Request ≡ Destroy = sym (ap incoming_by good ∙ ap (λ (b : Bool). if b then Destroy else Incoming.Request) other) ∙ is in
+    absurd (let bad : ⊥ = cc in bad)
 
 -- there is no door, since no reply comes later, exactly where none may; and a door is one to this line, for the message of this number
 abbrev pub DoorFits : (defers : Bool) → (line : TableId) → (seq : ℕ) → Result DoorSeen NoDoor → Type 0

@@ -45,4 +45,8 @@ pub trait Work: Sync {
     /// DESTROY is owed an empty reply, which the run gives itself.
     ghost owed_to_destroy: { (work : Self) (seq : ℕ) (m : List ℕ) → incoming m ≡ Destroy
         → owed work seq m (Frame (reply (id_of m) Empty)) };
+
+    /// It is owed nothing else.
+    ghost alone_to_destroy: { (work : Self) (seq : ℕ) (m : List ℕ) (out : Goes) → incoming m ≡ Destroy
+        → owed work seq m out → out ≡ Frame (reply (id_of m) Empty) };
 }

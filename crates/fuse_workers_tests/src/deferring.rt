@@ -1,11 +1,8 @@
 // A work whose replies come later, the shelf that their tokens lie on, and who answers them off it.
-ghost use Rattle.std.specs.Prelude.{◌≡◌, ◌⊎◌, true, refl};
+ghost use Rattle.std.specs.Prelude.{true, refl};
 ghost use Rattle.std.proofs.Common.{inl};
-ghost use Rattle.fuse_reply.specs.Answer.Answer.{Empty};
-ghost use Rattle.fuse_reply.specs.Frame.{reply};
 ghost use Rattle.fuse_reply.specs.Late.{IsFrameFor};
-ghost use Rattle.fuse_reply.specs.declared.out.Out.TheVariants.{Deferred, Frame};
-ghost use Rattle.fuse_loop.specs.Incoming.{id_of as id_in};
+ghost use Rattle.fuse_workers_tests.specs.NowOrLater.{NowOrLater, NowOrLater-destroy};
 
 use crate::devices::Counter;
 use crate::works::id_of;
@@ -238,8 +235,7 @@ impl Deferring {
 }
 
 impl Work for Deferring {
-    ghost owed = { λ work seq m out. (out ≡ Frame (reply (id_in m) Empty))
-        ⊎ (out ≡ Deferred seq (record { 0 = id_in m })) };
+    ghost owed = { λ work. NowOrLater };
 
     const DEFERS: bool = true;
 
@@ -268,4 +264,6 @@ impl Work for Deferring {
     }
 
     ghost owed_to_destroy = { λ work seq m is. inl refl };
+
+    ghost alone_to_destroy = { λ work. NowOrLater-destroy };
 }

@@ -1,5 +1,9 @@
 // What queues notices while it answers the messages of the tests.
-ghost use Rattle.std.specs.Prelude.{◌≡◌, false};
+ghost use Rattle.std.specs.Prelude.{◌≡◌, false, refl};
+ghost use Rattle.fuse_reply.specs.Answer.Answer.{Empty};
+ghost use Rattle.fuse_reply.specs.Frame.{reply};
+ghost use Rattle.fuse_reply.specs.declared.out.Out.TheVariants.{Frame};
+ghost use Rattle.fuse_loop.specs.Incoming.{id_of as id_in};
 
 use crate::works::id_of;
 use fuse_notify::Notifier;
@@ -54,7 +58,7 @@ impl Telling {
 }
 
 impl Work for Telling {
-    ghost owed = { λ work seq m out. Unit {0} };
+    ghost owed = { λ work seq m out. out ≡ Frame (reply (id_in m) Empty) };
 
     const DEFERS: bool = false;
 
@@ -78,5 +82,7 @@ impl Work for Telling {
         ReplyEmpty::new(rt.alloc(), id).ok().into_out()
     }
 
-    ghost owed_to_destroy = { λ work seq m is. tt };
+    ghost owed_to_destroy = { λ work seq m is. refl };
+
+    ghost alone_to_destroy = { λ work seq m out is owed. owed };
 }

@@ -126,4 +126,6 @@ impl Work for Answering {
     }
 
     ghost owed_to_destroy = { λ work seq m is. refl };
+
+    ghost alone_to_destroy = { λ work seq m out is owed. owed };
 }

@@ -1,10 +1,15 @@
 // What answers the messages, at a cost that is asked for.
-ghost use Rattle.std.specs.Prelude.{false};
+ghost use Rattle.std.specs.Prelude.{◌≡◌, false, refl};
+ghost use Rattle.fuse_reply.specs.Answer.Answer.{Empty};
+ghost use Rattle.fuse_reply.specs.Frame.{reply};
+ghost use Rattle.fuse_reply.specs.declared.out.Out.TheVariants.{Frame};
+ghost use Rattle.fuse_loop.specs.Answering.{IsRequest};
+ghost use Rattle.fuse_loop.specs.Incoming.{id_of as id_in};
 
 use fuse_notify::Notifier;
 use fuse_reply::{Door, NoDoor, Out, ReplyEmpty};
 use fuse_request::AnyRequest;
-use fuse_wire::{Errno, RequestId};
+use fuse_wire::RequestId;
 use fuse_workers::Work;
 use std::sync::Wait;
 use std::sync::atomic::{AtomicU64, Ordering};
@@ -44,6 +49,20 @@ impl<C> Costly<C> {
     }
 }
 
+impl<C: Clock> Costly<C> {
+    /// Spends what a call about this id costs, and gives 1, which the count grows by. The steps make no 0 of a number
+    /// that is not 0; the count rests on what they make, so that none can be left out.
+    fn pay(&self, id: u64) -> u64 {
+        match self.cost {
+            Cost::Sleep(milliseconds) => {
+                thread::sleep(&self.clock, Duration::from_millis(milliseconds));
+                1
+            }
+            Cost::Steps(steps) => u64::from(stepped(id | 1, steps) != 0),
+        }
+    }
+}
+
 /// The number that so many steps make of another. Each step waits for the one before it.
 fn stepped(start: u64, steps: u64) -> u64 {
     let mut number = start;
@@ -54,7 +73,9 @@ fn stepped(start: u64, steps: u64) -> u64 {
 }
 
 /// The id of a message.
-fn id_of(message: &[u8]) -> RequestId {
+fn id_of(message: &[u8]) -> RequestId
+    ensures { IsRequest message.now → result.0 ≡ id_in message.now }
+{
     match AnyRequest::try_from(message) {
         Ok(request) => request.unique(),
         Err(_) => RequestId(u64::MAX),
@@ -62,7 +83,7 @@ fn id_of(message: &[u8]) -> RequestId {
 }
 
 impl<C: Clock + Sync> Work for Costly<C> {
-    ghost owed = { λ work seq m out. Unit {0} };
+    ghost owed = { λ work seq m out. out ≡ Frame (reply (id_in m) Empty) };
 
     const DEFERS: bool = false;
 
@@ -76,21 +97,12 @@ impl<C: Clock + Sync> Work for Costly<C> {
         _seq: u64,
         message: &[u8],
     ) -> Out {
-        self.calls.fetch_add(1, Ordering::SeqCst);
         let id = id_of(message);
-        let reply = ReplyEmpty::new(rt.alloc(), id);
-        match self.cost {
-            Cost::Sleep(milliseconds) => {
-                thread::sleep(&self.clock, Duration::from_millis(milliseconds));
-                reply.ok().into_out()
-            }
-            // The number goes into the answer, so that no step can be left out. It is odd where the start is.
-            Cost::Steps(steps) => match stepped(id.0 | 1, steps) {
-                0 => reply.error(Errno::EIO).into_out(),
-                _ => reply.ok().into_out(),
-            },
-        }
+        self.calls.fetch_add(self.pay(id.0), Ordering::SeqCst);
+        ReplyEmpty::new(rt.alloc(), id).ok().into_out()
     }
 
-    ghost owed_to_destroy = { λ work seq m is. tt };
+    ghost owed_to_destroy = { λ work seq m is. refl };
+
+    ghost alone_to_destroy = { λ work seq m out is owed. owed };
 }
