@@ -16,6 +16,8 @@ const SETLK: u8 = 32;
 
 const SETLKW: u8 = 33;
 
+const F_RDLCK: u8 = 0;
+
 const F_WRLCK: u8 = 1;
 
 const F_UNLCK: u8 = 2;
@@ -24,10 +26,21 @@ const EAGAIN: u8 = 11;
 
 const EDEADLK: u8 = 35;
 
-// Two owners of the lock.
-const ONE: u8 = 0x71;
+/// An owner of the lock, by the first and the last of its eight bytes, between which all are 0.
+type Owner = [u8; 2];
 
-const OTHER: u8 = 0x72;
+const ONE: Owner = [0x71, 0x11];
+
+// It differs from the one in the upper half alone.
+const OTHER: Owner = [0x71, 0x12];
+
+// It differs from the one in the lower half alone.
+const THIRD: Owner = [0x72, 0x11];
+
+/// The number of the owner.
+fn number_of(owner: Owner) -> LockOwner {
+    LockOwner(u64::from_le_bytes([owner[0], 0, 0, 0, 0, 0, 0, owner[1]]))
+}
 
 /// INIT that offers `FUSE_POSIX_LOCKS`, the bit 1 of `flags` in `struct fuse_init_in`.
 fn init_with_locks() -> [u8; 56] {
@@ -44,25 +57,27 @@ fn accepted_with_locks() -> [u8; 40] {
 }
 
 /// A call for the lock of node 1, with this id, by this owner: `struct fuse_in_header`, then `struct fuse_lk_in`.
-fn lock_call(opcode: u8, id: u8, owner: u8, typ: u8) -> [u8; 88] {
+fn lock_call(opcode: u8, id: u8, owner: Owner, typ: u8) -> [u8; 88] {
     let mut message = [0; 88];
     message[0] = 88;
     message[4] = opcode;
     message[8] = id;
     message[16] = 1;
-    message[48] = owner;
+    message[48] = owner[0];
+    message[55] = owner[1];
     message[72] = typ;
     message
 }
 
 /// FLUSH of node 1, with this id, by this owner: `struct fuse_in_header`, then `struct fuse_flush_in`.
-fn flush(id: u8, owner: u8) -> [u8; 64] {
+fn flush(id: u8, owner: Owner) -> [u8; 64] {
     let mut message = [0; 64];
     message[0] = 64;
     message[4] = FLUSH;
     message[8] = id;
     message[16] = 1;
-    message[56] = owner;
+    message[56] = owner[0];
+    message[63] = owner[1];
     message
 }
 
@@ -127,9 +142,9 @@ fn times_sent(sent: &[Items<u8>], frame: &[u8]) -> usize {
     sent.iter().filter(|one| one.as_slice() == frame).count()
 }
 
-/// The session ended well, and answered each of so many messages.
-fn ended_well(rt: &impl Abort, rest: &Rest, messages: u64) {
-    let expected = (Ok(()), (messages, messages, 0));
+/// The session ended well, took so many messages, and lost none of so many frames.
+fn ended_well(rt: &impl Abort, rest: &Rest, messages: u64, frames: u64) {
+    let expected = (Ok(()), (messages, frames, 0));
     expect_same(rt, &(rest.outcome, rest.counts), &expected);
 }
 
@@ -141,27 +156,35 @@ fn serves_alone<R: Threads + Wait + AllocGlobal + Abort + Copy + Sync + Send>(
 ) {
     let (lock, rest) = serve(&rt, OneLock::new(rt, rt.alloc()), None, messages);
     lock.close();
-    ended_well(&rt, &rest, messages.len() as u64);
+    let count = messages.len() as u64;
+    ended_well(&rt, &rest, count, count);
     took_in_order(&rt, rest.sink.frames(), frames);
 }
 
+/// F_UNLCK gives the lock up by SETLKW too, and a lock to read is the one lock.
 #[test]
 fn nobody_waits_on_one_thread(rt: HostRuntime) {
-    let messages: [&[u8]; 6] = [
+    let messages: [&[u8]; 9] = [
         &init_with_locks(),
         &lock_call(SETLK, 2, ONE, F_WRLCK),
         &lock_call(SETLK, 3, OTHER, F_WRLCK),
         &lock_call(SETLKW, 4, OTHER, F_WRLCK),
         &lock_call(SETLK, 5, ONE, F_UNLCK),
         &lock_call(SETLKW, 6, OTHER, F_WRLCK),
+        &lock_call(SETLKW, 7, OTHER, F_UNLCK),
+        &lock_call(SETLK, 8, ONE, F_RDLCK),
+        &lock_call(SETLK, 9, THIRD, F_RDLCK),
     ];
-    let frames: [&[u8]; 6] = [
+    let frames: [&[u8]; 9] = [
         &accepted_with_locks(),
         &done(2),
         &failed(3, EAGAIN),
         &failed(4, EDEADLK),
         &done(5),
         &done(6),
+        &done(7),
+        &done(8),
+        &failed(9, EAGAIN),
     ];
     serves_alone(rt, &messages, &frames);
 }
@@ -192,24 +215,31 @@ fn its_holder_alone_gives_it_up(rt: HostRuntime) {
     serves_alone(rt, &messages, &frames);
 }
 
-/// Of two workers the one waits for the lock that the other gives up. Whichever comes first, both are done.
+/// Before one of the two workers comes to the third message it has served one of the two calls that wait, so at least one
+/// waits when that message gives the lock up. One of the two has it then, and is told so; the other gets no reply.
 #[test]
-fn one_waits_for_the_other(rt: HostRuntime) {
-    let messages: [&[u8]; 3] = [
+fn one_of_two_that_wait_gets_it(rt: HostRuntime) {
+    let messages: [&[u8]; 4] = [
         &INIT,
         &lock_call(SETLKW, 2, OTHER, F_WRLCK),
-        &lock_call(SETLK, 3, ONE, F_UNLCK),
+        &lock_call(SETLKW, 3, THIRD, F_WRLCK),
+        &lock_call(SETLK, 4, ONE, F_UNLCK),
     ];
     let lock = OneLock::new(rt, rt.alloc());
-    let (one, other) = (LockOwner(u64::from(ONE)), LockOwner(u64::from(OTHER)));
-    let was_free = lock.takes(one);
+    let was_free = lock.takes(number_of(ONE));
     let (lock, rest) = serve(&rt, lock, Some(2), &messages);
-    let passed_on = (lock.takes(one), lock.takes(other));
+    let has_it = lock.takes(number_of(OTHER));
+    let holders = (
+        was_free,
+        lock.takes(number_of(ONE)),
+        lock.takes(number_of(THIRD)),
+    );
     lock.close();
-    expect_same(&rt, &(was_free, passed_on), &(true, (false, true)));
-    ended_well(&rt, &rest, 3);
+    expect_same(&rt, &holders, &(true, false, !has_it));
+    ended_well(&rt, &rest, 4, 3);
     let sent = rest.sink.frames();
     took_in_order(&rt, sent.get(..1).unwrap_or(&[]), &[&ACCEPTED]);
-    let times = (times_sent(sent, &done(2)), times_sent(sent, &done(3)));
+    let granted = if has_it { done(2) } else { done(3) };
+    let times = (times_sent(sent, &granted), times_sent(sent, &done(4)));
     expect_same(&rt, &(sent.len(), times), &(3, (1, 1)));
 }

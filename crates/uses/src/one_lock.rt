@@ -1,7 +1,11 @@
 // A filesystem with one lock, whose callers wait for it without a thread.
-ghost use Rattle.std.specs.Prelude.{◌≡◌, ◌≢◌, ◌↔◌, ◌++◌, true, refl, Some, IsTrue, IsNone, slice_get};
-ghost use Rattle.std.specs.Prelude.{option_map, option_to_list, unwrap_or};
-ghost use Rattle.uses.specs.OneLock.{ComesOfWaiting, promise};
+ghost use Rattle.std.specs.Prelude.{◌≡◌, ◌≢◌, ◌↔◌, ◌++◌, ◌∷◌, [], true, refl, Some, IsTrue, IsSome, IsNone, IfErr};
+ghost use Rattle.std.specs.Prelude.{if◌then◌else◌, is_ok, length, slice_get, option_map, option_to_list, unwrap_or};
+ghost use Rattle.fuse_reply.specs.Answer.Answer.{Empty, Error};
+ghost use Rattle.fuse_reply.specs.Frame.{reply};
+ghost use Rattle.fuse_reply.specs.Late.{IsFrameFor};
+ghost use Rattle.fuse_reply.specs.declared.out.Out.TheVariants.{Frame};
+ghost use Rattle.uses.specs.OneLock.{ComesOfWaiting, ENOLCK, promise};
 
 use fuse_config::KernelConfig;
 use fuse_notify::PollNotifier;
@@ -47,10 +51,12 @@ pub struct OneLock<R> {
     desk: Mutex<Desk>,
 }
 
-/// Who holds the lock, and who waits for it, the first to come first.
+/// Who holds the lock, and who waits for it, the first to come first. Where nobody holds it nobody waits, since no call
+/// would come that answers.
 struct Desk {
     holder: Option<LockOwner>,
     waiting: VecDeque<Waiter>,
+    ghost held: { IsNone holder → length waiting.items ≡ 0 },
 }
 
 /// An owner that waits for the lock, and the reply that it waits for.
@@ -71,6 +77,17 @@ impl Desk {
         holder == owner
     }
 
+    /// Lets one more wait for the lock, which somebody holds, behind all others. Without memory for it, it comes back.
+    fn shelve(&mut self, waiter: Waiter) -> Result<(), AllocFailed<Waiter>>
+        requires held { IsSome self.old.holder }
+        ensures holder { self.new.holder ≡ self.old.holder }
+        ensures waiting { self.new.waiting.items
+            ≡ (if is_ok result then self.old.waiting.items ++ waiter ∷ [] else self.old.waiting.items) }
+        ensures refused { IfErr result (λ back. back.value ≡ waiter) }
+    {
+        self.waiting.push_back(waiter)
+    }
+
     /// Takes the lock from this owner, where it holds it, and gives it to the one that waits longest. Where none waits it
     /// is free.
     fn give_up(&mut self, owner: LockOwner) -> Option<Waiter>
@@ -88,18 +105,26 @@ impl Desk {
     }
 }
 
-/// Answers that the lock is held from now on.
-fn grant<R: Wait>(rt: &R, waiter: Waiter) {
+/// The answer that the lock is held from now on, and the token to send it by.
+fn grant(waiter: Waiter) -> (Replied, Later<()>)
+    ensures answer { result.0 ≡ Frame (reply waiter.later.id.0 Empty) }
+    ensures frame { IsFrameFor result.1.id.0 result.0 }
+    ensures token { (result.1.id ≡ waiter.later.id) × (result.1.door ≡ waiter.later.door) }
+{
     let Waiter { owner: _, later } = waiter;
     let (reply, token) = later.reply();
-    token.send_or_retire(rt, reply.ok());
+    (reply.ok(), token)
 }
 
-/// Answers that no more can wait for the lock.
-fn refuse<R: Wait>(rt: &R, waiter: Waiter) {
+/// The answer that no more can wait for the lock, and the token to send it by.
+fn refuse(waiter: Waiter) -> (Replied, Later<()>)
+    ensures answer { result.0 ≡ Frame (reply waiter.later.id.0 (Error ENOLCK)) }
+    ensures frame { IsFrameFor result.1.id.0 result.0 }
+    ensures token { (result.1.id ≡ waiter.later.id) × (result.1.door ≡ waiter.later.door) }
+{
     let Waiter { owner: _, later } = waiter;
     let (reply, token) = later.reply();
-    token.send_or_retire(rt, reply.error(Errno::ENOLCK));
+    (reply.error(Errno::ENOLCK), token)
 }
 
 impl<R: Wait> OneLock<R> {
@@ -131,8 +156,9 @@ impl<R: Wait> OneLock<R> {
         match reply.defer() {
             Ok((replied, later)) => {
                 let waiter = Waiter { owner, later };
-                if let Err(AllocFailed { value: waiter }) = desk.waiting.push_back(waiter) {
-                    refuse(&self.rt, waiter);
+                if let Err(AllocFailed { value: waiter }) = desk.shelve(waiter) {
+                    let (refused, token) = refuse(waiter);
+                    token.send_or_retire(&self.rt, refused);
                 }
                 replied
             }
@@ -146,7 +172,8 @@ impl<R: Wait> OneLock<R> {
         // The answer may have to wait for the sender: the desk is free again by then.
         let next = self.desk.lock(&self.rt).give_up(owner);
         if let Some(waiter) = next {
-            grant(&self.rt, waiter);
+            let (granted, token) = grant(waiter);
+            token.send_or_retire(&self.rt, granted);
         }
     }
 
@@ -161,7 +188,8 @@ impl<R: Wait> OneLock<R> {
             mut waiting,
         } = desk.into_inner();
         while let Some(waiter) = waiting.pop_front() {
-            refuse(&rt, waiter);
+            let (refused, token) = refuse(waiter);
+            token.send_or_retire(&rt, refused);
         }
         waiting.destroy_empty();
     }

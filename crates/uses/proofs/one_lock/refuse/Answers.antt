@@ -7,7 +7,7 @@ use Rattle.fuse_reply.proofs.LateReplies.{frame_for}
 use Rattle.uses.specs.OneLock.{ENOLCK}
 use Rattle.uses.proofs.one_lock.refuse.Goals as goal
 
-pub send_or_retire-requires : goal.send_or_retire-requires
-send_or_retire-requires g c =
+pub returns-clause-frame : goal.returns-clause-frame
+returns-clause-frame c =
     frame_for c.reply-reply.result.1.id.0 (Error ENOLCK) c.error.result
     (c.error.ensures.reply ∙ ap (λ (n : ℕ). Frame (reply n (Error ENOLCK))) c.reply-reply.ensures.id) c.error.ensures.answer
