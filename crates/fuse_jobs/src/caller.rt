@@ -1,5 +1,5 @@
 // The caller, which takes messages and hands them to workers.
-ghost use Rattle.std.specs.Prelude.{◌≡◌, ◌++◌, ◌∷◌, ℕ, List, [], true, length, MatchBool};
+ghost use Rattle.std.specs.Prelude.{◌≡◌, ◌++◌, ◌∷◌, ℕ, List, [], false, true, length, MatchBool};
 ghost use Rattle.fuse_line.specs.Hand.{with_put};
 ghost use Rattle.fuse_line.specs.declared.hand.Kind.TheVariants.{First};
 ghost use Rattle.fuse_line.specs.Tells.{IsSettled};
@@ -38,19 +38,21 @@ fn push_job<R: Wait>(
     alloc: Global,
     seq: u64,
     message: &[u8],
-    has_workers: bool,
+    worker_count: usize,
     jobs: &Line<RequestJob>,
     pass: &mut Pass<RequestJob>,
 ) -> bool
     requires request { IsRequest message.now }
     requires line { pass.old.line ≡ jobs.now }
     requires first { pass.old.hand.kind ≡ First }
+    requires workers { pass.old.hand.others ≡ worker_count }
     ensures line { pass.new.line ≡ jobs.now }
     ensures hand { MatchBool result
         (pass.new.hand ≡ with_put pass.old.hand (job_of seq message.now))
         (pass.new.hand ≡ pass.old.hand) }
+    ensures alone { pass.old.hand.others ≡ 0 → result ≡ false }
 {
-    if !has_workers {
+    if worker_count == 0 {
         return false;
     }
     match RequestJob::copied(alloc, seq, message) {
@@ -65,7 +67,7 @@ fn hand_in<R: Wait + AllocGlobal, W: Work>(
     work: &W,
     seq: u64,
     message: &[u8],
-    has_workers: bool,
+    worker_count: usize,
     jobs: &Line<RequestJob>,
     frames: &Line<Parcel>,
     caller: &mut Caller,
@@ -73,9 +75,11 @@ fn hand_in<R: Wait + AllocGlobal, W: Work>(
     requires request { IsRequest message.now }
     requires lines { CallerOn jobs.now frames.now caller.old }
     requires first { (caller.old.jobs.hand.kind ≡ First) × (caller.old.frames.hand.kind ≡ First) }
+    requires workers { caller.old.jobs.hand.others ≡ worker_count }
     ensures lines { CallerOn jobs.now frames.now caller.new }
     ensures others { (caller.new.jobs.hand.others ≡ caller.old.jobs.hand.others)
         × (caller.new.frames.hand.others ≡ caller.old.frames.hand.others) }
+    ensures alone { caller.old.jobs.hand.others ≡ 0 → caller.new.jobs.hand ≡ caller.old.jobs.hand }
     ensures caller { (ms : List (List ℕ)) → number_of (length ms) ≡ seq →
         IsCaller (answering (W.owed work.now) W.DEFERS) ms caller.old.jobs.hand caller.old.frames.hand →
         IsCaller (answering (W.owed work.now) W.DEFERS) (ms ++ message.now ∷ []) caller.new.jobs.hand
@@ -86,7 +90,7 @@ fn hand_in<R: Wait + AllocGlobal, W: Work>(
         rt.alloc(),
         seq,
         message,
-        has_workers,
+        worker_count,
         jobs,
         &mut caller.jobs,
     ) {
@@ -102,16 +106,18 @@ fn take_one<R: Wait + AllocGlobal, W: Work, S: Source>(
     work: &W,
     seq: u64,
     intake: &mut Intake<S>,
-    has_workers: bool,
+    worker_count: usize,
     jobs: &Line<RequestJob>,
     frames: &Line<Parcel>,
     caller: &mut Caller,
 ) -> Option<Stopped>
     requires lines { CallerOn jobs.now frames.now caller.old }
     requires first { (caller.old.jobs.hand.kind ≡ First) × (caller.old.frames.hand.kind ≡ First) }
+    requires workers { caller.old.jobs.hand.others ≡ worker_count }
     ensures lines { CallerOn jobs.now frames.now caller.new }
     ensures others { (caller.new.jobs.hand.others ≡ caller.old.jobs.hand.others)
         × (caller.new.frames.hand.others ≡ caller.old.frames.hand.others) }
+    ensures alone { caller.old.jobs.hand.others ≡ 0 → caller.new.jobs.hand ≡ caller.old.jobs.hand }
     ensures turn { TurnHeard (answering (W.owed work.now) W.DEFERS) seq result intake.old intake.new
         caller.old.jobs.hand caller.old.frames.hand caller.new.jobs.hand caller.new.frames.hand }
 {
@@ -125,7 +131,7 @@ fn take_one<R: Wait + AllocGlobal, W: Work, S: Source>(
         Incoming::Broken(error) => Some(Stopped::Broken(error)),
         Incoming::Destroy(id) => Some(Stopped::Destroy(seq, id)),
         Incoming::Request => {
-            hand_in(rt, work, seq, message, has_workers, jobs, frames, caller);
+            hand_in(rt, work, seq, message, worker_count, jobs, frames, caller);
             None
         }
     }
@@ -136,22 +142,24 @@ pub fn take_messages<R: Wait + AllocGlobal, W: Work, S: Source>(
     rt: &R,
     work: &W,
     intake: &mut Intake<S>,
-    has_workers: bool,
+    worker_count: usize,
     jobs: &Line<RequestJob>,
     frames: &Line<Parcel>,
     caller: &mut Caller,
 ) -> Stopped
     requires lines { CallerOn jobs.now frames.now caller.old }
     requires caller { IsCaller (answering (W.owed work.now) W.DEFERS) [] caller.old.jobs.hand caller.old.frames.hand }
+    requires workers { caller.old.jobs.hand.others ≡ worker_count }
     ensures lines { CallerOn jobs.now frames.now caller.new }
     ensures others { (caller.new.jobs.hand.others ≡ caller.old.jobs.hand.others)
         × (caller.new.frames.hand.others ≡ caller.old.frames.hand.others) }
+    ensures alone { caller.old.jobs.hand.others ≡ 0 → caller.new.jobs.hand ≡ caller.old.jobs.hand }
     ensures heard { (ms : List (List ℕ)) × Hears result ms intake.old intake.new
         × IsCaller (answering (W.owed work.now) W.DEFERS) ms caller.new.jobs.hand caller.new.frames.hand }
 {
     let mut seq: u64 = 0;
     for _ in rt.forever() {
-        match take_one(rt, work, seq, intake, has_workers, jobs, frames, caller) {
+        match take_one(rt, work, seq, intake, worker_count, jobs, frames, caller) {
             Some(stopped) => return stopped,
             None => seq = seq.saturating_add(1),
         }

@@ -15,4 +15,5 @@ pub use fuse_core::{Event, Hand, Job, LINE_PLACES, Mark, SentOut, State, run, st
 pub use fuse_loop::{
     Buffers, Channel, End, Incoming, Lines, RunEnd, Taken, Transcript, Work, run_inline,
 };
-pub use workers::{MOST_WORKERS, run_workers};
+pub use threads::MOST_WORKERS;
+pub use workers::run_workers;

@@ -21,6 +21,9 @@ use std::sync::Wait;
 use std::sync::atomic::{AtomicBool, Ordering};
 use std::thread::{Promise, PromisedHandle, Scope, Threads};
 
+/// How many workers are started at most.
+pub const MOST_WORKERS: usize = 64;
+
 /// What a worker hands back: its passes, with a prompt pushed for each job that it took.
 pub(crate) struct Serves<W> {
     work: Snapshot<W>,
@@ -136,6 +139,7 @@ pub(crate) fn start_workers<'s, E, W: Work, R: Threads + Wait + AllocGlobal + Sy
     requires lines { CallerOn jobs.now frames.now caller.old }
     requires caller { IsCaller (answering (W.owed work.now) W.DEFERS) [] caller.old.jobs.hand caller.old.frames.hand }
     requires room { length flags.now ≤ vec_capacity workers.old - vec_len workers.old }
+    requires few { length flags.now ≤ MOST_WORKERS }
     requires promises { All (λ h. PromisesFor work.now jobs.now frames.now h.promise) workers.old.items }
     ensures lines { CallerOn jobs.now frames.now caller.new }
     ensures caller { IsCaller (answering (W.owed work.now) W.DEFERS) [] caller.new.jobs.hand caller.new.frames.hand }

@@ -25,7 +25,7 @@ ghost use Rattle.fuse_jobs.specs.Answered.{IsCaller};
 ghost use Rattle.fuse_loop.specs.Answering.{answering};
 
 use crate::lent::{LentEnds, take_back};
-use crate::threads::{Worker, join_workers, start_sender, start_workers};
+use crate::threads::{MOST_WORKERS, Worker, join_workers, start_sender, start_workers};
 use fuse_book::Book;
 use fuse_jobs::{Caller, answer_last, answer_rest, take_messages};
 use fuse_line::Line;
@@ -40,9 +40,6 @@ use std::sync::atomic::{AtomicBool, Ordering};
 use std::sync::{Arc, Wait};
 use std::thread;
 use std::thread::{Scope, Threads};
-
-/// How many workers are started at most.
-pub const MOST_WORKERS: usize = 64;
 
 /// The ends of a run, the first passes of its lines, and the mark of its end.
 struct Ends<S: Source, K: Sink> {
@@ -77,6 +74,7 @@ fn answer_all<'s, E, W: Work, S: Source, R: Threads + Wait + AllocGlobal + Sync>
     requires caller { IsCaller (answering (W.owed work.now) W.DEFERS) [] caller.old.jobs.hand caller.old.frames.hand }
     requires others { (caller.old.jobs.hand.others ≡ 0) × (caller.old.frames.hand.others ≡ 1) }
     requires workers { (workers.items ≡ []) × (length flags.now ≤ vec_capacity workers) }
+    requires few { length flags.now ≤ MOST_WORKERS }
     requires unmarked { ending.old.set ≡ None }
     ensures lines { CallerOn jobs.now frames.now caller.new }
     ensures others { (caller.new.jobs.hand.others ≡ 0) × (caller.new.frames.hand.others ≡ 1) }
@@ -87,8 +85,8 @@ fn answer_all<'s, E, W: Work, S: Source, R: Threads + Wait + AllocGlobal + Sync>
         caller.new.jobs.hand caller.new.frames.hand }
 {
     start_workers(scope, rt, work, jobs, frames, flags, caller, &mut workers);
-    let has_workers = !workers.is_empty();
-    let stopped = take_messages(rt, work, intake, has_workers, jobs, frames, caller);
+    let worker_count = workers.len();
+    let stopped = take_messages(rt, work, intake, worker_count, jobs, frames, caller);
     raise(flags);
     jobs.wake();
     join_workers(rt, work, jobs, frames, caller, workers);
@@ -159,6 +157,7 @@ fn conduct<
     requires lines { CallerOn jobs.now frames.now lent.caller }
     requires hands { (lent.caller.jobs.hand ≡ hand First 0 [] []) × (lent.caller.frames.hand ≡ hand First 0 [] []) }
     requires workers { (workers.items ≡ []) × (length flags.now ≤ vec_capacity workers) }
+    requires few { length flags.now ≤ MOST_WORKERS }
     requires unmarked { lent.ending.set ≡ None }
     ensures same { (result.1.intake.ghost_name ≡ lent.entry.intake.ghost_name)
         × (result.1.relay.ghost_name ≡ lent.entry.relay.ghost_name) }
@@ -230,6 +229,7 @@ fn run_in_scope<'a, W: Work, S: Source, K: Sink + Send, R: Threads + Wait + Allo
     requires lines { CallerOn jobs.now frames.now lent.caller }
     requires hands { (lent.caller.jobs.hand ≡ hand First 0 [] []) × (lent.caller.frames.hand ≡ hand First 0 [] []) }
     requires workers { (workers.items ≡ []) × (length flags.now ≤ vec_capacity workers) }
+    requires few { length flags.now ≤ MOST_WORKERS }
     requires unmarked { lent.ending.set ≡ None }
     ensures same { (result.1.intake.ghost_name ≡ lent.entry.intake.ghost_name)
         × (result.1.relay.ghost_name ≡ lent.entry.relay.ghost_name) }
@@ -250,6 +250,7 @@ fn run_in_scope<'a, W: Work, S: Source, K: Sink + Send, R: Threads + Wait + Allo
             requires hands { (lent.caller.jobs.hand ≡ hand First 0 [] [])
                 × (lent.caller.frames.hand ≡ hand First 0 [] []) }
             requires workers { (workers.items ≡ []) × (length flags.now ≤ vec_capacity workers) }
+            requires few { length flags.now ≤ MOST_WORKERS }
             requires unmarked { lent.ending.set ≡ None }
             ensures same { (result.1.intake.ghost_name ≡ lent.entry.intake.ghost_name)
                 × (result.1.relay.ghost_name ≡ lent.entry.relay.ghost_name) }
@@ -282,7 +283,7 @@ fn room_for<W: Work>(
     alloc: Global,
     count: usize,
 ) -> Result<(Vec<AtomicBool>, Vec<Worker<W>>), NoMemory>
-    ensures { IfOk result (λ r. (r.1.items ≡ []) × (vec_len r.0 ≤ vec_capacity r.1)) }
+    ensures { IfOk result (λ r. (r.1.items ≡ []) × (vec_len r.0 ≤ vec_capacity r.1) × (vec_len r.0 ≤ count)) }
 {
     let flags = lowered(alloc, count)?;
     let workers = Vec::with_capacity(alloc, count)?;
@@ -299,6 +300,7 @@ fn run_with<S: Source, K: Sink + Send, W: Work, R: Threads + Wait + AllocGlobal 
     ends: Ends<S, K>,
 ) -> (Stopped, Ends<S, K>)
     requires lines { CallerOn jobs.now frames.now ends.caller }
+    requires few { count ≤ MOST_WORKERS }
     requires hands { (ends.caller.jobs.hand ≡ hand First 0 [] []) × (ends.caller.frames.hand ≡ hand First 0 [] []) }
     requires unmarked { ends.ending.set ≡ None }
     ensures lines { CallerOn jobs.now frames.now result.1.caller }
@@ -422,6 +424,7 @@ fn run_on<W: Work, S: Source, K: Sink + Send, R: Threads + Wait + AllocGlobal + 
     ends: Ends<S, K>,
 ) -> RunEnd<S, K>
     requires lines { CallerOn (arc_value jobs) (arc_value frames) ends.caller }
+    requires few { count ≤ MOST_WORKERS }
     requires hands { (ends.caller.jobs.hand ≡ hand First 0 [] []) × (ends.caller.frames.hand ≡ hand First 0 [] []) }
     requires nothing { (ends.intake.received ≡ 0) × (ends.relay.outlet.counts ≡ nothing_yet) }
     requires book { IsBookOf ends.relay.book [] [] [] }
@@ -450,7 +453,8 @@ fn run_on<W: Work, S: Source, K: Sink + Send, R: Threads + Wait + AllocGlobal + 
 /// started, it answers and sends all.
 ///
 /// Replies are sent in any order, but the reply to DESTROY after all others that are given at once. A reply that comes
-/// later is sent once its mark, which went out in its place, has come to whoever sends.
+/// later is sent once its mark, which went out in its place, has come to whoever sends; where that is the caller, which
+/// receives too, it looks for such replies once it has answered the next message.
 pub fn run_workers<R: Threads + Wait + AllocGlobal + Sync, W: Work, S: Source, K: Sink + Send>(
     rt: &R,
     work: &W,

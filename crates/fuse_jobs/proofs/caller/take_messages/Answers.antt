@@ -10,7 +10,7 @@ use Rattle.fuse_sender.proofs.Hearing.{HearsLast-then, HearsOn-none, HearsOn-the
 use Rattle.fuse_jobs.proofs.caller.take_messages.Goals as goal
 
 pub loop-init : goal.loop-init
-loop-init g c = (c.requires.lines.0, c.requires.lines.1, refl, refl, [], refl, HearsOn-none _, c.requires.caller, c.requires.lines.2)
+loop-init g c = (c.requires.lines.0, c.requires.lines.1, refl, refl, [], refl, HearsOn-none _, c.requires.caller, c.requires.lines.2, λ none. refl)
 
 pub returns-in-Some-take_one-clause-heard : goal.returns-in-Some-take_one-clause-heard
 returns-in-Some-take_one-clause-heard g c =
@@ -39,4 +39,7 @@ loop-preserved g c =
       HearsOn-then ms (next.0 ∷ []) _ _ _ so_far.6 next.1,
       next.2,
       c.take_one.ensures.lines.2,
+      λ none.
+          let before = sym c.take_one.ensures.others.0 ∙ none in
+          c.take_one.ensures.alone before ∙ so_far.9 before,
     )

@@ -13,3 +13,4 @@ invariant-loop g l =
     × (ms : List (List ℕ)) × (number_of (length ms) ≡ l.seq) × HearsOn ms l.fn.intake l.intake
     × IsCaller (answering (g.W.Work.owed l.work) g.W.Work.DEFERS) ms l.caller.jobs.hand l.caller.frames.hand
     × (l.caller.answerer.notifier.line ≡ l.frames)
+    × (l.caller.jobs.hand.others ≡ 0 → l.caller.jobs.hand ≡ l.fn.caller.jobs.hand)
