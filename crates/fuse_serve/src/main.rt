@@ -2,8 +2,8 @@
 //! send to it, or serves these from memory and says what that came to.
 #![tactic(auto)]
 
-ghost use Rattle.std.specs.Prelude.{◌≡◌, ◌↔◌, map};
-ghost use Rattle.fuse_program.specs.Form.{IsNoForm};
+ghost use Rattle.std.specs.Prelude.{◌≡◌, ◌↔◌, IfNone, IfSome, map};
+ghost use Rattle.fuse_program.specs.Form.{IsNoForm, form_of};
 ghost use Rattle.fuse_program.specs.Status.{IsExit};
 
 #[cfg(test)]
@@ -40,7 +40,10 @@ use std::{env, io};
 const READ_AHEAD: usize = 65536;
 
 /// How many are for these words: none where the input is not read, so that no memory is asked for.
-fn read_ahead(words: &[&[u8]]) -> usize {
+fn read_ahead(words: &[&[u8]]) -> usize
+    ensures read { IfSome (form_of (map (λ word. word.now) words.now)) (λ form. result ≡ 65536) }
+    ensures unread { IfNone (form_of (map (λ word. word.now) words.now)) (result ≡ 0) }
+{
     match serve_form(words) {
         Some(_) => READ_AHEAD,
         None => 0,
