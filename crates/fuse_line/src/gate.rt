@@ -101,32 +101,61 @@ impl Drop for Waiting<'_> {
 }
 
 #[cfg(test)]
+impl Gate {
+    /// How many threads are about to sleep, and how often those were woken.
+    pub(crate) fn counts(&self) -> (u64, u64) {
+        (
+            self.waiting.load(Ordering::SeqCst),
+            self.woken.load(Ordering::SeqCst),
+        )
+    }
+
+    /// From here on it is as if those that wait had been woken so often.
+    pub(crate) fn set_woken(&self, woken: u64) {
+        self.woken.store(woken, Ordering::SeqCst);
+    }
+
+    /// Rests until a move wakes this thread, and tells how often. It is 0 where a hundred rests are too few.
+    pub(crate) fn rests_until_counted<R: Wait>(&self, rt: &R, waiting: &mut Waiting<'_>) -> u32 {
+        for rests in 1..=100 {
+            waiting.rest(rt);
+            if self.is_waited_at() {
+                return rests;
+            }
+        }
+        0
+    }
+}
+
+#[cfg(test)]
 mod tests {
     use super::*;
+    use crate::tests::expect_same;
     use std::test::*;
-
-    // Rests until this thread is one of those that a move wakes.
-    fn rest_until_counted<R: Wait>(rt: &R, waiting: &mut Waiting<'_>) {
-        for _ in 0..=TRIES {
-            waiting.rest(rt);
-        }
-    }
 
     #[test]
     fn counts_those_that_wait_and_wakes_them(rt: HostRuntime) {
         let gate = Gate::new();
-        let mut waiting = gate.wait();
-        rest_until_counted(&rt, &mut waiting);
-        let counted = gate.waiting.load(Ordering::SeqCst);
         gate.wake();
+        let nobody = gate.counts();
+        let mut waiting = gate.wait();
+        let rests = gate.rests_until_counted(&rt, &mut waiting);
+        gate.wake();
+        let woken = gate.counts();
         waiting.rest(&rt);
-        let woken = gate.waiting.load(Ordering::SeqCst);
-        rest_until_counted(&rt, &mut waiting);
-        let again = gate.waiting.load(Ordering::SeqCst);
+        let rested = gate.counts();
+        let more_rests = gate.rests_until_counted(&rt, &mut waiting);
+        let again = gate.counts();
         drop(waiting);
-        let gone = gate.waiting.load(Ordering::SeqCst);
+        let gone = gate.counts();
         drop(gate.wait());
-        let never = gate.waiting.load(Ordering::SeqCst);
-        assert_eq!(rt; [counted, woken, again, gone, never], [1, 0, 1, 0, 0]);
+        let never = gate.counts();
+        expect_same(&rt, &[rests, more_rests], &[33, 33]);
+        let found = [nobody, woken, rested, again, gone, never];
+        expect_same(
+            &rt,
+            &found,
+            &[(0, 0), (1, 1), (0, 1), (1, 1), (0, 1), (0, 1)],
+        );
     }
 }

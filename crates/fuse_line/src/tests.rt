@@ -1,5 +1,5 @@
-ghost use Rattle.std.specs.Prelude.{◌≡◌, ◌<◌};
-ghost use Rattle.fuse_line.specs.declared.hand.Kind.TheVariants.{First, Inner};
+ghost use Rattle.std.specs.Prelude.{◌≡◌, ◌<◌, false};
+ghost use Rattle.fuse_line.specs.declared.hand.Kind.TheVariants.{Door, First, Inner};
 
 use crate::gate::Gate;
 use crate::*;
@@ -11,7 +11,7 @@ use std::thread;
 use std::time::{Clock, Duration};
 
 /// The two are equal.
-fn expect_same<T: PartialEq + Debug>(rt: &impl Abort, found: &T, expected: &T) {
+pub(crate) fn expect_same<T: PartialEq + Debug>(rt: &impl Abort, found: &T, expected: &T) {
     assert_eq!(rt; *found, *expected);
 }
 
@@ -33,6 +33,15 @@ fn job(number: u64) -> Item {
     Item {
         number,
         inner: true,
+    }
+}
+
+fn note(number: u64) -> Item
+    ensures { result.inner ≡ false }
+{
+    Item {
+        number,
+        inner: false,
     }
 }
 
@@ -63,17 +72,25 @@ fn keeps_two_in_order_and_gives_back_the_third(rt: HostRuntime) {
 }
 
 #[test]
+fn is_empty_but_between_a_push_and_its_pop(rt: HostRuntime) {
+    let (line, mut pass) = line_of(&rt, 1);
+    let before = line.is_empty(&mut pass);
+    let pushed = line.push(&rt, &mut pass, job(1)).is_ok();
+    let between = line.is_empty(&mut pass);
+    let popped = line.pop(&rt, &mut pass).is_some();
+    let after = line.is_empty(&mut pass);
+    expect_same(&rt, &[pushed, popped], &[true, true]);
+    expect_same(&rt, &[before, between, after], &[true, false, true]);
+}
+
+#[test]
 fn splits_passes_off_and_joins_them(rt: HostRuntime) {
     let (line, mut first) = line_of(&rt, 2);
     let mut inner = line.split(&mut first, false);
     let mut door = line.split(&mut first, true);
     let mut other = line.split(&mut door, true);
-    let note = Item {
-        number: 7,
-        inner: false,
-    };
     let pushed = [
-        line.push(&rt, &mut other, note),
+        line.push(&rt, &mut other, note(7)),
         line.push(&rt, &mut inner, job(8)),
     ];
     line.join(&mut door, other);
@@ -81,7 +98,7 @@ fn splits_passes_off_and_joins_them(rt: HostRuntime) {
     line.join(&mut first, inner);
     let left = [line.pop(&rt, &mut first), line.pop(&rt, &mut first)];
     expect_same(&rt, &pushed, &[Ok(()), Ok(())]);
-    expect_same(&rt, &(popped, left), &(Some(note), [Some(job(8)), None]));
+    expect_same(&rt, &(popped, left), &(Some(note(7)), [Some(job(8)), None]));
 }
 
 #[test]
@@ -178,40 +195,58 @@ fn sleeps_at<R: Clock>(rt: &R, gate: &Gate) -> bool {
 fn a_pop_sleeps_until_an_item_comes(rt: HostRuntime) {
     let (line, mut pass) = line_of(&rt, 1);
     let mut taker = line.split(&mut pass, false);
+    let mut door = line.split(&mut pass, true);
     let stop = AtomicBool::new(false);
-    let (slept, found) = thread::join(
+    let (pushed, popped) = thread::join(
         &rt,
         ||
-            requires { (pass.line ≡ line) × (pass.hand.kind ≡ First) }
+            requires pass { (pass.line ≡ line) × (pass.hand.kind ≡ First) }
+            requires door { (door.line ≡ line) × (door.hand.kind ≡ Door) }
         {
-            let slept = sleeps_at(&rt, &line.items);
-            (slept, line.push(&rt, &mut pass, job(1)))
+            let for_job = sleeps_at(&rt, &line.items);
+            let job_pushed = line.push(&rt, &mut pass, job(1)).is_ok();
+            let for_note = sleeps_at(&rt, &line.items);
+            let note_pushed = line.push(&rt, &mut door, note(2)).is_ok();
+            [for_job, job_pushed, for_note, note_pushed]
         },
         ||
             requires { (taker.line ≡ line) × (taker.hand.kind ≡ Inner) }
-        { line.pop_waiting(&rt, &mut taker, &stop) },
+        {
+            [
+                line.pop_waiting(&rt, &mut taker, &stop),
+                line.pop_waiting(&rt, &mut taker, &stop),
+            ]
+        },
     );
-    expect_same(&rt, &(slept, found), &((true, Ok(())), Some(job(1))));
+    let expected = ([true; 4], [Some(job(1)), Some(note(2))]);
+    expect_same(&rt, &(pushed, popped), &expected);
 }
 
 #[test]
 fn a_push_sleeps_until_a_place_comes(rt: HostRuntime) {
     let (line, mut pass) = line_of(&rt, 1);
     let mut taker = line.split(&mut pass, false);
-    let pushed = line.push(&rt, &mut pass, job(1));
-    let (slept, ()) = thread::join(
+    let pushed = line.push(&rt, &mut pass, note(1)).is_ok();
+    let (popped, ()) = thread::join(
         &rt,
         ||
             requires { (taker.line ≡ line) × (taker.hand.kind ≡ Inner) }
         {
-            let slept = sleeps_at(&rt, &line.places);
-            (slept, line.pop(&rt, &mut taker))
+            let for_note = sleeps_at(&rt, &line.places);
+            let note_popped = line.pop(&rt, &mut taker);
+            let for_job = sleeps_at(&rt, &line.places);
+            let job_popped = line.pop(&rt, &mut taker);
+            [(for_note, note_popped), (for_job, job_popped)]
         },
         ||
             requires { (pass.line ≡ line) × (pass.hand.kind ≡ First) }
-        { line.push_waiting(&rt, &mut pass, job(2)) },
+        {
+            line.push_waiting(&rt, &mut pass, job(2));
+            line.push_waiting(&rt, &mut pass, job(3));
+        },
     );
-    expect_same(&rt, &(pushed, slept), &(Ok(()), (true, Some(job(1)))));
+    let expected = [(true, Some(note(1))), (true, Some(job(2)))];
+    expect_same(&rt, &(pushed, popped), &(true, expected));
 }
 
 #[test]
@@ -232,4 +267,63 @@ fn a_pop_sleeps_until_its_flag_is_up(rt: HostRuntime) {
         { line.pop_waiting(&rt, &mut taker, &stop) },
     );
     expect_same(&rt, &(slept, found), &(true, None));
+}
+
+// Rests until the flag is up.
+fn rest_until<R: Wait>(rt: &R, mut waiting: Waiting<'_>, stop: &AtomicBool) {
+    for _ in rt.forever() {
+        if stop.load(Ordering::SeqCst) {
+            return;
+        }
+        waiting.rest(rt);
+    }
+}
+
+// The gate counts its wakes in 64 bits, and a thread sleeps on 32 of them.
+#[test]
+fn a_wait_for_a_place_sleeps_until_its_flag_is_up_after_any_wakes(rt: HostRuntime) {
+    let (line, _pass) = line_of(&rt, 1);
+    for woken in [0, 1 << 16, (1 << 32) + 5] {
+        line.places.set_woken(woken);
+        let stop = AtomicBool::new(false);
+        let (slept, ()): (bool, ()) = thread::join(
+            &rt,
+            || {
+                let slept = sleeps_at(&rt, &line.places);
+                stop.store(true, Ordering::SeqCst);
+                line.wake();
+                slept
+            },
+            || rest_until(&rt, line.wait_for_place(), &stop),
+        );
+        expect_same(&rt, &(woken, slept), &(woken, true));
+    }
+}
+
+// How often those that wait for an item were woken, and those that wait for a place.
+fn wakes(line: &Line<Item>) -> (u64, u64) {
+    (line.items.counts().1, line.places.counts().1)
+}
+
+#[test]
+fn a_move_wakes_and_a_refusal_does_not(rt: HostRuntime) {
+    let (line, mut pass) = line_of(&rt, 1);
+    let mut for_item = line.wait_for_item();
+    line.items.rests_until_counted(&rt, &mut for_item);
+    let mut for_place = line.wait_for_place();
+    line.places.rests_until_counted(&rt, &mut for_place);
+    let found = [
+        (line.push(&rt, &mut pass, job(1)).is_ok(), wakes(&line)),
+        (line.push(&rt, &mut pass, job(2)).is_ok(), wakes(&line)),
+        (line.pop(&rt, &mut pass).is_some(), wakes(&line)),
+        (line.pop(&rt, &mut pass).is_some(), wakes(&line)),
+    ];
+    line.wake();
+    let expected = [
+        (true, (1, 0)),
+        (false, (1, 0)),
+        (true, (1, 1)),
+        (false, (1, 1)),
+    ];
+    expect_same(&rt, &(found, wakes(&line)), &(expected, (2, 2)));
 }
