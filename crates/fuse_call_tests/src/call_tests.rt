@@ -1,43 +1,17 @@
 // What reaches a filesystem of each message, and what the message gets where the filesystem wants nothing of its own.
 use crate::asserts::expect_same;
-use crate::every_call::{Call, Reply, Row, asker, frame_of, message_of};
+use crate::every_call::{Call, Row, asker};
 use crate::file_calls::files;
 use crate::node_calls::nodes;
 use crate::recording::{Recorded, Recording};
+use crate::row_sessions::{frames_of, id_at, notes_of, source_of_rows};
 use fuse_config::{Config, SessionACL};
 use fuse_probing::Probing;
-use fuse_probing::test_messages::{ACCEPTED, INIT_7_8};
 use fuse_session::{Ended, mount};
-use fuse_wire::{Items, MemorySink, MemorySource, RequestId, Turn};
+use fuse_wire::{MemorySink, MemorySource};
 use std::process::Abort;
 use std::sync::Wait;
 use std::thread::Threads;
-
-/// The lowest byte of the id of the message of a row.
-fn id_at(place: usize) -> u8 {
-    place.min(200) as u8 + 2
-}
-
-/// A source of INIT and the messages of these rows.
-fn source_of_rows<R: AllocGlobal + Abort>(rt: &R, rows: &[Row]) -> MemorySource {
-    let mut turns = Vec::new(rt.alloc());
-    put_turn(rt, &mut turns, copied(rt, &INIT_7_8));
-    for (place, row) in rows.iter().enumerate() {
-        put_turn(rt, &mut turns, message_of(rt, row, id_at(place)));
-    }
-    MemorySource::new(turns)
-}
-
-/// These bytes in memory of their own.
-fn copied<R: AllocGlobal + Abort>(rt: &R, bytes: &[u8]) -> Vec<u8> {
-    bytes.to_vec(rt.alloc()).expect(rt, "there is memory")
-}
-
-/// Puts a turn of this message at the end.
-fn put_turn(rt: &impl Abort, turns: &mut Vec<Turn>, message: Vec<u8>) {
-    let turn = Turn::Message(Items::from_vec(message));
-    turns.push(turn).expect(rt, "there is memory");
-}
 
 /// What was recorded is this call of the request with this lowest byte of its id.
 fn is_call(rt: &impl Abort, recorded: &Recorded, id: u8, call: &Call) {
@@ -78,39 +52,9 @@ fn reached(rt: &impl Abort, recorded: &[Recorded], rows: &[Row]) {
     expect_same(rt, &found, &("destroy", next.saturating_add(1)));
 }
 
-/// The frames that the sink takes for INIT and the messages of these rows.
-fn frames_of<R: AllocGlobal + Abort>(rt: &R, rows: &[Row]) -> Vec<Items<u8>> {
-    let mut frames = Vec::new(rt.alloc());
-    put(rt, &mut frames, copied(rt, &ACCEPTED));
-    for (place, row) in rows.iter().enumerate() {
-        if let Some(frame) = frame_of(rt, row.reply, id_at(place)) {
-            put(rt, &mut frames, frame);
-        }
-    }
-    frames
-}
-
-/// Puts a frame of these bytes at the end.
-fn put(rt: &impl Abort, frames: &mut Vec<Items<u8>>, bytes: Vec<u8>) {
-    let frame = Items::from_vec(bytes);
-    frames.push(frame).expect(rt, "there is memory");
-}
-
-/// The notes that it takes for them.
-fn notes_of<R: AllocGlobal + Abort>(rt: &R, rows: &[Row]) -> Vec<(RequestId, u64)> {
-    let mut notes = Vec::new(rt.alloc());
-    for (place, row) in rows.iter().enumerate() {
-        if let Reply::Note = row.reply {
-            let note = (RequestId(asker(id_at(place)).0), 0);
-            notes.push(note).expect(rt, "there is memory");
-        }
-    }
-    notes
-}
-
 /// The sink took the frames and the notes of INIT and these rows, and no other.
 fn replied<R: AllocGlobal + Abort>(rt: &R, sink: &MemorySink, rows: &[Row]) {
-    let frames = frames_of(rt, rows);
+    let frames = frames_of(rt, rows, None);
     let notes = notes_of(rt, rows);
     expect_same(rt, &sink.frames(), &frames.as_slice());
     expect_same(rt, &sink.notes(), &notes.as_slice());
