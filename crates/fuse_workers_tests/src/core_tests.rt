@@ -108,9 +108,13 @@ fn notice<R: Wait + AllocGlobal + Abort>(rt: &R) -> Option<NoticeFrame> {
     notice_of(parcel)
 }
 
-/// What a worker or the sender does by a letter, a capital one that of the second worker.
-fn step_of<R: AllocGlobal>(rt: &R, letter: u8) -> Event {
-    let hand = usize::from(letter.is_ascii_uppercase());
+/// What a worker or the sender does by a letter, a capital one that of the last worker, where there are several.
+fn step_of<R: AllocGlobal>(rt: &R, workers: usize, letter: u8) -> Event {
+    let hand = if letter.is_ascii_uppercase() {
+        workers.saturating_sub(1).max(1)
+    } else {
+        0
+    };
     let (seq, id) = tag_of(letter);
     match letter {
         b't' | b'T' => Event::Take(hand),
@@ -121,8 +125,8 @@ fn step_of<R: AllocGlobal>(rt: &R, letter: u8) -> Event {
     }
 }
 
-/// The event that a letter stands for.
-fn event<R: Wait + AllocGlobal + Abort>(rt: &R, letter: u8) -> Event {
+/// The event that a letter stands for, with so many workers.
+fn event<R: Wait + AllocGlobal + Abort>(rt: &R, workers: usize, letter: u8) -> Event {
     let (seq, id) = tag_of(letter);
     match letter {
         b'r' => Event::Receive(message(rt)),
@@ -130,15 +134,15 @@ fn event<R: Wait + AllocGlobal + Abort>(rt: &R, letter: u8) -> Event {
         b'b' => Event::Own(Items::from_vec(Vec::new(rt.alloc())), out_of(rt, letter)),
         b'l' | b'L' | b'M' => Event::Late(late(rt, seq, id).expect(rt, "the frame waits")),
         b'n' => Event::Notify(notice(rt).expect(rt, "the notice waits")),
-        _ => step_of(rt, letter),
+        _ => step_of(rt, workers, letter),
     }
 }
 
-fn events_of<R: Wait + AllocGlobal + Abort>(rt: &R, letters: &[u8]) -> Vec<Event> {
+fn events_of<R: Wait + AllocGlobal + Abort>(rt: &R, workers: usize, letters: &[u8]) -> Vec<Event> {
     let mut events = Vec::new(rt.alloc());
     for letter in letters {
         events
-            .push(event(rt, *letter))
+            .push(event(rt, workers, *letter))
             .expect(rt, "there is memory");
     }
     events
@@ -180,7 +184,7 @@ const PROMPT: &[Row] = &[
     ("rtapns", Some([1, 0, 1, 1, 0, 0, 0])),
 ];
 
-/// Two workers.
+/// Two workers, or the first and the last of more.
 const TWO: &[Row] = &[
     ("rrtT", Some([2, 0, 0, 0, 0, 0, 0])),
     ("rtT", None),
@@ -270,7 +274,7 @@ fn start<R: AllocGlobal + Abort>(rt: &R, workers: usize) -> State {
 
 /// What is seen after a run of the events of these letters from there.
 fn once_run<R: Wait + AllocGlobal + Abort>(rt: &R, workers: usize, letters: &[u8]) -> Option<Seen> {
-    let events = events_of(rt, letters);
+    let events = events_of(rt, workers, letters);
     let start = start(rt, workers);
     let reached = run(rt.alloc(), &start, &events).expect(rt, "there is memory");
     drop(start);
@@ -282,7 +286,7 @@ fn once_run<R: Wait + AllocGlobal + Abort>(rt: &R, workers: usize, letters: &[u8
 
 /// What is seen after a step by the event of this letter from there.
 fn once_stepped<R: Wait + AllocGlobal + Abort>(rt: &R, letter: u8) -> Option<Seen> {
-    let event = event(rt, letter);
+    let event = event(rt, 1, letter);
     let start = start(rt, 1);
     let stepped = step(rt.alloc(), &start, &event).expect(rt, "there is memory");
     drop(start);
@@ -306,6 +310,7 @@ fn events_happen_where_they_may(rt: HostRuntime) {
     expect_rows(&rt, 1, MARKS);
     expect_rows(&rt, 1, LATE);
     expect_rows(&rt, 2, TWO);
+    expect_rows(&rt, 64, TWO);
 }
 
 #[test]

@@ -1,14 +1,17 @@
 // Runs whose replies come later, by threads of the tests' own.
 use crate::asserts::expect_same;
 use crate::deferring::{Deferring, Plan, Tally};
-use crate::devices::{Counter, MOST_TURNS, WatchedSink, new_counter, share};
+use crate::devices::{Counter, MOST_TURNS, Pace, PacedSource, WatchedSink, new_counter, share};
 use crate::frames::Said;
-use crate::runs::{Became, counts, outcome_of};
-use crate::turns::{Piece, source_of};
+use crate::runs::{Became, counts, line_of, outcome_of};
+use crate::turns::Piece;
+use fuse_line::Line;
+use fuse_reply::Parcel;
 use fuse_workers::{Buffers, RunEnd, run_workers};
+use std::alloc::Global;
 use std::process::Abort;
-use std::sync::Wait;
 use std::sync::atomic::Ordering;
+use std::sync::{Arc, Wait};
 use std::thread;
 use std::thread::Threads;
 
@@ -32,6 +35,8 @@ struct Setup {
     workers: usize,
     /// How many threads answer late.
     threads: u64,
+    /// When the messages come.
+    pace: Pace,
     /// Whether the sink holds its frames back until a late one found the line full.
     is_held_back: bool,
 }
@@ -67,9 +72,11 @@ const ROWS: &[Row] = &[
                 most_turns: 1_000_000,
                 least: 0,
                 quota: 1,
+                delay: 0,
             },
             workers: 2,
             threads: 1,
+            pace: Pace::Free,
             is_held_back: false,
         },
         received: 2,
@@ -91,9 +98,11 @@ const ROWS: &[Row] = &[
                 most_turns: 1_000_000,
                 least: 0,
                 quota: 2,
+                delay: 0,
             },
             workers: 2,
             threads: 1,
+            pace: Pace::Free,
             is_held_back: false,
         },
         received: 3,
@@ -116,9 +125,11 @@ const ROWS: &[Row] = &[
                 most_turns: MOST_TURNS,
                 least: 0,
                 quota: HALF,
+                delay: 0,
             },
             workers: 2,
             threads: 4,
+            pace: Pace::Free,
             is_held_back: false,
         },
         received: MANY + 1,
@@ -140,9 +151,11 @@ const ROWS: &[Row] = &[
                 most_turns: 0,
                 least: 0,
                 quota: 0,
+                delay: 0,
             },
             workers: 2,
             threads: 1,
+            pace: Pace::Free,
             is_held_back: false,
         },
         received: 10,
@@ -165,9 +178,11 @@ const ROWS: &[Row] = &[
                 most_turns: MOST_TURNS,
                 least: 65,
                 quota: 1,
+                delay: 0,
             },
             workers: 0,
             threads: 1,
+            pace: Pace::Free,
             is_held_back: true,
         },
         received: 67,
@@ -178,7 +193,37 @@ const ROWS: &[Row] = &[
         sent: 1,
         closed: 64,
     },
+    // A late frame wakes whoever sends: each message comes once the one frame of the one before it was sent, which comes some
+    // turns after its mark.
+    Row {
+        setup: Setup {
+            turns: &[Piece::Requests(0, 10)],
+            plan: Plan {
+                prompt: NO_ID,
+                held: NO_ID,
+                awaited: 0,
+                most_turns: 0,
+                least: 0,
+                quota: u64::MAX,
+                delay: 200,
+            },
+            workers: 2,
+            threads: 1,
+            pace: Pace::ByFrame,
+            is_held_back: false,
+        },
+        received: 10,
+        replied: 10,
+        first: 0x3ff,
+        known: u64::MAX,
+        other: 0,
+        sent: 10,
+        closed: 0,
+    },
 ];
+
+/// What becomes of a run, with its line of frames, and whether nobody else has a share of that of jobs.
+type Left = (Became, Arc<Line<Parcel>, Global>, bool);
 
 /// What becomes of the run of this work.
 fn run_work<R: Threads + Wait + AllocGlobal + Abort + Sync>(
@@ -186,9 +231,9 @@ fn run_work<R: Threads + Wait + AllocGlobal + Abort + Sync>(
     work: &Deferring,
     setup: Setup,
     full: &Counter,
-) -> Became {
+) -> Left {
     let sink = WatchedSink::new(rt, share(rt, full), u64::from(setup.is_held_back));
-    let source = source_of(rt, setup.turns);
+    let source = PacedSource::new(rt, setup.turns, setup.pace, &sink);
     let buffers = Buffers::new(rt.alloc()).expect(rt, "there is memory");
     let RunEnd {
         end,
@@ -197,9 +242,11 @@ fn run_work<R: Threads + Wait + AllocGlobal + Abort + Sync>(
         sink,
         buffers,
     } = run_workers(rt, work, source, sink, buffers, setup.workers);
-    drop(buffers);
     drop(source);
-    outcome_of(rt, &end, transcript, sink.inner.frames())
+    let became = outcome_of(rt, &end, transcript, sink.inner.frames());
+    drop(sink);
+    let (line, is_alone) = line_of(buffers);
+    (became, line, is_alone)
 }
 
 /// The same, while the threads answer late.
@@ -208,26 +255,29 @@ fn run_beside<R: Threads + Wait + AllocGlobal + Abort + Sync>(
     work: &Deferring,
     setup: Setup,
     full: &Counter,
-) -> Became {
+) -> Left {
     thread::scope(thread::scope_env(), rt, |scope| {
         for seed in 1..=setup.threads {
             let _ = scope.spawn(move || work.answer_later(rt, seed));
         }
-        let became = run_work(rt, work, setup, full);
+        let left = run_work(rt, work, setup, full);
         work.end();
-        became
+        left
     })
 }
 
-/// What becomes of a run, and of its late replies, and whether one of these found the line full.
+/// What becomes of a run, and of its late replies, and whether one of these found the line full. Once all were answered
+/// nobody else has a share of its lines.
 fn run_later<R: Threads + Wait + AllocGlobal + Abort + Sync>(
     rt: &R,
     setup: Setup,
 ) -> (Became, Tally, bool) {
     let full = new_counter(rt);
     let work = Deferring::new(rt.alloc(), setup.plan, share(rt, &full));
-    let became = run_beside(rt, &work, setup, &full);
+    let (became, line, is_alone) = run_beside(rt, &work, setup, &full);
     let tally = work.finish(rt, became.transcript.received);
+    let are_whole = Arc::into_inner(line).is_some() && is_alone;
+    expect_same(rt, &(setup.workers, are_whole), &(setup.workers, true));
     (became, tally, full.load(Ordering::SeqCst) > 0)
 }
 
@@ -274,6 +324,7 @@ fn replies_come_while_the_run_ends(rt: HostRuntime) {
         most_turns: 0,
         least: 0,
         quota: u64::MAX,
+        delay: 0,
     };
     let (became, tally, _) = run_later(
         &rt,
@@ -282,6 +333,7 @@ fn replies_come_while_the_run_ends(rt: HostRuntime) {
             plan,
             workers: 2,
             threads: 4,
+            pace: Pace::Free,
             is_held_back: false,
         },
     );

@@ -4,7 +4,7 @@ ghost use Rattle.std.proofs.Common.{inl};
 ghost use Rattle.fuse_reply.specs.Late.{IsFrameFor};
 ghost use Rattle.fuse_workers_tests.specs.NowOrLater.{NowOrLater, NowOrLater-destroy};
 
-use crate::devices::Counter;
+use crate::devices::{Counter, pass_turns};
 use crate::works::id_of;
 use fuse_notify::Notifier;
 use fuse_reply::{Door, LateRefusal, Later, NoDoor, Out, Replied, ReplyEmpty};
@@ -136,6 +136,8 @@ pub(crate) struct Plan {
     pub(crate) least: usize,
     /// How many may be taken while the run goes on.
     pub(crate) quota: u64,
+    /// For how many turns each is held before it is answered.
+    pub(crate) delay: u64,
 }
 
 /// Puts each reply off, but two.
@@ -195,6 +197,12 @@ impl Deferring {
         id == self.plan.prompt
     }
 
+    /// Holds a token for some turns, and answers it.
+    fn spend_held<R: Wait>(&self, rt: &R, later: Token) {
+        pass_turns(self.plan.delay);
+        self.counts.spend(rt, later);
+    }
+
     /// Answers tokens in an order that the seed gives, until none is left once the run has ended.
     pub(crate) fn answer_later<R: Wait>(&self, rt: &R, seed: u64) {
         let mut state = seed;
@@ -203,7 +211,7 @@ impl Deferring {
             state = state.wrapping_mul(MULTIPLIER).wrapping_add(1);
             let token = self.shelf.lock(rt).take((state >> 32) as usize, is_over);
             match token {
-                Some(later) => self.counts.spend(rt, later),
+                Some(later) => self.spend_held(rt, later),
                 None if is_over => return,
                 None => thread::yield_now(),
             }

@@ -33,11 +33,45 @@ pub(crate) fn pass_turns(count: u64) {
     }
 }
 
-/// A source that gives a message once the frame of the one before it was sent. It tells nothing.
+/// Waits until at least so many were counted, and says whether they were in time.
+pub(crate) fn await_count(counter: &AtomicU64, least: u64) -> bool {
+    for _turn in 0..MOST_TURNS {
+        if counter.load(Ordering::SeqCst) >= least {
+            return true;
+        }
+        thread::yield_now();
+    }
+    false
+}
+
+/// When the messages of a source come.
+#[derive(Clone, Copy)]
+pub(crate) enum Pace {
+    /// At once.
+    Free,
+    /// Each once the frame of the one before it was sent.
+    ByFrame,
+    /// Each once a notice was sent, and the frame of the one before it.
+    ByNotice,
+}
+
+impl Pace {
+    /// How many frames are to be sent before the first message comes, and how many more before each turn after it.
+    fn frames(self) -> (u64, u64) {
+        match self {
+            Pace::Free => (0, 0),
+            Pace::ByFrame => (0, 1),
+            Pace::ByNotice => (1, 2),
+        }
+    }
+}
+
+/// A source that gives each message once so many frames were sent. It tells nothing.
 #[derive(Drop)]
 pub(crate) struct PacedSource {
     inner: MemorySource,
-    given: u64,
+    awaited: u64,
+    each: u64,
     retries: u64,
     sent: Counter,
 }
@@ -52,20 +86,25 @@ pub(crate) struct WatchedSink {
     least: u64,
 }
 
-/// Both, over these turns.
-pub(crate) fn paced<R: AllocGlobal + Abort>(rt: &R, turns: &[Piece]) -> (PacedSource, WatchedSink) {
-    let sink = WatchedSink::new(rt, new_counter(rt), 0);
-    let source = PacedSource {
-        inner: source_of(rt, turns),
-        given: 0,
-        retries: 0,
-        sent: share(rt, &sink.sent),
-    };
-    (source, sink)
-}
-
 impl PacedSource {
-    /// Whether it has waited long enough for the frame of the message before.
+    /// A source of these turns, which come at this pace by what this sink counts.
+    pub(crate) fn new<R: AllocGlobal + Abort>(
+        rt: &R,
+        turns: &[Piece],
+        pace: Pace,
+        sink: &WatchedSink,
+    ) -> PacedSource {
+        let (awaited, each) = pace.frames();
+        PacedSource {
+            inner: source_of(rt, turns),
+            awaited,
+            each,
+            retries: 0,
+            sent: share(rt, &sink.sent),
+        }
+    }
+
+    /// Whether it has waited long enough for the frames that are awaited.
     fn is_tired(&mut self) -> bool {
         self.retries = self.retries.saturating_add(1);
         thread::yield_now();
@@ -76,10 +115,9 @@ impl PacedSource {
 impl Source for PacedSource {
     ghost told = { λ s. record { turns = None; faults = 0 } };
 
-    /// Gives nothing until the frame of the message before was sent, and says that none is left where that takes too
-    /// long.
+    /// Gives nothing until as many frames were sent as are awaited, and says that none is left where that takes too long.
     fn receive(&mut self, buffer: &mut [u8]) -> Received {
-        if self.sent.load(Ordering::SeqCst) < self.given {
+        if self.sent.load(Ordering::SeqCst) < self.awaited {
             return if self.is_tired() {
                 Received::Gone
             } else {
@@ -89,7 +127,7 @@ impl Source for PacedSource {
         self.retries = 0;
         match self.inner.receive(buffer) {
             Received::Message(count) => {
-                self.given = self.given.saturating_add(1);
+                self.awaited = self.awaited.saturating_add(self.each);
                 Received::Message(count)
             }
             Received::Retry => Received::Retry,
@@ -110,15 +148,14 @@ impl WatchedSink {
         }
     }
 
+    /// The counter of the frames that are sent.
+    pub(crate) fn sent<R: Abort>(&self, rt: &R) -> Counter {
+        share(rt, &self.sent)
+    }
+
     /// Waits until so many were counted, and says whether they were in time.
     fn wait(&self) -> bool {
-        for _turn in 0..MOST_TURNS {
-            if self.awaited.load(Ordering::SeqCst) >= self.least {
-                return true;
-            }
-            thread::yield_now();
-        }
-        false
+        await_count(&self.awaited, self.least)
     }
 
     /// Whether a frame may go. The first waits, and some turns more, in which those that wait for it fall asleep.

@@ -2,14 +2,19 @@
 ghost use Rattle.fuse_loop.specs.Lines.{IsUnused};
 
 use crate::asserts::expect_same;
+use crate::devices::{
+    Counter, Pace, PacedSource, WatchedSink, await_count, new_counter, pass_turns,
+};
 use crate::runs::{Became, ended, outcome_of, run_on, taking};
 use crate::telling::Telling;
 use crate::turns::{Piece, source_of};
+use crate::works::{Answering, Hold};
 use fuse_notify::Notifier;
-use fuse_wire::{Items, u64_at};
+use fuse_wire::{Items, PollHandle, u64_at};
 use fuse_workers::{Buffers, RunEnd};
 use std::process::Abort;
 use std::sync::Wait;
+use std::thread;
 use std::thread::Threads;
 
 /// The memory of a run, with a notifier of the work's own, where it is to have one.
@@ -130,5 +135,67 @@ fn each_notice_that_was_queued_is_sent(rt: HostRuntime) {
             expect_told(&rt, workers, row, false);
             expect_told(&rt, workers, row, true);
         }
+    }
+}
+
+/// How many messages a run has that come each after a notice.
+const APART: u64 = 5;
+
+/// How many notices it has: one before each message, and one before the source says that none is left.
+const TOLD: u64 = APART + 1;
+
+/// Tells so many polls, each once the frames of all notices and messages before it were sent, and some turns later, in which
+/// those that wait fall asleep.
+fn tell_apart<R: Wait + AllocGlobal>(rt: &R, mut notifier: Notifier, sent: &Counter) {
+    for number in 0..TOLD {
+        let _ = await_count(sent, number * 2);
+        pass_turns(200);
+        let _ = notifier.poll(rt, PollHandle(number));
+    }
+}
+
+/// What becomes of such a run, and how many notices were sent.
+fn run_apart<R: Threads + Wait + AllocGlobal + Abort + Sync>(
+    rt: &R,
+    workers: usize,
+) -> (Became, usize) {
+    let mut buffers = Buffers::new(rt.alloc()).expect(rt, "there is memory");
+    let notifier = buffers.notifier().expect(rt, "there is memory");
+    let work = Answering::new(Hold::No, new_counter(rt));
+    let sink = WatchedSink::new(rt, new_counter(rt), 0);
+    let source = PacedSource::new(rt, &[Piece::Requests(0, APART)], Pace::ByNotice, &sink);
+    let sent = sink.sent(rt);
+    let RunEnd {
+        end,
+        transcript,
+        source,
+        sink,
+        buffers,
+    } = thread::scope(
+        thread::scope_env(),
+        rt,
+        |scope| -> RunEnd<PacedSource, WatchedSink>
+            requires { IsUnused buffers }
+        {
+            let _ = scope.spawn(|| tell_apart(rt, notifier, &sent));
+            run_on(rt, &work, Some(workers), source, sink, buffers)
+        },
+    );
+    drop(buffers);
+    drop(source);
+    let became = outcome_of(rt, &end, transcript, sink.inner.frames());
+    let told = told_handles(rt, sink.inner.frames());
+    drop(sink);
+    (became, told.len())
+}
+
+#[test]
+fn a_notice_is_sent_while_no_message_comes(rt: HostRuntime) {
+    let mut expected = ended(b'g', APART, APART);
+    expected.said.other = TOLD;
+    for workers in [1, 4] {
+        let found = run_apart(&rt, workers);
+        let expected = (expected, TOLD as usize);
+        expect_same(&rt, &(workers, found), &(workers, expected));
     }
 }

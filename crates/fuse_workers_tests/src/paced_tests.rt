@@ -1,6 +1,6 @@
 // Runs in which each message waits for the frame of the one before it.
 use crate::asserts::expect_same;
-use crate::devices::{new_counter, paced};
+use crate::devices::{Pace, PacedSource, WatchedSink, new_counter};
 use crate::frames::replied_id;
 use crate::runs::{Became, WORKERS, ended, outcome_of, run_on};
 use crate::turns::Piece;
@@ -32,7 +32,8 @@ fn run_paced<R: Threads + Wait + AllocGlobal + Abort + Sync>(
 ) -> (Became, u64, bool) {
     let buffers = Buffers::new(rt.alloc()).expect(rt, "there is memory");
     let work = Answering::new(Hold::No, new_counter(rt));
-    let (source, sink) = paced(rt, &[Piece::Requests(0, count)]);
+    let sink = WatchedSink::new(rt, new_counter(rt), 0);
+    let source = PacedSource::new(rt, &[Piece::Requests(0, count)], Pace::ByFrame, &sink);
     let RunEnd {
         end,
         transcript,

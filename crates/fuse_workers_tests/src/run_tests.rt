@@ -6,7 +6,7 @@ ghost use Rattle.fuse_wire.specs.declared.consts.TheConstants.{BUFFER_SIZE};
 use crate::asserts::expect_same;
 use crate::devices::new_counter;
 use crate::frames::{Said, bits_below, replied_id};
-use crate::runs::{Became, WORKERS, counts, outcome_of, run_on};
+use crate::runs::{Became, WORKERS, are_whole, counts, outcome_of, run_on};
 use crate::turns::{Piece, source_of};
 use crate::works::{Answering, Hold};
 use fuse_wire::{
@@ -86,64 +86,6 @@ const ANSWERED: &[Row<'static>] = &[
         ids: 0,
         lost: 0,
         calls: 0,
-        last: None,
-        left: 0,
-    },
-    // As many answer at once as workers are asked for.
-    Row {
-        turns: &[Piece::Requests(0, 2)],
-        hold: Hold::UntilCalled(2),
-        faults: 0,
-        workers: &[Some(2)],
-        rounds: 1,
-        end: b'g',
-        received: 2,
-        ids: 2,
-        lost: 0,
-        calls: 2,
-        last: None,
-        left: 0,
-    },
-    Row {
-        turns: &[Piece::Requests(0, 3)],
-        hold: Hold::UntilCalled(3),
-        faults: 0,
-        workers: &[Some(3)],
-        rounds: 1,
-        end: b'g',
-        received: 3,
-        ids: 3,
-        lost: 0,
-        calls: 3,
-        last: None,
-        left: 0,
-    },
-    Row {
-        turns: &[Piece::Requests(0, 8)],
-        hold: Hold::UntilCalled(8),
-        faults: 0,
-        workers: &[Some(8)],
-        rounds: 1,
-        end: b'g',
-        received: 8,
-        ids: 8,
-        lost: 0,
-        calls: 8,
-        last: None,
-        left: 0,
-    },
-    // So they do where a message is longer than a place of the line of jobs.
-    Row {
-        turns: &[Piece::Long(0, 3)],
-        hold: Hold::UntilCalled(3),
-        faults: 0,
-        workers: &[Some(3)],
-        rounds: 1,
-        end: b'g',
-        received: 3,
-        ids: 3,
-        lost: 0,
-        calls: 3,
         last: None,
         left: 0,
     },
@@ -260,6 +202,124 @@ const ANSWERED: &[Row<'static>] = &[
         lost: 0,
         calls: 100,
         last: Some(100),
+        left: 0,
+    },
+];
+
+/// Runs in which as many answer at once as workers are asked for, of which 64 are started at most.
+const AT_ONCE: &[Row<'static>] = &[
+    Row {
+        turns: &[Piece::Requests(0, 2)],
+        hold: Hold::UntilCalled(2),
+        faults: 0,
+        workers: &[Some(2)],
+        rounds: 1,
+        end: b'g',
+        received: 2,
+        ids: 2,
+        lost: 0,
+        calls: 2,
+        last: None,
+        left: 0,
+    },
+    Row {
+        turns: &[Piece::Requests(0, 3)],
+        hold: Hold::UntilCalled(3),
+        faults: 0,
+        workers: &[Some(3)],
+        rounds: 1,
+        end: b'g',
+        received: 3,
+        ids: 3,
+        lost: 0,
+        calls: 3,
+        last: None,
+        left: 0,
+    },
+    Row {
+        turns: &[Piece::Requests(0, 8)],
+        hold: Hold::UntilCalled(8),
+        faults: 0,
+        workers: &[Some(8)],
+        rounds: 1,
+        end: b'g',
+        received: 8,
+        ids: 8,
+        lost: 0,
+        calls: 8,
+        last: None,
+        left: 0,
+    },
+    Row {
+        turns: &[Piece::Requests(0, 64)],
+        hold: Hold::UntilCalled(64),
+        faults: 0,
+        workers: &[Some(64), Some(usize::MAX)],
+        rounds: 1,
+        end: b'g',
+        received: 64,
+        ids: 64,
+        lost: 0,
+        calls: 64,
+        last: None,
+        left: 0,
+    },
+    // So they do where a message is longer than a place of the line of jobs, up to the longest that can be received.
+    Row {
+        turns: &[Piece::Long(0, 3, 200)],
+        hold: Hold::UntilCalled(3),
+        faults: 0,
+        workers: &[Some(3)],
+        rounds: 1,
+        end: b'g',
+        received: 3,
+        ids: 3,
+        lost: 0,
+        calls: 3,
+        last: None,
+        left: 0,
+    },
+    Row {
+        turns: &[Piece::Long(0, 3, 100_000)],
+        hold: Hold::UntilCalled(3),
+        faults: 0,
+        workers: &[Some(3)],
+        rounds: 1,
+        end: b'g',
+        received: 3,
+        ids: 3,
+        lost: 0,
+        calls: 3,
+        last: None,
+        left: 0,
+    },
+    Row {
+        turns: &[Piece::Longest(0, 3)],
+        hold: Hold::UntilCalled(3),
+        faults: 0,
+        workers: &[Some(3)],
+        rounds: 1,
+        end: b'g',
+        received: 3,
+        ids: 3,
+        lost: 0,
+        calls: 3,
+        last: None,
+        left: 0,
+    },
+    // They do so to the end of a long run.
+    Row {
+        turns: &[Piece::Requests(0, 4000)],
+        hold: Hold::InPairs,
+        faults: 0,
+        workers: &[Some(2)],
+        rounds: 1,
+        end: b'g',
+        received: 4000,
+        ids: 4000,
+        lost: 0,
+        calls: 4000,
+        last: None,
         left: 0,
     },
 ];
@@ -458,9 +518,9 @@ fn last_replied(frames: &[Items<u8>]) -> Option<u64> {
     }
 }
 
-/// What became of a run, how often its work was called, the id of the last reply, and whether just the messages are left
-/// in the source that are to be.
-type Found = (Became, u64, Option<u64>, bool);
+/// What became of a run, how often its work was called, and the id of the last reply; whether just the messages are left in
+/// the source that are to be, and whether nobody else has a share of the run's lines.
+type Found = (Became, u64, Option<u64>, [bool; 2]);
 
 /// Runs the turns of a row on so many workers, or on the thread of their caller.
 fn run_row<R: Threads + Wait + AllocGlobal + Abort + Sync>(
@@ -478,13 +538,13 @@ fn run_row<R: Threads + Wait + AllocGlobal + Abort + Sync>(
         sink,
         buffers,
     } = run_on(rt, &work, workers, source, sink, buffers);
-    drop(buffers);
+    let are_whole = are_whole(buffers);
     let became = outcome_of(rt, &end, transcript, sink.frames());
     let last = last_replied(sink.frames());
     drop(sink);
     let are_left = are_left(rt, row, &mut source);
     drop(source);
-    (became, work.calls(), last, are_left)
+    (became, work.calls(), last, [are_left, are_whole])
 }
 
 /// What a row says.
@@ -500,14 +560,14 @@ fn expected_of(row: &Row) -> Found {
             other: 0,
         },
     };
-    (became, row.calls, row.last, true)
+    (became, row.calls, row.last, [true, true])
 }
 
 /// What is looked at. On four workers, which answer in any order, it is not known which of the first ten replies are lost:
 /// their bits are counted. Of many messages it is not known which reply is lost, and how many are is counted. The last
 /// reply is looked at where a row names it.
 fn looked_at(row: &Row, workers: Option<usize>, found: Found) -> Found {
-    let (mut became, calls, last, are_left) = found;
+    let (mut became, calls, last, are_held) = found;
     if row.lost != 0 && row.ids > 64 {
         became.said.first = 0;
     } else if row.lost != 0 && workers == Some(4) {
@@ -515,7 +575,7 @@ fn looked_at(row: &Row, workers: Option<usize>, found: Found) -> Found {
         became.said.first = others | u64::from(ten.count_ones());
     }
     let last = if row.last.is_some() { last } else { None };
-    (became, calls, last, are_left)
+    (became, calls, last, are_held)
 }
 
 /// On so many workers this becomes of the run of a row, each time.
@@ -541,6 +601,13 @@ fn expect_row<R: Threads + Wait + AllocGlobal + Abort + Sync>(rt: &R, row: &Row)
 #[test]
 fn each_message_is_answered_and_the_last_turn_ends_the_run(rt: HostRuntime) {
     for row in ANSWERED {
+        expect_row(&rt, row);
+    }
+}
+
+#[test]
+fn as_many_answer_at_once_as_workers_are_asked_for(rt: HostRuntime) {
+    for row in AT_ONCE {
         expect_row(&rt, row);
     }
 }
@@ -577,20 +644,34 @@ fn what_comes_after_a_fault_of_the_source_is_not_taken(rt: HostRuntime) {
     }
 }
 
-/// How many calls of sixteen were under way at once, at most, where so many workers were asked for.
-fn most_at_once<R: Threads + Wait + AllocGlobal + Abort + Sync>(rt: &R, workers: usize) -> u64 {
+/// How many calls were under way at once, at most, where so many workers were asked for.
+fn most_at_once<R: Threads + Wait + AllocGlobal + Abort + Sync>(
+    rt: &R,
+    workers: usize,
+    calls: u64,
+    turns: u64,
+) -> u64 {
     let buffers = Buffers::new(rt.alloc()).expect(rt, "there is memory");
-    let work = Answering::new(Hold::Turns(10_000), new_counter(rt));
-    let (source, sink) = (source_of(rt, &[Piece::Requests(0, 16)]), sink_of(rt, 0));
+    let work = Answering::new(Hold::Turns(turns), new_counter(rt));
+    let (source, sink) = (source_of(rt, &[Piece::Requests(0, calls)]), sink_of(rt, 0));
     drop(run_on(rt, &work, Some(workers), source, sink, buffers));
     work.most_at_once()
 }
 
+/// Of so many workers and calls, and turns that each call takes, how many calls are under way at once at most. Where the
+/// line of jobs is full the caller answers one too.
+const MOST_AT_ONCE: &[(usize, u64, u64, u64)] = &[
+    (1, 16, 10_000, 1),
+    (2, 16, 10_000, 2),
+    (3, 16, 10_000, 3),
+    (1024, 256, 1000, 65),
+];
+
 #[test]
 fn no_more_answer_at_once_than_are_asked_for(rt: HostRuntime) {
     expect_same(&rt, &MOST_WORKERS, &64);
-    for workers in 1..4 {
-        let is_kept = most_at_once(&rt, workers) <= workers as u64;
-        expect_same(&rt, &(workers, is_kept), &(workers, true));
+    for (workers, calls, turns, most) in MOST_AT_ONCE {
+        let is_kept = most_at_once(&rt, *workers, *calls, *turns) <= *most;
+        expect_same(&rt, &(*workers, is_kept), &(*workers, true));
     }
 }

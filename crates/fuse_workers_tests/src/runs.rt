@@ -3,11 +3,14 @@ ghost use Rattle.std.specs.Prelude.{◌≡◌, false};
 ghost use Rattle.fuse_loop.specs.Lines.{IsUnused};
 
 use crate::frames::{Said, read_frames};
+use fuse_line::Line;
+use fuse_loop::{Lines, RunLine};
+use fuse_reply::Parcel;
 use fuse_wire::{Items, MemorySink, Sink, Source};
 use fuse_workers::{Buffers, End, RunEnd, Transcript, Work, run_inline, run_workers};
 use std::alloc::{AllocGlobal, Global};
 use std::process::Abort;
-use std::sync::Wait;
+use std::sync::{Arc, Wait};
 use std::thread::Threads;
 
 /// On how many workers a run is tried. None is the loop on the caller's thread.
@@ -85,6 +88,32 @@ pub(crate) fn run_on<
         None => run_inline(rt, work, source, sink, buffers),
         Some(workers) => run_workers(rt, work, source, sink, buffers, workers),
     }
+}
+
+/// The line of frames of these buffers, and whether nobody else has a share of that of jobs. All else is let go.
+pub(crate) fn line_of(buffers: Buffers) -> (Arc<Line<Parcel>, Global>, bool) {
+    let Buffers { receive, lines } = buffers;
+    drop(receive);
+    let Lines {
+        frames,
+        jobs,
+        answerer,
+        ending,
+    } = lines;
+    drop(answerer);
+    drop(ending);
+    let RunLine { line, pass } = jobs;
+    drop(pass);
+    let is_alone = Arc::into_inner(line).is_some();
+    let RunLine { line, pass } = frames;
+    drop(pass);
+    (line, is_alone)
+}
+
+/// Whether nobody else has a share of the lines of these buffers, which are let go.
+pub(crate) fn are_whole(buffers: Buffers) -> bool {
+    let (frames, is_alone) = line_of(buffers);
+    Arc::into_inner(frames).is_some() && is_alone
 }
 
 /// A sink that takes everything.

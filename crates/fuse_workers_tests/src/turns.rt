@@ -1,5 +1,6 @@
 // The turns that the source of a run gives.
 use fuse_request::opcode::{FUSE_DESTROY, FUSE_STATFS};
+use fuse_wire::consts::BUFFER_SIZE;
 use fuse_wire::{Items, MemorySource, Turn};
 use std::process::Abort;
 
@@ -8,8 +9,10 @@ use std::process::Abort;
 pub(crate) enum Piece {
     /// A STATFS of each id from the first number up to the second.
     Requests(u64, u64),
-    /// The same, each with 160 bytes after its header: more than lie in a place of the line of jobs.
-    Long(u64, u64),
+    /// The same, each of so many bytes, at least those of a header.
+    Long(u64, u64, u32),
+    /// The same, each as long as the buffer that messages are received in.
+    Longest(u64, u64),
     /// A STATFS of each id below the first number, and before each as many turns that give nothing as the second says.
     Apart(u64, u64),
     /// A DESTROY of this id.
@@ -20,19 +23,27 @@ pub(crate) enum Piece {
     Fault,
 }
 
-/// A message with so many bytes after its header, at most 200. Its opcode is below 256.
-fn message_of<R: AllocGlobal + Abort>(rt: &R, opcode: u32, id: u64, body: u8) -> Turn {
-    let length = body.saturating_add(40);
-    let mut bytes = vec![in rt.alloc(); 0; usize::from(length)].expect(rt, "there is memory");
-    bytes[0] = length;
-    bytes[4] = opcode.to_le_bytes()[0];
-    bytes[8..16].copy_from_slice(&id.to_le_bytes());
+/// A message of so many bytes, at least those of a header.
+fn message_of<R: AllocGlobal + Abort>(rt: &R, opcode: u32, id: u64, length: u32) -> Turn {
+    let mut bytes = Vec::new(rt.alloc());
+    bytes
+        .extend_from_slice(&length.to_le_bytes())
+        .expect(rt, "there is memory");
+    bytes
+        .extend_from_slice(&opcode.to_le_bytes())
+        .expect(rt, "there is memory");
+    bytes
+        .extend_from_slice(&id.to_le_bytes())
+        .expect(rt, "there is memory");
+    bytes
+        .resize(length as usize, 0)
+        .expect(rt, "there is memory");
     Turn::Message(Items::from_vec(bytes))
 }
 
-/// A message with no arguments. Its opcode is below 256.
+/// A message with no arguments.
 fn message<R: AllocGlobal + Abort>(rt: &R, opcode: u32, id: u64) -> Turn {
-    message_of(rt, opcode, id, 0)
+    message_of(rt, opcode, id, 40)
 }
 
 /// A message of twenty bytes.
@@ -67,10 +78,16 @@ fn put_requests<R: AllocGlobal + Abort>(
     }
 }
 
-/// Puts a long STATFS of each of these ids at the end.
-fn put_long<R: AllocGlobal + Abort>(rt: &R, turns: &mut Vec<Turn>, first: u64, end: u64) {
+/// Puts a STATFS of so many bytes of each of these ids at the end.
+fn put_long<R: AllocGlobal + Abort>(
+    rt: &R,
+    turns: &mut Vec<Turn>,
+    first: u64,
+    end: u64,
+    length: u32,
+) {
     for id in first..end {
-        put(rt, turns, message_of(rt, FUSE_STATFS, id, 160));
+        put(rt, turns, message_of(rt, FUSE_STATFS, id, length));
     }
 }
 
@@ -78,7 +95,8 @@ fn put_long<R: AllocGlobal + Abort>(rt: &R, turns: &mut Vec<Turn>, first: u64, e
 fn put_piece<R: AllocGlobal + Abort>(rt: &R, turns: &mut Vec<Turn>, piece: Piece) {
     match piece {
         Piece::Requests(first, end) => put_requests(rt, turns, first, end, 0),
-        Piece::Long(first, end) => put_long(rt, turns, first, end),
+        Piece::Long(first, end, length) => put_long(rt, turns, first, end, length),
+        Piece::Longest(first, end) => put_long(rt, turns, first, end, BUFFER_SIZE as u32),
         Piece::Apart(count, nothing) => put_requests(rt, turns, 0, count, nothing),
         Piece::Destroy(id) => put(rt, turns, message(rt, FUSE_DESTROY, id)),
         Piece::Short => put(rt, turns, short(rt)),

@@ -20,6 +20,9 @@ use std::thread;
 /// How often an answer is held at most.
 const MOST_TURNS: u64 = 1_000_000;
 
+/// As many calls as one that was awaited too long counts for: more than any run has, so that no later one waits.
+const TOO_LATE: u64 = 1 << 40;
+
 /// The id of a message.
 pub(crate) fn id_of(message: &[u8]) -> RequestId
     ensures { IsRequest message.now → result.0 ≡ id_in message.now }
@@ -37,8 +40,11 @@ pub(crate) enum Hold {
     No,
     /// For some turns, the longer the greater its id modulo eight.
     ById,
-    /// Until so many were called. Where they are not in time, the call counts twice.
+    /// Until so many were called. Where they are not in time, that counts as a great many calls.
     UntilCalled(u64),
+    /// Until the other of its pair was called, of the first two calls, the next two, and so on. It is the same where that
+    /// one is not in time.
+    InPairs,
     /// For so many turns.
     Turns(u64),
 }
@@ -73,24 +79,25 @@ impl Answering {
         self.calls.load(Ordering::SeqCst)
     }
 
-    /// Waits until so many were called, or it has taken too long, which counts as a call.
+    /// Waits until so many were called, or it has taken too long, which counts as a great many calls.
     fn await_calls(&self, count: u64) {
         for _turn in 0..MOST_TURNS {
-            if self.calls() >= count {
+            if self.calls() >= count.min(TOO_LATE) {
                 return;
             }
             thread::yield_now();
         }
-        self.calls.fetch_add(1, Ordering::SeqCst);
+        self.calls.fetch_add(TOO_LATE, Ordering::SeqCst);
     }
 
     /// Counts a call of this id, and holds it.
     fn hold(&self, id: u64) {
-        self.calls.fetch_add(1, Ordering::SeqCst);
+        let before = self.calls.fetch_add(1, Ordering::SeqCst);
         match self.hold {
             Hold::No => {}
             Hold::ById => pass_turns(id % 8 * 100),
             Hold::UntilCalled(count) => self.await_calls(count),
+            Hold::InPairs => self.await_calls((before | 1).saturating_add(1)),
             Hold::Turns(count) => self.stay(count),
         }
     }
