@@ -1,18 +1,21 @@
 // Replies that come later than their methods.
-ghost use Rattle.std.specs.Prelude.{◌≡◌, ◌<◌};
+ghost use Rattle.std.specs.Prelude.{◌≡◌, ◌<◌, ◌≤◌, length};
 ghost use Rattle.std.specs.Arc.{arc_value};
 ghost use Rattle.fuse_line.specs.declared.hand.Kind.TheVariants.{First};
 ghost use Rattle.fuse_reply.specs.Late.{IsFrameFor};
 
 use crate::asserts::expect_same;
-use crate::frames::ID;
+use crate::frames::{
+    ATTRIBUTES, BLOCK_SIZE, ENTRY_FRONT, ID, Parts, attributes, expect_sent, sent, short, told,
+    whole_or_starved,
+};
 use crate::retire_each;
 use fuse_line::{Class, Line, Pass};
 use fuse_reply::{
-    Door, EndMark, EndNote, LateRefusal, Later, NoDoor, Out, Parcel, Replied, ReplyDirectory,
-    ReplyEmpty, Seal,
+    Door, EndMark, EndNote, Held, LateRefusal, Later, NoDoor, Out, OutEnd, Parcel, Replied,
+    ReplyData, ReplyDirectory, ReplyEmpty, ReplyEntry, Seal,
 };
-use fuse_wire::{Errno, FileType, INodeNo, RequestId};
+use fuse_wire::{Duration, Errno, FileType, Generation, INodeNo, RequestId};
 use std::alloc::Global;
 use std::process::Abort;
 use std::sync::{Arc, Wait};
@@ -161,27 +164,99 @@ fn late_in(waits: &Option<Parcel>) -> Option<(u64, RequestId, bool)> {
     }
 }
 
-/// The mark of a reply that is put off through this door: of one without bytes, or of a listing with an entry.
+/// What goes out at once for a reply that was put off, the reply, and the token to send it by.
+fn parted<K: Held>(
+    rt: &impl Abort,
+    put: Result<(Replied, Later<K>), (K, NoDoor)>,
+) -> (Out, K, Later<()>)
+    ensures { K.id_or result.1 result.2.id.0 ≡ result.2.id.0 }
+{
+    match put {
+        Ok((replied, later)) => {
+            let (reply, token) = later.reply();
+            (replied.into_out(), reply, token)
+        }
+        Err(_back) => panic!(rt; "there is a door"),
+    }
+}
+
+/// What goes out at once for a reply of bytes, which come later.
+fn carry_later<R: Wait + Abort>(rt: &R, reply: ReplyData, bytes: &[u8]) -> Out
+    requires { length bytes.now ≤ 255 }
+{
+    let (out, reply, token) = parted(rt, reply.defer());
+    token.send_or_retire(rt, reply.data(bytes));
+    out
+}
+
+/// The same for a reply of what a name leads to.
+fn look_up_later<R: Wait + Abort>(rt: &R, reply: ReplyEntry) -> Out {
+    let (out, reply, token) = parted(rt, reply.defer());
+    let ttl = Duration::new(0x8765, 0x4321);
+    token.send_or_retire(rt, reply.entry(&ttl, &attributes(), Generation(0xaa)));
+    out
+}
+
+/// The same for a listing, which has an entry when it is put off.
+fn list_later<R: Wait + Abort>(rt: &R, alloc: Global, door: Door) -> Out {
+    let mut reply = ReplyDirectory::new(alloc, ID, 100).with_door(Ok(door));
+    let Ok(false) = reply.add(INodeNo(5), 1, FileType::RegularFile, b"a") else {
+        panic!(rt; "there is room");
+    };
+    let (replied, later) = match reply.defer() {
+        Ok(put) => put,
+        Err(_back) => panic!(rt; "there is a door"),
+    };
+    let (reply, token) = later.reply();
+    token.send_or_retire(rt, reply.ok());
+    replied.into_out()
+}
+
+/// What a reply is answered by that comes later.
+enum Late {
+    /// Its status alone.
+    Done,
+    /// An error, where a directory was to be listed, and has an entry.
+    NoListing,
+    /// This entry.
+    Listing,
+    /// Bytes.
+    Data(&'static [u8]),
+    /// What a name leads to.
+    Entry,
+}
+
+/// The mark of a reply that is put off through this door, and answered so.
 fn put_off_through<R: Wait + Abort>(
     rt: &R,
     alloc: Global,
     door: Door,
-    lists: bool,
+    late: &Late,
 ) -> Result<Option<(u64, RequestId)>, NoDoor> {
-    if !lists {
-        return put_off(rt, ReplyEmpty::new(alloc, ID).with_door(Ok(door)));
-    }
-    let mut reply = ReplyDirectory::new(alloc, ID, 100).with_door(Ok(door));
-    let added = reply.add(INodeNo(5), 1, FileType::RegularFile, b"a");
-    expect_same(rt, &added, &Ok(false));
-    fail_later(rt, reply)
+    let out = match late {
+        Late::Done => return put_off(rt, ReplyEmpty::new(alloc, ID).with_door(Ok(door))),
+        Late::NoListing => {
+            let mut reply = ReplyDirectory::new(alloc, ID, 100).with_door(Ok(door));
+            let added = reply.add(INodeNo(5), 1, FileType::RegularFile, b"a");
+            expect_same(rt, &added, &Ok(false));
+            return fail_later(rt, reply);
+        }
+        Late::Listing => list_later(rt, alloc, door),
+        Late::Data(bytes) => {
+            let reply = ReplyData::new(alloc, ID).with_door(Ok(door));
+            carry_later(rt, reply, short(rt, bytes))
+        }
+        Late::Entry => look_up_later(rt, ReplyEntry::new(alloc, ID).with_door(Ok(door))),
+    };
+    Ok(mark_of(&out))
 }
 
-/// The mark of such a reply goes out at once, and its frame is queued, once, both under the message's number.
-fn expect_queued<R: Wait + Abort>(rt: &R, alloc: Global, lists: bool) {
+/// What waits of a reply that is put off and answered so. Its mark goes out at once, and its frame is queued, once, both
+/// under the message's number.
+fn queued<R: Wait + Abort>(rt: &R, alloc: Global, late: &Late) -> Option<Parcel> {
     let (mut desk, seal, door) = desk_of(rt, alloc, 2);
     drop(seal);
-    let mark = put_off_through(rt, alloc, door, lists);
+    let mark = put_off_through(rt, alloc, door, late);
     let waits = desk.line.pop(rt, &mut desk.first);
     let is_alone = desk.line.pop(rt, &mut desk.first).is_none();
     expect_same(
@@ -189,12 +264,91 @@ fn expect_queued<R: Wait + Abort>(rt: &R, alloc: Global, lists: bool) {
         &(mark, late_in(&waits), is_alone),
         &(Ok(Some((SEQ, ID))), Some((SEQ, ID, false)), true),
     );
+    waits
 }
+
+/// What goes out for what waits: a frame that comes later, or else nothing.
+fn late_out(waits: Option<Parcel>) -> Out {
+    match waits {
+        Some(Parcel::Late(frame)) => frame.into_out(),
+        _ => Out::Deferred(0, ID),
+    }
+}
+
+/// The frame that is queued of such a reply is this.
+fn expect_queued<R: Wait + Abort>(rt: &R, alloc: Global, late: &Late, frame: &[&[u8]]) {
+    let (sink, end) = sent(alloc, late_out(queued(rt, alloc, late)));
+    expect_sent(rt, alloc, &sink, end, frame);
+}
+
+/// Answers that come later, and their frames.
+const LATE: &[(Late, Parts)] = &[
+    (
+        Late::Done,
+        &[&[16, 0, 0, 0, 0, 0, 0, 0, 0xef, 0xbe, 0xad, 0xde, 0, 0, 0, 0]],
+    ),
+    (
+        Late::NoListing,
+        &[&[
+            16, 0, 0, 0, 0xfc, 0xff, 0xff, 0xff, 0xef, 0xbe, 0xad, 0xde, 0, 0, 0, 0,
+        ]],
+    ),
+    (
+        Late::Listing,
+        &[&[
+            48, 0, 0, 0, 0, 0, 0, 0, 0xef, 0xbe, 0xad, 0xde, 0, 0, 0, 0, 5, 0, 0, 0, 0, 0, 0, 0, 1,
+            0, 0, 0, 0, 0, 0, 0, 1, 0, 0, 0, 8, 0, 0, 0, 0x61, 0, 0, 0, 0, 0, 0, 0,
+        ]],
+    ),
+    (
+        Late::Data(&[0xde, 0xad, 0xbe, 0xef]),
+        &[&[
+            20, 0, 0, 0, 0, 0, 0, 0, 0xef, 0xbe, 0xad, 0xde, 0, 0, 0, 0, 0xde, 0xad, 0xbe, 0xef,
+        ]],
+    ),
+    (
+        Late::Entry,
+        &[
+            &[
+                0x90, 0, 0, 0, 0, 0, 0, 0, 0xef, 0xbe, 0xad, 0xde, 0, 0, 0, 0,
+            ],
+            ENTRY_FRONT,
+            ATTRIBUTES,
+            BLOCK_SIZE,
+        ],
+    ),
+];
 
 #[test]
 fn late_frames_are_queued_under_their_numbers(rt: HostRuntime) {
-    expect_queued(&rt, rt.alloc(), false);
-    expect_queued(&rt, rt.alloc(), true);
+    for (late, frame) in LATE {
+        expect_queued(&rt, rt.alloc(), late, frame);
+    }
+}
+
+/// An answer that takes memory.
+const LONG: Late = Late::Data(&[7; 200]);
+
+/// The header and the payload of its frame.
+const LONG_FRAME: Parts = &[
+    &[216, 0, 0, 0, 0, 0, 0, 0, 0xef, 0xbe, 0xad, 0xde, 0, 0, 0, 0],
+    &[7; 200],
+];
+
+#[test]
+fn many_late_bytes_are_queued_whole(rt: HostRuntime) {
+    expect_queued(&rt, rt.alloc(), &LONG, LONG_FRAME);
+}
+
+/// Takes the whole frame, and the error's. Where the script `checks/refused-memory` refuses the memory of the answer, it
+/// is the error's; where it refuses the sink's, this test has no memory.
+#[test]
+fn many_late_bytes_are_queued_whole_or_by_the_want_of_memory(rt: HostRuntime) {
+    let alloc = rt.alloc();
+    let (sink, end) = sent(alloc, late_out(queued(&rt, alloc, &LONG)));
+    assert!(&rt; end != OutEnd::Lost, "there is memory");
+    let frame = whole_or_starved(told(&sink, end).1, LONG_FRAME);
+    expect_sent(&rt, alloc, &sink, end, frame);
 }
 
 #[test]

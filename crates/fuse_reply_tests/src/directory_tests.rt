@@ -215,14 +215,14 @@ fn add_numbered(reply: &mut ReplyDirectory, i: u16) -> Result<bool, NoMemory> {
     reply.add(INodeNo(place), place, FileType::RegularFile, &digits(i))
 }
 
-/// Adds 8192 entries of 32 bytes each, and tells how many were taken before the first that was not.
+/// Adds 40,000 entries of 32 bytes each, and tells how many were taken before the first that was not.
 fn list_many(reply: &mut ReplyDirectory) -> Result<u16, NoMemory> {
-    for i in 0..8192 {
+    for i in 0..40_000 {
         if add_numbered(reply, i)? {
             return Ok(i);
         }
     }
-    Ok(8192)
+    Ok(40_000)
 }
 
 /// The listing carries so many entries, which are so many bytes.
@@ -238,7 +238,7 @@ fn carries_numbered(
     carries(rt, alloc, reply.ok(), &[&entries]);
 }
 
-/// Of 8192 entries so many are taken in so many bytes, and they take so many bytes.
+/// Of 40,000 entries so many are taken in so many bytes, and they take so many bytes.
 fn expect_cut(rt: &impl Abort, alloc: Global, size: usize, entries: u16, length: usize) {
     let mut reply = ReplyDirectory::new(alloc, ID, size);
     let taken = list_many(&mut reply);
@@ -260,8 +260,8 @@ const CUTS: &[(usize, u16, usize)] = &[
     (31_999, 999, 31_968),
     (32_000, 1000, 32_000),
     (262_143, 8191, 262_112),
-    (4_294_967_295, 8192, 262_144),
-    (usize::MAX, 8192, 262_144),
+    (4_294_967_295, 40_000, 1_280_000),
+    (usize::MAX, 40_000, 1_280_000),
 ];
 
 #[test]

@@ -65,6 +65,20 @@ pub fn sends(rt: &impl Abort, alloc: Global, replied: Replied, parts: &[&[u8]]) 
     expect_sent(rt, alloc, &sink, end, parts);
 }
 
+/// The frame of `ENOMEM`.
+const STARVED: &[u8] = &[
+    16, 0, 0, 0, 0xf4, 0xff, 0xff, 0xff, 0xef, 0xbe, 0xad, 0xde, 0, 0, 0, 0,
+];
+
+/// The whole frame, or the error's, where that one went out.
+pub fn whole_or_starved(frame: Option<&[u8]>, whole: Parts) -> Parts {
+    if frame == Some(STARVED) {
+        &[STARVED]
+    } else {
+        whole
+    }
+}
+
 /// The header of a frame of status 0 with so many bytes after it.
 fn done_header(count: usize) -> [u8; 16] {
     let [l0, l1, l2, l3, ..] = count.saturating_add(16).to_le_bytes();

@@ -33,11 +33,11 @@ fn many(alloc: Global, count: usize) -> Result<Vec<u8>, AllocError> {
     Ok(bytes)
 }
 
-/// These bytes, which are no more than a mebibyte.
+/// These bytes, which are at most one more than 16 mebibytes.
 fn within<'a>(rt: &impl Abort, bytes: &'a [u8]) -> &'a [u8]
-    ensures { length result.now ≤ 1048576 }
+    ensures { length result.now ≤ 16777217 }
 {
-    assert!(rt; bytes.len() <= 1_048_576);
+    assert!(rt; bytes.len() <= 16_777_217);
     bytes
 }
 
@@ -64,6 +64,28 @@ fn replies_of_many_bytes_go_out_whole(rt: HostRuntime) {
         let bytes = many(rt.alloc(), *count).expect(&rt, "there is memory");
         let replied = replied(&rt, rt.alloc(), *kind, &bytes);
         carries(&rt, rt.alloc(), replied, &[front(*kind), &bytes]);
+    }
+}
+
+/// The headers of frames that carry one byte more than 16 mebibytes.
+const LONGEST: &[(Kind, &[u8])] = &[
+    (
+        Kind::Data,
+        &[17, 0, 0, 1, 0, 0, 0, 0, 0xef, 0xbe, 0xad, 0xde, 0, 0, 0, 0],
+    ),
+    (
+        Kind::Ioctl,
+        &[33, 0, 0, 1, 0, 0, 0, 0, 0xef, 0xbe, 0xad, 0xde, 0, 0, 0, 0],
+    ),
+];
+
+/// A frame that is no error has the bytes of its answer.
+#[test]
+fn the_longest_replies_find_memory_where_there_is_some(rt: HostRuntime) {
+    let bytes = many(rt.alloc(), 16_777_217).expect(&rt, "there is memory");
+    for (kind, header) in LONGEST {
+        let replied = replied(&rt, rt.alloc(), *kind, &bytes);
+        sends_part(&rt, rt.alloc(), replied, 0, header);
     }
 }
 

@@ -5,7 +5,7 @@ ghost use Rattle.fuse_wire.specs.declared.sink.Sending.TheVariants.{Sent};
 use crate::asserts::expect_same;
 use crate::frames::{
     ATTRIBUTES, BLOCK_SIZE, ENTRY_FRONT, ID, Parts, attributes, expect_sent, sends, sends_part,
-    sent, short, told,
+    sent, short, told, whole_or_starved,
 };
 use fuse_reply::{
     Out, OutEnd, Packed, Replied, Reply, ReplyAttr, ReplyData, ReplyDirectory, ReplyDirectoryPlus,
@@ -323,10 +323,11 @@ fn packed_text(alloc: Global) -> Result<String, AllocError> {
 }
 
 #[test]
-fn packs_more_than_is_held_inline(rt: HostRuntime) {
+fn packs_and_copies_more_than_is_held_inline(rt: HostRuntime) {
     let alloc = rt.alloc();
     let packed = Packed::new(alloc, ID, 0, &[7; 145]).expect(&rt, "there is memory");
-    let found = format!(in alloc; "{packed:?}").expect(&rt, "there is memory");
+    let copy = packed.clone().expect(&rt, "there is memory");
+    let found = format!(in alloc; "{copy:?}").expect(&rt, "there is memory");
     let expected = packed_text(alloc).expect(&rt, "there is memory");
     expect_same(&rt, &found, &expected);
 }
@@ -336,27 +337,13 @@ fn answers_by_many_bytes_whole(rt: HostRuntime) {
     sends(&rt, rt.alloc(), long_reply(rt.alloc()), LONG_FRAME);
 }
 
-/// The frame of `ENOMEM`.
-const STARVED: &[u8] = &[
-    16, 0, 0, 0, 0xf4, 0xff, 0xff, 0xff, 0xef, 0xbe, 0xad, 0xde, 0, 0, 0, 0,
-];
-
-/// The whole frame, or the error's, where that one went out.
-fn whole_or_starved(frame: Option<&[u8]>) -> Parts {
-    if frame == Some(STARVED) {
-        &[STARVED]
-    } else {
-        LONG_FRAME
-    }
-}
-
 /// Takes the whole frame, and the error's. Where the script `checks/refused-memory` refuses the memory, it is the
 /// error's.
 #[test]
 fn answers_by_many_bytes_whole_or_by_the_want_of_memory(rt: HostRuntime) {
     let alloc = rt.alloc();
     let (sink, end) = sent(alloc, long_reply(alloc).into_out());
-    let parts = whole_or_starved(told(&sink, end).1);
+    let parts = whole_or_starved(told(&sink, end).1, LONG_FRAME);
     expect_sent(&rt, alloc, &sink, end, parts);
 }
 
