@@ -1,8 +1,8 @@
 // Notices that a filesystem sends of its own, by the session's notifier.
 use crate::asserts::expect_same;
-use crate::messages::{Frame, differ_after_init};
+use crate::messages::{Frame, are_after_init, differ_after_init};
 use crate::serving::{Rest, counts, everybody, rest_of};
-use crate::telling::{Slot, Telling};
+use crate::telling::{Flood, Slot, Telling};
 use fuse_notify::Notifier;
 use fuse_probing::Probing;
 use fuse_probing::test_messages::{ENOSYS, INIT_7_8, lookup, source_of};
@@ -21,15 +21,16 @@ fn hand_over<R: Wait>(rt: &R, slot: &Slot, made: Result<Notifier, NoMemory>) {
     }
 }
 
-/// Serves a filesystem, in a session whose notifier it finds in the slot.
+/// Serves a filesystem on so many threads, in a session whose notifier it finds in the slot.
 fn serve_with<R: Threads + Wait + AllocGlobal + Sync, FS: Filesystem>(
     rt: &R,
     slot: &Slot,
     filesystem: FS,
     source: MemorySource,
     sink: MemorySink,
+    n_threads: Option<usize>,
 ) -> Rest<FS> {
-    let config = everybody(rt.alloc(), None);
+    let config = everybody(rt.alloc(), n_threads);
     rest_of(
         match Session::new(rt, filesystem, source, sink, 0, 4096, &config) {
             Ok(mut session) => {
@@ -41,36 +42,33 @@ fn serve_with<R: Threads + Wait + AllocGlobal + Sync, FS: Filesystem>(
     )
 }
 
-/// How a session ended, what it counted, how many notices were queued and for how many there was no place, and the first
-/// place at which its frames are others.
-type Found = (
-    Result<(), SessionError>,
-    Transcript,
-    (u64, u64),
-    Option<usize>,
-);
-
-/// What comes of a session of a lookup that sends notices, whose frames are to be these.
+/// What is left of a session on so many threads, of a lookup that sends so many notices.
 fn run_flooding<R: Threads + Wait + AllocGlobal + Abort + Send + Sync + Copy>(
     rt: &R,
-    frames: &[Frame],
-) -> Found {
+    n_threads: Option<usize>,
+    notices: u64,
+) -> Rest<Probing<Telling<R>>> {
     let slot = Arc::new(rt.alloc(), Mutex::new(None)).expect(rt, "there is memory");
     let share = Arc::try_clone(&slot).expect(rt, "there is memory");
-    let probe = Telling::new(*rt, rt.alloc(), Some(share));
+    let flood = Flood {
+        slot: share,
+        notices,
+    };
+    let probe = Telling::new(*rt, rt.alloc(), Some(flood));
     let source = source_of(rt.alloc(), &[&INIT_7_8, &lookup(2, 0)]);
     let source = source.expect(rt, "there is memory");
     let sink = MemorySink::new(rt.alloc(), Vec::new(rt.alloc()));
-    let rest = serve_with(rt, &slot, Probing { probe }, source, sink);
+    let rest = serve_with(rt, &slot, Probing { probe }, source, sink, n_threads);
     drop(slot);
-    let found = (
-        rest.outcome,
-        rest.transcript,
-        rest.filesystem.probe.sent(),
-        differ_after_init(rest.sink.frames(), frames),
-    );
-    drop(rest);
-    found
+    rest
+}
+
+/// How a session ended, what it counted, and how many notices were queued and for how many there was no place.
+type Found = (Result<(), SessionError>, Transcript, (u64, u64));
+
+/// What was found of a session.
+fn found_of<R: Wait>(rest: &Rest<Probing<Telling<R>>>) -> Found {
+    (rest.outcome, rest.transcript, rest.filesystem.probe.sent())
 }
 
 /// The frames after the reply to INIT: the reply to the LOOKUP, and so many notices, whose handles are their places.
@@ -86,9 +84,21 @@ fn reply_and_news<R: AllocGlobal + Abort>(rt: &R, count: u8) -> Vec<Frame> {
     frames
 }
 
+/// One notice more is sent than the line of a session holds.
 #[test]
 fn the_notices_of_a_filesystem_follow_its_reply(rt: HostRuntime) {
-    let frames = reply_and_news(&rt, 64);
-    let found = run_flooding(&rt, &frames);
-    expect_same(&rt, &found, &(Ok(()), counts(2, 2), (64, 1), None));
+    let rest = run_flooding(&rt, None, 65);
+    let place = differ_after_init(rest.sink.frames(), &reply_and_news(&rt, 64));
+    let found = (found_of(&rest), place);
+    drop(rest);
+    expect_same(&rt, &found, &((Ok(()), counts(2, 2), (64, 1)), None));
+}
+
+#[test]
+fn on_two_threads_the_notices_of_a_filesystem_are_sent(rt: HostRuntime) {
+    let rest = run_flooding(&rt, Some(2), 3);
+    let is_sent = are_after_init(rest.sink.frames(), &reply_and_news(&rt, 3));
+    let found = (found_of(&rest), is_sent);
+    drop(rest);
+    expect_same(&rt, &found, &((Ok(()), counts(2, 2), (3, 0)), true));
 }

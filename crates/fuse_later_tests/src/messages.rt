@@ -16,6 +16,8 @@ pub(crate) enum Message {
     Getattr(u8),
     /// A POLL under this id, with this handle and these flags.
     Poll(u8, [u8; 2], u8),
+    /// A POLL of the root under this id, with this handle and no flags.
+    RootPoll(u8, [u8; 2]),
     /// A POLL under the id 2 that asks to be told, with each handle up to this one.
     Polls(u8),
 }
@@ -51,6 +53,13 @@ fn put_polls<R: AllocGlobal + Abort>(rt: &R, turns: &mut Vec<Turn>, last: u8) {
     }
 }
 
+/// A POLL of the root with this handle and no flags.
+fn root_poll(id: u8, handle: [u8; 2]) -> [u8; 64] {
+    let mut bytes = poll(id, handle, 0);
+    bytes[16] = 1;
+    bytes
+}
+
 /// Puts what this stands for at the end.
 fn put_message<R: AllocGlobal + Abort>(rt: &R, turns: &mut Vec<Turn>, message: Message) {
     match message {
@@ -58,6 +67,7 @@ fn put_message<R: AllocGlobal + Abort>(rt: &R, turns: &mut Vec<Turn>, message: M
         Message::Lookups(end, name) => put_lookups(rt, turns, end, name),
         Message::Getattr(id) => put_turn(rt, turns, &getattr(id, 0)),
         Message::Poll(id, handle, flags) => put_turn(rt, turns, &poll(id, handle, flags)),
+        Message::RootPoll(id, handle) => put_turn(rt, turns, &root_poll(id, handle)),
         Message::Polls(last) => put_polls(rt, turns, last),
     }
 }

@@ -26,12 +26,20 @@ struct Row {
 }
 
 const ROWS: &[Row] = &[
-    // A poll that is told at once is answered before its notice.
+    // A poll that is told at once is answered before its notice, also one of the root.
     Row {
-        messages: &[Message::Poll(2, [0x21, 0x43], 0)],
-        frames: &[Frame::Ready(2), Frame::News([0x21, 0x43])],
-        received: 2,
-        replies: 2,
+        messages: &[
+            Message::Poll(2, [0x21, 0x43], 0),
+            Message::RootPoll(3, [0x65, 0]),
+        ],
+        frames: &[
+            Frame::Ready(2),
+            Frame::News([0x21, 0x43]),
+            Frame::Ready(3),
+            Frame::News([0x65, 0]),
+        ],
+        received: 3,
+        replies: 3,
         lost: 0,
     },
     // A poll is told once there is news.

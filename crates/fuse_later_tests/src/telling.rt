@@ -15,11 +15,15 @@ use std::thread;
 /// How often an answer is held at most.
 const MOST_TURNS: u64 = 1_000_000;
 
-/// How many notices a lookup sends, which is one more than the line of a session holds.
-const SENT: u64 = 65;
-
 /// Where a filesystem finds the notifier of its session, once there is one.
 pub(crate) type Slot = Arc<Mutex<Option<Notifier>>, Global>;
+
+/// Where the notifier is found, and how many notices a lookup sends by it.
+#[derive(Drop)]
+pub(crate) struct Flood {
+    pub(crate) slot: Slot,
+    pub(crate) notices: u64,
+}
 
 /// A filesystem that is ready for reading, always. It tells of a poll at once, or where the kernel asks to be told, by the
 /// next GETATTR. It answers a lookup of `a` only once one of `b` was called, by ENOENT, or where that does not come in time,
@@ -30,19 +34,19 @@ pub(crate) struct Telling<R> {
     rt: R,
     waiting: Mutex<Vec<PollNotifier>>,
     is_b_called: AtomicBool,
-    slot: Option<Slot>,
+    flood: Option<Flood>,
     queued: AtomicU64,
     full: AtomicU64,
 }
 
 impl<R: Wait> Telling<R> {
-    /// No poll waits. It finds the notifier of its session in the slot, where there is one.
-    pub(crate) fn new(rt: R, alloc: Global, slot: Option<Slot>) -> Telling<R> {
+    /// No poll waits. A lookup sends these notices, where there are such.
+    pub(crate) fn new(rt: R, alloc: Global, flood: Option<Flood>) -> Telling<R> {
         Telling {
             rt,
             waiting: Mutex::new(Vec::new(alloc)),
             is_b_called: AtomicBool::new(false),
-            slot,
+            flood,
             queued: AtomicU64::new(0),
             full: AtomicU64::new(0),
         }
@@ -99,10 +103,10 @@ impl<R: Wait + AllocGlobal> Telling<R> {
         }
     }
 
-    /// Sends the notices of a lookup.
-    fn flood(&self, slot: &Slot) {
-        if let Some(notifier) = &mut *slot.lock(&self.rt) {
-            for handle in 0..SENT {
+    /// Sends the notices of a lookup, whose handles are their places.
+    fn send_all(&self, flood: &Flood) {
+        if let Some(notifier) = &mut *flood.slot.lock(&self.rt) {
+            for handle in 0..flood.notices {
                 self.send(notifier, handle);
             }
         }
@@ -117,8 +121,8 @@ impl<R: Wait + AllocGlobal> Telling<R> {
             self.is_b_called.store(true, Ordering::SeqCst);
             return Errno::ENOENT;
         }
-        if let Some(slot) = &self.slot {
-            self.flood(slot);
+        if let Some(flood) = &self.flood {
+            self.send_all(flood);
         }
         Errno::ENOSYS
     }

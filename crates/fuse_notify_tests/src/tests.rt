@@ -329,29 +329,44 @@ const REFUSED: &[Step] = &[
     Step::Drain(&[(40, INVAL_INODE)]),
 ];
 
-/// A long payload.
-const LONG: &[u8] = &[0x61; 100_000];
-
-/// It finds memory where there is some.
-const LONG_ONES: &[Step] = &[
-    Step::Notify(News::InvalEntry(LONG), Ok(())),
-    Step::Notify(News::Store(LONG), Ok(())),
-    Step::Notify(News::Delete(LONG), Ok(())),
-    Step::Drain(&[
-        (16 + 17 + 100_000, &[]),
-        (16 + 24 + 100_000, &[]),
-        (16 + 25 + 100_000, &[]),
-    ]),
+/// How long the frames of an entry, of data and of a name that is gone are, each of one byte more than 16 mebibytes.
+const LONG_FRAMES: Frames = &[
+    (16 + 17 + 16_777_217, &[]),
+    (16 + 24 + 16_777_217, &[]),
+    (16 + 25 + 16_777_217, &[]),
 ];
+
+/// So many bytes.
+fn many(rt: &impl Abort, alloc: Global, count: usize) -> Vec<u8> {
+    vec![in alloc; 0x61; count].expect(rt, "there is memory")
+}
+
+/// The notices of these bytes find memory, and are queued.
+fn expect_queued<R: Wait + Abort + AllocGlobal>(rt: &R, notifier: &mut Notifier, bytes: &[u8]) {
+    let found = (
+        notifier.inval_entry(rt, INODE, bytes),
+        notifier.store(rt, INODE, 50, bytes),
+        notifier.delete(rt, INODE, CHILD, bytes),
+    );
+    expect_same(rt, &found, &(Ok(()), Ok(()), Ok(())));
+}
 
 #[test]
 fn a_line_takes_notices_while_it_has_room(rt: HostRuntime) {
     let prompt = Parcel::Prompt(0, Out::note(RequestId(2), 3));
     expect_same(&rt, &prompt.inner(), &true);
     take_all(&rt, 8, QUEUED);
+    take_all(&rt, 65_536, QUEUED);
     take_all(&rt, 1, REFUSED);
-    take_all(&rt, 4, LONG_ONES);
     take_all(&rt, 1, &[Step::Poll]);
+}
+
+#[test]
+fn long_notices_find_memory_where_there_is_some(rt: HostRuntime) {
+    let (line, mut first, mut notifier) = line_of(&rt, rt.alloc(), 4);
+    let bytes = many(&rt, rt.alloc(), 16_777_217);
+    expect_queued(&rt, &mut notifier, &bytes);
+    expect_drained(&rt, &line, &mut first, LONG_FRAMES);
 }
 
 #[test]
