@@ -30,7 +30,7 @@ struct Gate {
 }
 
 impl Gate {
-    /// Whether the count was as high in time.
+    /// Whether the count was as high in time. Where it was not, it is made so, and the others wait no longer.
     fn opens(&self) -> bool {
         for _turn in 0..MOST_TURNS {
             if self.count.load(Ordering::SeqCst) >= self.awaited {
@@ -38,6 +38,7 @@ impl Gate {
             }
             thread::yield_now();
         }
+        self.count.fetch_add(self.awaited, Ordering::SeqCst);
         false
     }
 }

@@ -137,6 +137,17 @@ const FINE: &[Row] = &[
         end: End::Fine,
     },
     Row {
+        what: "an option of each kind, which agree",
+        options: &[
+            "ro", "nodev", "nosuid", "noexec", "noatime", "sync", "dirsync", "fsname=x",
+        ],
+        acl: SessionACL::Owner,
+        n_threads: None,
+        clone_fd: false,
+        taken: 1,
+        end: End::Fine,
+    },
+    Row {
         what: "the unmount, where others are served",
         options: &["auto_unmount"],
         acl: SessionACL::RootAndOwner,

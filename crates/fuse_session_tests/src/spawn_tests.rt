@@ -2,16 +2,18 @@
 use crate::asserts::expect_same;
 use crate::counting::Counting;
 use crate::ends::End;
-use crate::messages::{Frame, Given, Request, source_of};
+use crate::messages::{Frame, Given, Request, frames_of, source_of};
+use crate::rows::are_sent;
 use crate::session_tests::{Left, Over, is_left};
 use fuse_config::{Config, SessionACL};
+use fuse_notify::Notifier;
 use fuse_probing::Probing;
 use fuse_probing::test_messages::{EIO, ENOENT, error_reply};
 use fuse_session::{
     BackgroundSession, InlineSpawner, Session, SessionError, SpawnError, Spawner, ThreadSpawner,
     Transcript, spawn_mount,
 };
-use fuse_wire::{MemorySink, MemorySource};
+use fuse_wire::{MemorySink, MemorySource, NoMemory, PollHandle};
 use std::alloc::Global;
 use std::process::Abort;
 use std::sync::atomic::{AtomicU64, Ordering};
@@ -87,6 +89,19 @@ enum Look<'a> {
     Notifier,
     /// Its filesystem is called, which counts here. The call goes on once it was seen.
     Calls(&'a AtomicU64),
+    /// A notifier is made of it, which queues two notices. The call of its filesystem goes on once they are queued.
+    Notices(&'a AtomicU64),
+}
+
+/// Whether a notifier was made, and there were places for two notices of it.
+fn are_queued<R: Wait + AllocGlobal>(rt: &R, made: Result<Notifier, NoMemory>) -> bool {
+    match made {
+        Ok(mut notifier) => {
+            let is_first = notifier.poll(rt, PollHandle(7)).is_ok();
+            is_first && notifier.poll(rt, PollHandle(8)).is_ok()
+        }
+        Err(NoMemory) => false,
+    }
 }
 
 /// Waits for the end of a session in the background, and says whether this was seen of it before.
@@ -102,6 +117,11 @@ fn joined<R: Threads + Wait + AllocGlobal + Sync>(
             let is_called = is_called(calls);
             calls.fetch_add(SEEN, Ordering::SeqCst);
             is_called
+        }
+        Look::Notices(calls) => {
+            let are_queued = are_queued(rt, background.notifier());
+            calls.fetch_add(SEEN, Ordering::SeqCst);
+            are_queued
         }
     };
     (background.join(rt), seen)
@@ -258,14 +278,21 @@ fn is_answered_or_wants_memory<R: Abort>(rt: &R, over: Over) {
     drop(over);
 }
 
-/// A session on two threads that is to run on a thread of its own, and is run here where none can be started; and
-/// whether it was started.
+/// A session on two threads that this spawner is to start, and which is run here where it does not; and whether it was
+/// started.
+fn started_by<R: Threads + Wait + AllocGlobal + Abort + Send + Sync + Copy + 'static>(
+    rt: &R,
+    spawner: &mut Spawner,
+) -> (Over, bool) {
+    let spawned = spawn(rt, spawner, Some(2), Counting::new(None), MESSAGES);
+    over(rt, spawned, Look::Nothing)
+}
+
+/// The same of a spawner that starts threads.
 fn on_a_thread<R: Threads + Wait + AllocGlobal + Abort + Send + Sync + Copy + 'static>(
     rt: &R,
 ) -> (Over, bool) {
-    let mut spawner = spawner_of(rt, None);
-    let spawned = spawn(rt, &mut spawner, Some(2), Counting::new(None), MESSAGES);
-    over(rt, spawned, Look::Nothing)
+    started_by(rt, &mut spawner_of(rt, None))
 }
 
 #[test]
@@ -285,6 +312,30 @@ fn a_session_runs_in_the_background_or_here(rt: HostRuntime) {
 fn a_session_runs_in_the_background_or_here_or_wants_memory(rt: HostRuntime) {
     let (over, _) = on_a_thread(&rt);
     is_answered_or_wants_memory(&rt, over);
+}
+
+#[test]
+fn two_sessions_run_in_the_background(rt: HostRuntime) {
+    let mut spawner = spawner_of(&rt, None);
+    for what in ["the first", "the second"] {
+        let (over, is_started) = started_by(&rt, &mut spawner);
+        let found = (what, over.outcome, over.transcript.frames, is_started);
+        drop(over);
+        expect_same(&rt, &found, &(what, Ok(()), 2, true));
+    }
+}
+
+/// Where memory is wanted once, at most one of them is not started.
+#[test]
+fn two_sessions_run_in_the_background_or_one_here_or_wants_memory(rt: HostRuntime) {
+    let mut spawner = spawner_of(&rt, None);
+    let mut is_any = false;
+    for _ in 0..2 {
+        let (over, is_started) = started_by(&rt, &mut spawner);
+        is_answered_or_wants_memory(&rt, over);
+        is_any = is_any || is_started;
+    }
+    expect_same(&rt, &is_any, &true);
 }
 
 /// A count that is shared by two.
@@ -308,77 +359,91 @@ fn a_session_runs_while_its_caller_goes_on(rt: HostRuntime) {
     expect_same(&rt, &called, &true);
 }
 
-/// INIT and five LOOKUPs under one id.
-const FIVE: &[Given] = &[
-    Given::Opening,
-    Given::Asked(Request::Lookup(2, 0)),
-    Given::Asked(Request::Lookup(2, 0)),
-    Given::Asked(Request::Lookup(2, 0)),
-    Given::Asked(Request::Lookup(2, 0)),
-    Given::Asked(Request::Lookup(2, 0)),
+/// The reply to INIT and to a LOOKUP, and two notices of polls.
+const NOTIFIED: &[Frame] = &[
+    Frame::Accepted,
+    Frame::Error(2, ENOENT),
+    Frame::Bytes(&[
+        24, 0, 0, 0, 1, 0, 0, 0, 0, 0, 0, 0, 0, 0, 0, 0, 7, 0, 0, 0, 0, 0, 0, 0,
+    ]),
+    Frame::Bytes(&[
+        24, 0, 0, 0, 1, 0, 0, 0, 0, 0, 0, 0, 0, 0, 0, 0, 8, 0, 0, 0, 0, 0, 0, 0,
+    ]),
 ];
 
-/// What a session of them leaves, which has answered all.
-const FIVE_ANSWERED: Left = Left {
-    end: End::Fine,
-    received: 6,
-    frames: &[
-        Frame::Accepted,
-        Frame::Error(2, ENOENT),
-        Frame::Error(2, ENOENT),
-        Frame::Error(2, ENOENT),
-        Frame::Error(2, ENOENT),
-        Frame::Error(2, ENOENT),
-    ],
-    destroyed: 1,
-};
-
-/// Each lookup waits until all five are called.
-#[test]
-fn as_many_calls_run_at_once_as_threads_serve(rt: HostRuntime) {
-    let (calls, share) = shared_count(&rt);
-    drop(calls);
-    let mut spawner = spawner_of(&rt, Some(&[]));
-    let spawned = spawn(
-        &rt,
-        &mut spawner,
-        Some(5),
-        Counting::waiting(share, 5),
-        FIVE,
-    );
-    let (over, _) = over(&rt, spawned, Look::Nothing);
-    is_left(&rt, "five at once", over, &FIVE_ANSWERED);
+/// A session on so many threads sends the notices that are queued while its lookup waits for them.
+fn sends_notices<R: Threads + Wait + AllocGlobal + Abort + Send + Sync + Copy + 'static>(
+    rt: &R,
+    n_threads: Option<usize>,
+) {
+    let (calls, share) = shared_count(rt);
+    let mut spawner = spawner_of(rt, None);
+    let waiting = Counting::waiting(share, SEEN);
+    let spawned = spawn(rt, &mut spawner, n_threads, waiting, MESSAGES);
+    let (over, are_queued) = over(rt, spawned, Look::Notices(&calls));
+    are_sent(rt, over.sink.frames(), &frames_of(rt, NOTIFIED), 1);
+    let found = (n_threads, over.outcome, are_queued);
+    drop(over);
+    expect_same(rt, &found, &(n_threads, Ok(()), true));
 }
 
-/// INIT and three LOOKUPs.
-const THREE: &[Given] = &[
-    Given::Opening,
-    Given::Asked(Request::Lookup(2, 0)),
-    Given::Asked(Request::Lookup(2, 0)),
-    Given::Asked(Request::Lookup(2, 0)),
-];
+#[test]
+fn what_is_queued_while_a_session_runs_is_sent(rt: HostRuntime) {
+    sends_notices(&rt, None);
+    sends_notices(&rt, Some(2));
+}
 
-/// Each lookup waits for all three. Two threads serve, so that the first to give up has waited in vain.
+/// INIT and so many LOOKUPs under the id 2.
+fn lookups<R: AllocGlobal + Abort>(rt: &R, count: u64) -> Vec<Given> {
+    let mut given = Vec::new(rt.alloc());
+    given.push(Given::Opening).expect(rt, "there is memory");
+    for _ in 0..count {
+        let lookup = Given::Asked(Request::Lookup(2, 0));
+        given.push(lookup).expect(rt, "there is memory");
+    }
+    given
+}
+
+/// What comes of a session on so many threads of so many LOOKUPs, each of which waits until all are called.
+fn over_waiting<R: Threads + Wait + AllocGlobal + Abort + Send + Sync + Copy + 'static>(
+    rt: &R,
+    n_threads: usize,
+    count: u64,
+) -> Over {
+    let (calls, share) = shared_count(rt);
+    drop(calls);
+    let mut spawner = spawner_of(rt, Some(&[]));
+    let waiting = Counting::waiting(share, count);
+    let given = lookups(rt, count);
+    let spawned = spawn(rt, &mut spawner, Some(n_threads), waiting, &given);
+    over(rt, spawned, Look::Nothing).0
+}
+
+/// How often this error was sent to the id 2.
+fn times_sent(over: &Over, errno: u8) -> usize {
+    let reply = error_reply(2, errno);
+    let sent = over.sink.frames().iter();
+    sent.filter(|frame| frame.as_slice() == reply.as_slice())
+        .count()
+}
+
+/// As many threads serve as there can be at most.
+#[test]
+fn as_many_calls_run_at_once_as_threads_serve(rt: HostRuntime) {
+    let over = over_waiting(&rt, 64, 64);
+    let received = over.transcript.received;
+    let found = (over.outcome, received, times_sent(&over, ENOENT));
+    drop(over);
+    expect_same(&rt, &found, &(Ok(()), 65, 64));
+}
+
+/// Two threads serve, so that the first of three to give up has waited in vain.
 #[test]
 fn no_more_calls_run_at_once_than_threads_serve(rt: HostRuntime) {
-    let (calls, share) = shared_count(&rt);
-    drop(calls);
-    let mut spawner = spawner_of(&rt, Some(&[]));
-    let spawned = spawn(
-        &rt,
-        &mut spawner,
-        Some(2),
-        Counting::waiting(share, 3),
-        THREE,
-    );
-    let (over, _) = over(&rt, spawned, Look::Nothing);
-    let in_vain = error_reply(2, EIO);
-    let sent = over.sink.frames();
-    let is_any = sent
-        .iter()
-        .any(|frame| frame.as_slice() == in_vain.as_slice());
-    expect_same(&rt, &(sent.len(), is_any), &(4, true));
+    let over = over_waiting(&rt, 2, 3);
+    let found = (over.sink.frames().len(), times_sent(&over, EIO) > 0);
     drop(over);
+    expect_same(&rt, &found, &(4, true));
 }
 
 /// The session that a spawner refused to start.
