@@ -255,11 +255,20 @@ fn reads_texts_that_nobody_wrote(rt: HostRuntime) {
     }
 }
 
+/// So long a text is read behind this front, as an option of this kind, which has what stands behind so many bytes.
+fn expect_long(rt: &impl Abort, alloc: Global, front: &str, kind: char, skipped: usize) {
+    let mut text = "lowerdir=/a:"
+        .repeat(alloc, 400)
+        .expect(rt, "there is memory");
+    text.insert_str(0, front).expect(rt, "there is memory");
+    expect_read(rt, alloc, &text, (kind, text.get(skipped..).unwrap_or("")));
+}
+
 #[test]
 fn a_long_text_finds_memory(rt: HostRuntime) {
-    let text = "lowerdir=/a:".repeat(rt.alloc(), 400);
-    let text = text.expect(&rt, "there is memory");
-    expect_read(&rt, rt.alloc(), &text, ('c', &text));
+    expect_long(&rt, rt.alloc(), "", 'c', 0);
+    expect_long(&rt, rt.alloc(), "fsname=", 'f', 7);
+    expect_long(&rt, rt.alloc(), "subtype=", 's', 8);
 }
 
 /// Texts that name other options.

@@ -7,6 +7,8 @@ mod asserts;
 #[cfg(test)]
 mod headers;
 #[cfg(test)]
+mod printing;
+#[cfg(test)]
 mod requests;
 #[cfg(test)]
 mod runner;

@@ -38,7 +38,7 @@ fn put_header(message: &mut [u8; 160], opcode: u16, length: usize) {
 
 /// A message of this opcode about node 9: each 4 bytes of its fixed part are their number, from 1, and the tail follows.
 /// The header counts the first bytes of this body. After it stand ones.
-fn message(opcode: u16, fixed: usize, tail: &[u8], length: usize) -> [u8; 160] {
+pub(crate) fn message(opcode: u16, fixed: usize, tail: &[u8], length: usize) -> [u8; 160] {
     let mut message = [1; 160];
     put_header(&mut message, opcode, length);
     for place in 0..fixed {
@@ -392,7 +392,7 @@ fn asked(message: &[u8]) -> Option<([u64; 6], (u16, bool))> {
 }
 
 /// Opcode, bytes of the fixed part, the tail, and how many bytes of all this are needed.
-type Row = (u16, usize, &'static [u8], usize);
+pub(crate) type Row = (u16, usize, &'static [u8], usize);
 
 const GOOD: &[Row] = &[
     (1, 0, b"a\0", 2),
@@ -444,7 +444,7 @@ const GOOD: &[Row] = &[
 ];
 
 /// The same, written once: a constant stands anew in each function that names it.
-fn good() -> &'static [Row] {
+pub(crate) fn good() -> &'static [Row] {
     GOOD
 }
 
@@ -773,27 +773,4 @@ fn reads_nothing_after_the_message(rt: HostRuntime) {
     expect_alone(&rt, &message(1, 0, b"a\0", 2), 42, 1);
     expect_alone(&rt, &message(15, 40, b"", 40), 80, 15);
     expect_alone(&rt, &message(41, 0, b"any", 3), 43, 41);
-}
-
-/// The name of an operation.
-fn printed(alloc: Global, message: &[u8]) -> Result<String, AllocError> {
-    match AnyRequest::try_from(message) {
-        Ok(request) => format!(in alloc; "{:?}", request.operation()),
-        Err(error) => format!(in alloc; "no request: {error:?}"),
-    }
-}
-
-/// The names of the operations of two messages.
-fn two_printed(alloc: Global) -> Result<(String, String), AllocError> {
-    let lookup = printed(alloc, &message(1, 0, b"a\0", 2))?;
-    let range = printed(alloc, &message(47, 56, b"", 56))?;
-    Ok((lookup, range))
-}
-
-#[test]
-fn prints_the_name_of_an_operation(rt: HostRuntime) -> Result<(), AllocError> {
-    let (lookup, range) = two_printed(rt.alloc())?;
-    let found = (lookup.as_str(), range.as_str());
-    expect_same(&rt, &found, &("Ok(Lookup)", "Ok(CopyFileRange)"));
-    Ok(())
 }

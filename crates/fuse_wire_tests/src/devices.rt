@@ -1,14 +1,12 @@
-//! Devices in memory, those of std, and frames on a stream.
+//! Devices in memory, and frames on a stream.
 ghost use Rattle.fuse_wire.specs.MemorySink.{EachFails, NumbersDiffer};
 
 use crate::asserts::expect_same;
 use fuse_wire::{
     ByteRead, ByteSink, ByteSource, ByteWrite, Items, MemoryBytes, MemoryOut, MemorySink, Noting,
-    RequestId, Sending, Sink, StdSink, StdSource, StreamSink,
+    RequestId, Sending, Sink, StreamSink,
 };
 use std::alloc::Global;
-use std::io;
-use std::io::{Cursor, Read, Write};
 use std::process::Abort;
 
 /// What a read gives, with a piece of four bytes.
@@ -360,129 +358,18 @@ fn each_byte_is_a_write_that_may_fail(rt: HostRuntime) {
     }
 }
 
-#[test]
-fn reads_a_slice(rt: HostRuntime) {
-    let bytes: &[u8] = &[1, 2, 3];
-    let mut source = StdSource::new(bytes);
-    let mut piece = [0; 2];
-    let first = (source.read(&mut piece), piece);
-    let second = (source.read(&mut piece), piece[0], source.read(&mut piece));
-    expect_same(
-        &rt,
-        &(first, second),
-        &(
-            (ByteRead::Got(2), [1, 2]),
-            (ByteRead::Got(1), 3, ByteRead::End),
-        ),
-    );
-}
-
-/// A reader whose first read is interrupted, and that gives a byte at each later one.
-#[derive(Drop)]
-struct Interrupted {
-    before: bool,
-}
-
-impl Read for Interrupted {
-    fn read(&mut self, piece: &mut [u8]) -> io::Result<usize> {
-        if !self.before {
-            self.before = true;
-            return Err(io::Error::from(io::ErrorKind::Interrupted));
-        }
-        let Some(first) = piece.first_mut() else {
-            return Ok(0);
-        };
-        *first = 7;
-        Ok(1)
-    }
-}
+/// How many bytes are read and written at once where nothing limits them.
+const MANY: usize = 100_000;
 
 #[test]
-fn a_read_that_fails_is_not_tried_again(rt: HostRuntime) {
-    let mut source = StdSource::new(Interrupted { before: false });
-    let mut piece = [0; 2];
-    let found = (source.read(&mut piece), source.read(&mut piece), piece);
-    expect_same(&rt, &found, &(ByteRead::Failed, ByteRead::Got(1), [7, 0]));
-}
-
-/// A writer that takes all and can't flush it.
-#[derive(Drop)]
-struct Unflushed;
-
-impl Write for Unflushed {
-    fn write(&mut self, piece: &[u8]) -> io::Result<usize> {
-        Ok(piece.len())
-    }
-
-    fn flush(&mut self) -> io::Result<()> {
-        Err(io::Error::from(io::ErrorKind::BrokenPipe))
-    }
-}
-
-#[test]
-fn fails_where_the_flush_fails(rt: HostRuntime) {
-    let mut sink = StdSink::new(Unflushed);
-    let answers = [sink.write(&[1, 2]), sink.write(&[3])];
-    expect_same(&rt, &answers, &[ByteWrite::Failed; 2]);
-}
-
-/// A writer that holds what it takes until it is flushed, and fails before it takes anything where it is to.
-#[derive(Drop)]
-struct Buffering {
-    fails: bool,
-    held: usize,
-    flushed: usize,
-}
-
-impl Write for Buffering {
-    fn write(&mut self, piece: &[u8]) -> io::Result<usize> {
-        if self.fails {
-            self.fails = false;
-            return Err(io::Error::from(io::ErrorKind::Interrupted));
-        }
-        self.held = self.held.saturating_add(piece.len());
-        Ok(piece.len())
-    }
-
-    fn flush(&mut self) -> io::Result<()> {
-        self.flushed = self.flushed.saturating_add(self.held);
-        self.held = 0;
-        Ok(())
-    }
-}
-
-#[test]
-fn flushes_what_it_wrote_and_tries_no_write_again(rt: HostRuntime) {
-    let mut writer = Buffering {
-        fails: true,
-        held: 0,
-        flushed: 0,
-    };
-    let mut sink = StdSink::new(&mut writer);
-    let answers = [sink.write(&[0]), sink.write(&[1, 2]), sink.write(&[3])];
-    let expected = [ByteWrite::Failed, ByteWrite::Wrote(2), ByteWrite::Wrote(1)];
-    let found = (answers, writer.held, writer.flushed);
-    expect_same(&rt, &found, &(expected, 0, 3));
-}
-
-#[test]
-fn writes_to_a_vector(rt: HostRuntime) {
-    let mut bytes = Vec::new(rt.alloc());
-    let mut sink = StdSink::new(&mut bytes);
-    let answers = [sink.write(&[1, 2]), sink.write(&[3])];
-    expect_same(
-        &rt,
-        &(answers, bytes.as_slice()),
-        &(
-            [ByteWrite::Wrote(2), ByteWrite::Wrote(1)],
-            [1, 2, 3].as_slice(),
-        ),
-    );
-}
-
-#[test]
-fn fails_where_nothing_is_taken(rt: HostRuntime) {
-    let mut sink = StdSink::new(Cursor::new([0; 2]));
-    let answers = [sink.write(&[1, 2, 3]), sink.write(&[3])];
-    expect_same(&rt, &answers, &[ByteWrite::Wrote(2), ByteWrite::Failed]);
+fn a_long_piece_is_read_and_written_at_once(rt: HostRuntime) {
+    let alloc = rt.alloc();
+    let mut piece = vec![in alloc; 0; MANY].expect(&rt, "there is memory");
+    let bytes = vec![in alloc; 7; MANY].expect(&rt, "there is memory");
+    let read = MemoryBytes::new(bytes, usize::MAX, Vec::new(alloc)).read(&mut piece);
+    let mut out = MemoryOut::new(alloc, usize::MAX, Vec::new(alloc));
+    let wrote = out.write(&piece);
+    let found = (read, wrote, out.bytes().len(), out.starved());
+    let expected = (ByteRead::Got(MANY), ByteWrite::Wrote(MANY), MANY, 0);
+    expect_same(&rt, &found, &expected);
 }

@@ -13,3 +13,5 @@ mod messages;
 mod names;
 #[cfg(test)]
 mod numbers;
+#[cfg(test)]
+mod std_devices;

@@ -237,3 +237,11 @@ fn each_source_gives_what_its_case_says(rt: HostRuntime) {
         expect_case(&rt, rt.alloc(), buffer, case);
     }
 }
+
+#[test]
+fn a_receive_buffer_is_of_zero_bytes_and_takes_no_more(rt: HostRuntime) {
+    let room = receive_buffer(rt.alloc()).expect(&rt, "there is memory");
+    let others = room.iter().filter(|byte| **byte != 0).count();
+    let found = (room.len(), room.capacity(), others);
+    expect_same(&rt, &found, &(16_781_312, 16_781_312, 0));
+}

@@ -6,6 +6,7 @@ use fuse_wire::{
     FsyncFlags, GetattrFlags, InitFlags, IoctlFlags, PollEvents, PollFlags, ReadFlags,
     ReleaseFlags, RenameFlags, WriteFlags,
 };
+use std::alloc::Global;
 use std::process::Abort;
 
 // The row at a place of a table: the constant of this name, and the number of Linux. A match costs less to prove than an
@@ -393,18 +394,31 @@ fn what_access_asks_has_the_numbers_of_linux(rt: HostRuntime) {
     }
 }
 
+/// Each set of flags that prints has the text of its bits.
+fn expect_bits(rt: &impl Abort, alloc: Global, bits: u32, text: &str) {
+    expect_text(rt, alloc, &PollEvents::from_bits_retain(bits), text);
+    expect_text(rt, alloc, &RenameFlags::from_bits_retain(bits), text);
+    expect_text(rt, alloc, &CuseInitFlags::from_bits_retain(bits), text);
+    expect_text(rt, alloc, &FsyncFlags::from_bits_retain(bits), text);
+    expect_text(rt, alloc, &IoctlFlags::from_bits_retain(bits), text);
+    expect_text(rt, alloc, &PollFlags::from_bits_retain(bits), text);
+    expect_text(rt, alloc, &ReleaseFlags::from_bits_retain(bits), text);
+}
+
+/// The bits of a set, and its text.
+const BITS: &[(u32, &str)] = &[(0, "0"), (1, "1"), (512, "512"), (u32::MAX, "4294967295")];
+
+/// What ACCESS asks, and its text.
+const MASKS: &[(i32, &str)] = &[(0, "0"), (4, "4"), (-2, "-2"), (i32::MAX, "2147483647")];
+
 #[test]
 fn texts_are_decimal(rt: HostRuntime) {
-    let alloc = rt.alloc();
-    expect_text(&rt, alloc, &AccessFlags::from_bits_retain(-2), "-2");
-    expect_text(&rt, alloc, &PollEvents::POLLWRBAND, "512");
-    expect_text(&rt, alloc, &RenameFlags::all(), "7");
-    expect_text(&rt, alloc, &CuseInitFlags::all(), "1");
-    expect_text(&rt, alloc, &FsyncFlags::empty(), "0");
-    expect_text(&rt, alloc, &IoctlFlags::FUSE_IOCTL_32BIT, "8");
-    let odd = PollFlags::from_bits_retain(4294967295);
-    expect_text(&rt, alloc, &odd, "4294967295");
-    expect_text(&rt, alloc, &ReleaseFlags::all(), "3");
+    for (bits, text) in BITS {
+        expect_bits(&rt, rt.alloc(), *bits, text);
+    }
+    for (mask, text) in MASKS {
+        expect_text(&rt, rt.alloc(), &AccessFlags::from_bits_retain(*mask), text);
+    }
 }
 
 /// A bit without a name, and that of the size.

@@ -222,3 +222,9 @@ fn numbers_have_their_texts_and_orders(rt: HostRuntime) {
     expect_cases(&rt, MODES);
     expect_cases(&rt, ITEMS);
 }
+
+#[test]
+fn a_version_has_one_text_for_each_width(rt: HostRuntime) {
+    let text = format!(in rt.alloc(); "{:>8}", Version(7, 40)).expect(&rt, "there is memory");
+    expect_same(&rt, &text.as_str(), &"7.40");
+}
