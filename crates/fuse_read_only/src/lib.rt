@@ -3,13 +3,9 @@
 //! `specs/ReadOnly.antt` gives for that tree, and nothing is ever changed.
 #![tactic(auto)]
 
-#[cfg(test)]
-mod asserts;
 mod files;
 mod listing;
 mod read_only;
-#[cfg(test)]
-mod tests;
 
 pub use files::{Entry, Files, root_attr};
 pub use read_only::ReadOnly;

@@ -4,15 +4,9 @@
 //! `specs/OneFile.antt`.
 #![tactic(auto)]
 
-#[cfg(test)]
-mod asserts;
-#[cfg(test)]
-mod lock_tests;
 mod one_file;
 mod one_lock;
 mod session;
-#[cfg(test)]
-mod tests;
 
 pub use one_file::OneFile;
 pub use one_lock::OneLock;

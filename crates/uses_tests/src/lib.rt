@@ -1,0 +1,18 @@
+//! The tests of `uses` and of `fuse_read_only`: sessions of the one file, of the one lock and of a small tree, from memory
+//! to memory.
+#![tactic(auto)]
+
+#[cfg(test)]
+mod asserts;
+#[cfg(test)]
+mod lock_tests;
+#[cfg(test)]
+mod pair;
+#[cfg(test)]
+mod read_only_tests;
+#[cfg(test)]
+mod rows;
+#[cfg(test)]
+mod serving;
+#[cfg(test)]
+mod tests;

@@ -1,0 +1,320 @@
+// Sessions of a small tree that is only read: each request, and what it gets.
+use crate::asserts::expect_same;
+use crate::pair::{LONG, Pair};
+use crate::rows::{Bytes, ENOENT, EROFS, INIT, LOOKUP, NOTHING, OPEN, OPENDIR, READ, READDIR, Row};
+use crate::serving::{ended_well, expect_frames, serve};
+use fuse_read_only::ReadOnly;
+use fuse_wire::RequestId;
+use std::process::Abort;
+use std::sync::Wait;
+use std::thread::Threads;
+
+const GETATTR: u8 = 3;
+
+const READLINK: u8 = 5;
+
+const ENOSYS: u8 = 38;
+
+/// INIT of version 7.8, as long as a kernel of a later version sends it.
+const OPENING: Row = (
+    INIT,
+    1,
+    0,
+    (64, &[(0, 7), (4, 8), (9, 0x10)], b""),
+    0,
+    (
+        24,
+        &[(0, 7), (4, 40), (9, 0x10), (16, 16), (18, 12), (23, 1)],
+        b"",
+    ),
+);
+
+/// Serves these messages in one session, which sends the frames of these rows in this order, and these notes.
+fn serves<R: Threads + Wait + AllocGlobal + Abort + Sync>(
+    rt: &R,
+    rows: &[Row],
+    answered: &[Row],
+    notes: &[(RequestId, u64)],
+) {
+    let (filesystem, rest) = serve(rt, ReadOnly::new(Pair), None, rows);
+    ended_well(rt, &rest, rows.len(), answered.len(), notes);
+    expect_frames(rt, rest.sink.frames(), answered);
+    drop(rest);
+    expect_same(rt, filesystem.files(), &Pair);
+    expect_same(rt, &filesystem.into_files(), &Pair);
+}
+
+/// Serves these messages, each with its one frame.
+fn serves_each<R: Threads + Wait + AllocGlobal + Abort + Sync>(rt: &R, rows: &[Row]) {
+    serves(rt, rows, rows, &[]);
+}
+
+/// Names, attributes, and what is read. An entry is a `struct fuse_entry_out`, attributes are a `struct fuse_attr_out`, each
+/// of which holds for a second, and READ is a `struct fuse_read_in` with its offset from byte 8 on, and its size at 16.
+const LOOKED_AT: &[Row] = &[
+    OPENING,
+    (
+        LOOKUP,
+        2,
+        1,
+        (0, &[], b"one\0"),
+        0,
+        (
+            128,
+            &[
+                (0, 2),
+                (16, 1),
+                (24, 1),
+                (40, 2),
+                (48, 6),
+                (56, 1),
+                (100, 0x24),
+                (101, 0x81),
+                (104, 1),
+                (121, 2),
+            ],
+            b"",
+        ),
+    ),
+    (LOOKUP, 2, 1, (0, &[], b"none\0"), ENOENT, NOTHING),
+    (LOOKUP, 2, 2, (0, &[], b"one\0"), ENOENT, NOTHING),
+    (
+        GETATTR,
+        2,
+        1,
+        (16, &[], b""),
+        0,
+        (
+            104,
+            &[(0, 1), (16, 1), (76, 0xed), (77, 0x41), (80, 2), (97, 2)],
+            b"",
+        ),
+    ),
+    // 513 bytes are two blocks
+    (
+        GETATTR,
+        2,
+        3,
+        (16, &[], b""),
+        0,
+        (
+            104,
+            &[
+                (0, 1),
+                (16, 3),
+                (24, 1),
+                (25, 2),
+                (32, 2),
+                (76, 0x24),
+                (77, 0x81),
+                (80, 1),
+                (97, 2),
+            ],
+            b"",
+        ),
+    ),
+    (GETATTR, 2, 4, (16, &[], b""), ENOENT, NOTHING),
+    (OPEN, 2, 2, (8, &[], b""), 0, (16, &[], b"")),
+    WHOLE,
+    (
+        READ,
+        2,
+        2,
+        (40, &[(8, 2), (16, 3)], b""),
+        0,
+        (0, &[], b"rst"),
+    ),
+    (READ, 2, 2, (40, &[(8, 6), (16, 1)], b""), 0, NOTHING),
+    (READ, 2, 2, (40, FAR, b""), 0, NOTHING),
+    (READ, 2, 1, (40, &[(16, 1)], b""), ENOENT, NOTHING),
+    (READLINK, 2, 2, NOTHING, ENOSYS, NOTHING),
+];
+
+/// The whole file is read.
+const WHOLE: Row = (READ, 2, 2, (40, &[(16, 255)], b""), 0, (0, &[], b"first\n"));
+
+/// The last offset that a signed number has, and a size of 1.
+const FAR: &[(usize, u8)] = &[
+    (8, 0xff),
+    (9, 0xff),
+    (10, 0xff),
+    (11, 0xff),
+    (12, 0xff),
+    (13, 0xff),
+    (14, 0xff),
+    (15, 0x7f),
+    (16, 1),
+];
+
+#[test]
+fn looks_up_and_reads(rt: HostRuntime) {
+    serves_each(&rt, LOOKED_AT);
+}
+
+/// The entries `.`, `..` and `one`, each a `struct fuse_dirent` of 24 bytes with a name, filled to 8 bytes: the node, the
+/// offset after it, the length of its name, and its type in `dirent.h`.
+const THREE: &[(usize, u8)] = &[
+    (0, 1),
+    (8, 1),
+    (16, 1),
+    (20, 4),
+    (24, b'.'),
+    (32, 1),
+    (40, 2),
+    (48, 2),
+    (52, 4),
+    (56, b'.'),
+    (57, b'.'),
+    (64, 2),
+    (72, 3),
+    (80, 3),
+    (84, 8),
+    (88, b'o'),
+    (89, b'n'),
+    (90, b'e'),
+];
+
+/// These, and the entry with the long name but for the name.
+const ALL: &[(usize, u8)] = &[
+    (0, 1),
+    (8, 1),
+    (16, 1),
+    (20, 4),
+    (24, b'.'),
+    (32, 1),
+    (40, 2),
+    (48, 2),
+    (52, 4),
+    (56, b'.'),
+    (57, b'.'),
+    (64, 2),
+    (72, 3),
+    (80, 3),
+    (84, 8),
+    (88, b'o'),
+    (89, b'n'),
+    (90, b'e'),
+    (96, 3),
+    (104, 4),
+    (112, 40),
+    (116, 8),
+];
+
+/// The second entry alone.
+const ABOVE: Bytes = (
+    32,
+    &[(0, 1), (8, 2), (16, 2), (20, 4), (24, b'.'), (25, b'.')],
+    b"",
+);
+
+/// The last entry alone.
+const LAST: Bytes = (24, &[(0, 3), (8, 4), (16, 40), (20, 8)], LONG);
+
+/// The last offset that there is, and a size of 255.
+const FARTHEST: &[(usize, u8)] = &[
+    (8, 0xff),
+    (9, 0xff),
+    (10, 0xff),
+    (11, 0xff),
+    (12, 0xff),
+    (13, 0xff),
+    (14, 0xff),
+    (15, 0xff),
+    (16, 255),
+];
+
+/// READDIR with offsets and sizes as a READ has them.
+const LISTED: &[Row] = &[
+    OPENING,
+    (READDIR, 2, 1, (40, &[(16, 160)], b""), 0, (120, ALL, LONG)),
+    (READDIR, 2, 1, (40, &[(16, 159)], b""), 0, (96, THREE, b"")),
+    (READDIR, 2, 1, (40, &[(8, 3), (16, 159)], b""), 0, LAST),
+    (READDIR, 2, 1, (40, &[(8, 1), (16, 63)], b""), 0, ABOVE),
+    (READDIR, 2, 1, (40, &[(16, 31)], b""), 0, NOTHING),
+    (READDIR, 2, 1, (40, &[(8, 4), (16, 255)], b""), 0, NOTHING),
+    (READDIR, 2, 1, (40, FARTHEST, b""), 0, NOTHING),
+    (READDIR, 2, 2, (40, &[(16, 255)], b""), 0, NOTHING),
+    (READDIR, 2, 4, (40, &[(16, 255)], b""), ENOENT, NOTHING),
+    (OPENDIR, 2, 1, (8, &[], b""), 0, (16, &[], b"")),
+];
+
+#[test]
+fn lists_what_fits(rt: HostRuntime) {
+    serves_each(&rt, LISTED);
+}
+
+/// Each call that would change something, by the number of its opcode, and the file as it is then.
+const REFUSED: &[Row] = &[
+    OPENING,
+    (4, 2, 2, (88, &[], b""), EROFS, NOTHING),
+    (6, 2, 1, (0, &[], b"link\0one\0"), EROFS, NOTHING),
+    (
+        8,
+        2,
+        1,
+        (16, &[(0, 0xa4), (1, 0x81)], b"new\0"),
+        EROFS,
+        NOTHING,
+    ),
+    (
+        9,
+        2,
+        1,
+        (8, &[(0, 0xed), (1, 0x01)], b"new\0"),
+        EROFS,
+        NOTHING,
+    ),
+    (10, 2, 1, (0, &[], b"one\0"), EROFS, NOTHING),
+    (11, 2, 1, (0, &[], b"one\0"), EROFS, NOTHING),
+    (12, 2, 1, (8, &[(0, 1)], b"one\0two\0"), EROFS, NOTHING),
+    (13, 2, 1, (8, &[(0, 2)], b"two\0"), EROFS, NOTHING),
+    (OPEN, 2, 2, (8, &[(0, 1), (1, 0x80)], b""), EROFS, NOTHING),
+    (OPEN, 2, 2, (8, &[(0, 2), (1, 0x80)], b""), EROFS, NOTHING),
+    (16, 2, 2, (44, &[(16, 4)], b""), EROFS, NOTHING),
+    (21, 2, 2, (8, &[(0, 4)], b"a.b\0byte"), EROFS, NOTHING),
+    (24, 2, 2, (0, &[], b"a.b\0"), EROFS, NOTHING),
+    (
+        35,
+        2,
+        1,
+        (16, &[(0, 2), (4, 0xa4), (5, 0x81)], b"new\0"),
+        EROFS,
+        NOTHING,
+    ),
+    (43, 2, 2, (32, &[], b""), EROFS, NOTHING),
+    (
+        45,
+        2,
+        1,
+        (16, &[(0, 1), (8, 1)], b"one\0two\0"),
+        EROFS,
+        NOTHING,
+    ),
+    (47, 2, 2, (56, &[], b""), EROFS, NOTHING),
+    WHOLE,
+];
+
+#[test]
+fn changes_nothing(rt: HostRuntime) {
+    serves_each(&rt, REFUSED);
+}
+
+/// FORGET of nine, and BATCH_FORGET of two rows. No frame comes of either.
+const FORGOTTEN: &[Row] = &[
+    OPENING,
+    (2, 2, 2, (8, &[(0, 9)], b""), 0, NOTHING),
+    (
+        42,
+        2,
+        0,
+        (40, &[(0, 2), (8, 2), (16, 5), (24, 3), (32, 7)], b""),
+        0,
+        NOTHING,
+    ),
+];
+
+#[test]
+fn notes_forgets(rt: HostRuntime) {
+    let notes = [(RequestId(2), 9), (RequestId(2), 2)];
+    serves(&rt, FORGOTTEN, &[OPENING], &notes);
+}
