@@ -1,5 +1,5 @@
-//! The tests of `uses` and of `fuse_read_only`: sessions of the one file, of the one lock and of a small tree, from memory
-//! to memory.
+//! The tests of `uses` and of `fuse_read_only`: sessions of the one file, of the one lock and of a small tree, from
+//! memory to memory.
 #![tactic(auto)]
 
 #[cfg(test)]

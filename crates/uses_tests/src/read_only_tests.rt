@@ -49,8 +49,8 @@ fn serves_each<R: Threads + Wait + AllocGlobal + Abort + Sync>(rt: &R, rows: &[R
     serves(rt, rows, rows, &[]);
 }
 
-/// Names, attributes, and what is read. An entry is a `struct fuse_entry_out`, attributes are a `struct fuse_attr_out`, each
-/// of which holds for a second, and READ is a `struct fuse_read_in` with its offset from byte 8 on, and its size at 16.
+/// Names, attributes, and what is read. An entry is a `struct fuse_entry_out`, attributes are a `struct fuse_attr_out`,
+/// each of which holds for a second, and READ is a `struct fuse_read_in`: its offset from byte 8 on, its size at 16.
 const LOOKED_AT: &[Row] = &[
     OPENING,
     (
