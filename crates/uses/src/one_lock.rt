@@ -140,7 +140,7 @@ impl<R: Wait> OneLock<R> {
     }
 
     /// Whether the lock was free, or this owner's already: then it is this owner's from now on.
-    pub(crate) fn takes(&self, owner: LockOwner) -> bool {
+    fn takes(&self, owner: LockOwner) -> bool {
         self.desk.lock(&self.rt).takes(owner)
     }
 
