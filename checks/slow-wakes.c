@@ -1,6 +1,6 @@
 /* For LD_PRELOAD: makes wide what lies between a look and the sleep after it, and between a wake and what its caller does next. A thread
- * is late to sleep, and who wakes it is later to go on; a thread that gives its processor away goes on at once. So a wake that comes
- * before what it tells of is told, or that is not counted for who is on the way to sleep, is missed. */
+ * is late to sleep, and who wakes it is later to go on. So a wake that comes before what it tells of is told, or that is not counted for
+ * who is on the way to sleep, is missed. */
 #define _GNU_SOURCE
 #include <dlfcn.h>
 #include <stdarg.h>
@@ -9,11 +9,6 @@
 
 enum { WAIT = 0, WAKE = 1, COMMAND = 127 };      /* FUTEX_WAIT, FUTEX_WAKE, FUTEX_CMD_MASK of linux/futex.h */
 enum { BEFORE_WAIT = 100, AFTER_WAKE = 400 };    /* microseconds */
-
-int sched_yield(void)
-{
-    return 0;
-}
 
 long syscall(long number, ...)
 {
