@@ -16,7 +16,7 @@ const READLINK: u8 = 5;
 const ENOSYS: u8 = 38;
 
 /// INIT of version 7.8, as long as a kernel of a later version sends it.
-const OPENING: Row = (
+const LONG_OPENING: Row = (
     INIT,
     1,
     0,
@@ -52,7 +52,7 @@ fn serves_each<R: Threads + Wait + AllocGlobal + Abort + Sync>(rt: &R, rows: &[R
 /// Names, attributes, and what is read. An entry is a `struct fuse_entry_out`, attributes are a `struct fuse_attr_out`,
 /// each of which holds for a second, and READ is a `struct fuse_read_in`: its offset from byte 8 on, its size at 16.
 const LOOKED_AT: &[Row] = &[
-    OPENING,
+    LONG_OPENING,
     (
         LOOKUP,
         2,
@@ -225,7 +225,7 @@ const FARTHEST: &[(usize, u8)] = &[
 
 /// READDIR with offsets and sizes as a READ has them.
 const LISTED: &[Row] = &[
-    OPENING,
+    LONG_OPENING,
     (READDIR, 2, 1, (40, &[(16, 160)], b""), 0, (120, ALL, LONG)),
     (READDIR, 2, 1, (40, &[(16, 159)], b""), 0, (96, THREE, b"")),
     (READDIR, 2, 1, (40, &[(8, 3), (16, 159)], b""), 0, LAST),
@@ -245,7 +245,7 @@ fn lists_what_fits(rt: HostRuntime) {
 
 /// Each call that would change something, by the number of its opcode, and the file as it is then.
 const REFUSED: &[Row] = &[
-    OPENING,
+    LONG_OPENING,
     (4, 2, 2, (88, &[], b""), EROFS, NOTHING),
     (6, 2, 1, (0, &[], b"link\0one\0"), EROFS, NOTHING),
     (
@@ -301,7 +301,7 @@ fn changes_nothing(rt: HostRuntime) {
 
 /// FORGET of nine, and BATCH_FORGET of two rows. No frame comes of either.
 const FORGOTTEN: &[Row] = &[
-    OPENING,
+    LONG_OPENING,
     (2, 2, 2, (8, &[(0, 9)], b""), 0, NOTHING),
     (
         42,
@@ -316,5 +316,5 @@ const FORGOTTEN: &[Row] = &[
 #[test]
 fn notes_forgets(rt: HostRuntime) {
     let notes = [(RequestId(2), 9), (RequestId(2), 2)];
-    serves(&rt, FORGOTTEN, &[OPENING], &notes);
+    serves(&rt, FORGOTTEN, &[LONG_OPENING], &notes);
 }
