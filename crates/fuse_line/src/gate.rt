@@ -21,8 +21,17 @@ impl Gate {
         }
     }
 
+    /// Wakes one that sleeps, and lets nobody fall asleep who has not looked since. All that wait here wait for the same,
+    /// and each tries to take it once it is woken. Where nobody waits, it is one load.
+    pub(crate) fn wake_one(&self) {
+        if self.waiting.load(Ordering::SeqCst) > 0 {
+            self.woken.fetch_add(1, Ordering::SeqCst);
+            self.woken.wake_one();
+        }
+    }
+
     /// Wakes all that wait. Where nobody does, it is one load.
-    pub(crate) fn wake(&self) {
+    pub(crate) fn wake_all(&self) {
         if self.waiting.load(Ordering::SeqCst) > 0 {
             self.woken.fetch_add(1, Ordering::SeqCst);
             self.woken.wake_all();
@@ -44,7 +53,7 @@ impl Gate {
         self.waiting.load(Ordering::SeqCst) > 0
     }
 
-    // From here on each move wakes this thread: what it looks at after this, it cannot miss.
+    // From here on this thread sleeps at no count but the one that it gets: what it looks at after this, it cannot miss.
     fn enter(&self) -> u64 {
         self.waiting.fetch_add(1, Ordering::SeqCst);
         self.woken.load(Ordering::SeqCst)
@@ -57,11 +66,11 @@ impl Gate {
 
 /// A thread that waits for a line. After each try that came to nothing it rests.
 ///
-/// The rests are short at first. Then one only makes sure that each later move wakes this thread, and returns; the one
-/// after it sleeps. So whoever looks between two rests at all that it waits for, at the line and at a flag of its own,
-/// misses nothing. Let it go once a try has come to something: until then moves of the line may cost a call of the
-/// system.
-pub struct Waiting<'a> {
+/// The rests are short at first. Then one only makes sure that this thread does not sleep after a later move, and
+/// returns; the one after it sleeps. So whoever looks between two rests at all that it waits for, at the line and at a
+/// flag of its own, misses nothing. Whoever is woken tries to take what there is before it lets this go: nobody else was
+/// woken for it.
+pub(crate) struct Waiting<'a> {
     gate: &'a Gate,
     tries: u32,
     seen: Option<u64>,
@@ -69,7 +78,7 @@ pub struct Waiting<'a> {
 
 impl Waiting<'_> {
     /// Rests after a try that came to nothing. It may return though nothing has moved.
-    pub fn rest<R: Wait>(&mut self, rt: &R) {
+    pub(crate) fn rest<R: Wait>(&mut self, rt: &R) {
         if self.tries < TRIES {
             self.tries += 1;
             thread::yield_now();
@@ -136,11 +145,12 @@ mod tests {
     #[test]
     fn counts_those_that_wait_and_wakes_them(rt: HostRuntime) {
         let gate = Gate::new();
-        gate.wake();
+        gate.wake_one();
+        gate.wake_all();
         let nobody = gate.counts();
         let mut waiting = gate.wait();
         let rests = gate.rests_until_counted(&rt, &mut waiting);
-        gate.wake();
+        gate.wake_one();
         let woken = gate.counts();
         waiting.rest(&rt);
         let rested = gate.counts();
@@ -150,7 +160,7 @@ mod tests {
         let gone = gate.counts();
         drop(gate.wait());
         let never = gate.counts();
-        expect_same(&rt, &[rests, more_rests], &[33, 33]);
+        expect_same(&rt, &[rests, more_rests], &[TRIES + 1; 2]);
         let found = [nobody, woken, rested, again, gone, never];
         expect_same(
             &rt,

@@ -14,7 +14,6 @@ mod pass;
 mod tests;
 
 pub use class::Class;
-pub use gate::Waiting;
 pub use hand::{Hand, Kind};
 pub use line::{Full, Line};
 pub use pass::Pass;

@@ -103,7 +103,7 @@ impl<T: Class> Line<T> {
     {
         match self.queue.push_as::<Puts, R>(rt, &mut pass.seat, item) {
             Ok(()) => {
-                self.items.wake();
+                self.items.wake_one();
                 Ok(())
             }
             Err(item) => Err(Full { item }),
@@ -124,7 +124,7 @@ impl<T: Class> Line<T> {
     {
         match self.queue.pop_as::<Takes, R>(rt, &mut pass.seat) {
             Some(item) => {
-                self.places.wake();
+                self.places.wake_one();
                 Some(item)
             }
             None => None,
@@ -185,31 +185,19 @@ impl<T: Class> Line<T> {
         unreachable!()
     }
 
-    /// A wait for an item. `pop_waiting` is this loop:
-    ///
-    /// ```text
-    /// let mut waiting = line.wait_for_item();
-    /// for _ in rt.forever() {
-    ///     let stopped = stop.load(Ordering::SeqCst);
-    ///     match line.pop(rt, pass) {
-    ///         Some(item) => return Some(item),
-    ///         None if stopped => return None,
-    ///         None => waiting.rest(rt),
-    ///     }
-    /// }
-    /// ```
-    pub fn wait_for_item(&self) -> Waiting<'_> {
+    // A wait for an item, for a pop in the same loop.
+    pub(crate) fn wait_for_item(&self) -> Waiting<'_> {
         self.items.wait()
     }
 
-    /// A wait for a place, for a push in the same loop.
-    pub fn wait_for_place(&self) -> Waiting<'_> {
+    // A wait for a place, for a push in the same loop.
+    pub(crate) fn wait_for_place(&self) -> Waiting<'_> {
         self.places.wait()
     }
 
     /// Wakes all that wait for this line. Whoever raises a flag that they look at stores it first, and then calls this.
     pub fn wake(&self) {
-        self.items.wake();
-        self.places.wake();
+        self.items.wake_all();
+        self.places.wake_all();
     }
 }

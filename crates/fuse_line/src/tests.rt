@@ -1,7 +1,7 @@
 ghost use Rattle.std.specs.Prelude.{◌≡◌, ◌<◌, false};
 ghost use Rattle.fuse_line.specs.declared.hand.Kind.TheVariants.{Door, First, Inner};
 
-use crate::gate::Gate;
+use crate::gate::{Gate, Waiting};
 use crate::*;
 use std::fmt::Debug;
 use std::process::Abort;
@@ -166,10 +166,17 @@ fn moves_a_million_items_in_order_through_few_places(rt: HostRuntime) {
     }
 }
 
-// Whether a thread comes to wait at the gate within ten seconds.
-fn comes_to_wait<R: Clock>(rt: &R, gate: &Gate) -> bool {
-    for _ in 0..10_000 {
-        if gate.is_waited_at() {
+// Whether so many threads come to sleep at the gate within thirty seconds: a hundred looks, one after the other, find them
+// waiting. One that tries again and again is between two waits most of the time.
+fn sleep_at<R: Clock>(rt: &R, gate: &Gate, threads: u64) -> bool {
+    let mut asleep = 0u64;
+    for _ in 0..30_000 {
+        asleep = if gate.counts().0 == threads {
+            asleep.wrapping_add(1)
+        } else {
+            0
+        };
+        if asleep == 100 {
             return true;
         }
         thread::sleep(rt, Duration::from_millis(1));
@@ -177,18 +184,9 @@ fn comes_to_wait<R: Clock>(rt: &R, gate: &Gate) -> bool {
     false
 }
 
-// Whether a thread comes to wait at the gate and sleeps there: most of a hundred looks find it waiting. One that tries
-// again and again is between two waits most of the time.
+// Whether one thread comes to sleep at the gate.
 fn sleeps_at<R: Clock>(rt: &R, gate: &Gate) -> bool {
-    if !comes_to_wait(rt, gate) {
-        return false;
-    }
-    let mut asleep = 0u64;
-    for _ in 0..100 {
-        thread::sleep(rt, Duration::from_millis(1));
-        asleep = asleep.wrapping_add(u64::from(gate.is_waited_at()));
-    }
-    asleep > 50
+    sleep_at(rt, gate, 1)
 }
 
 #[test]
@@ -269,14 +267,51 @@ fn a_pop_sleeps_until_its_flag_is_up(rt: HostRuntime) {
     expect_same(&rt, &(slept, found), &(true, None));
 }
 
-// Rests until the flag is up.
-fn rest_until<R: Wait>(rt: &R, mut waiting: Waiting<'_>, stop: &AtomicBool) {
+// Rests until the flag is up, and tells how often.
+fn rests_until<R: Wait>(rt: &R, mut waiting: Waiting<'_>, stop: &AtomicBool) -> u64 {
+    let mut rests = 0u64;
     for _ in rt.forever() {
         if stop.load(Ordering::SeqCst) {
-            return;
+            return rests;
         }
         waiting.rest(rt);
+        rests = rests.wrapping_add(1);
     }
+    rests
+}
+
+// Of two that sleep the push wakes one, which sleeps again, and the flag wakes both. So they come to sleep three times, and
+// each time it is the rest after the one that makes them be counted.
+#[test]
+fn a_push_wakes_one_and_a_flag_wakes_all(rt: HostRuntime) {
+    let (line, mut pass) = line_of(&rt, 1);
+    let stop = AtomicBool::new(false);
+    let (found, (first, second)): ([bool; 3], (u64, u64)) = thread::join(
+        &rt,
+        ||
+            requires { (pass.line ≡ line) × (pass.hand.kind ≡ First) }
+        {
+            let slept = sleep_at(&rt, &line.items, 2);
+            let pushed = line.push(&rt, &mut pass, job(1)).is_ok();
+            let sleep_again = sleep_at(&rt, &line.items, 2);
+            stop.store(true, Ordering::SeqCst);
+            line.wake();
+            [slept, pushed, sleep_again]
+        },
+        || {
+            thread::join(
+                &rt,
+                || rests_until(&rt, line.wait_for_item(), &stop),
+                || rests_until(&rt, line.wait_for_item(), &stop),
+            )
+        },
+    );
+    let until_counted = line
+        .items
+        .rests_until_counted(&rt, &mut line.wait_for_item());
+    let rests = first.wrapping_add(second);
+    let at_most = u64::from(until_counted).wrapping_add(1).wrapping_mul(3);
+    expect_same(&rt, &(found, rests <= at_most), &([true; 3], true));
 }
 
 // The gate counts its wakes in 64 bits, and a thread sleeps on 32 of them.
@@ -294,7 +329,9 @@ fn a_wait_for_a_place_sleeps_until_its_flag_is_up_after_any_wakes(rt: HostRuntim
                 line.wake();
                 slept
             },
-            || rest_until(&rt, line.wait_for_place(), &stop),
+            || {
+                rests_until(&rt, line.wait_for_place(), &stop);
+            },
         );
         expect_same(&rt, &(woken, slept), &(woken, true));
     }
