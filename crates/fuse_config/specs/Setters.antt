@@ -1,5 +1,6 @@
 -- What the filesystem can set: the configuration after each setter, and what it answers. That is the value before. Where the
--- setter refuses, the configuration is as it was, and the answer is the nearest value that it takes.
+-- setter refuses, the configuration is as it was, and the answer is a value in its place: the limit that was passed, or
+-- the power of ten below.
 use Rattle.std.specs.Prelude.{ℕ, zero, suc, ◌-◌, ◌^◌, ◌==◌, Some, Result, Ok, Err, nat_lt, if◌then◌else◌}
 use Rattle.std.specs.Int.RustNames.{bit_and, bit_or}
 use Rattle.fuse_wire.specs.declared.flags.init_flags.InitFlags.{InitFlags}

@@ -9,7 +9,8 @@ use std::alloc::Global;
 /// How a session is set up.
 #[derive(Debug, PartialEq, Eq, Drop)]
 pub struct Config {
-    /// The options of the mount, in order. Nothing is mounted here: whether they conflict is looked at, and no more.
+    /// The options of the mount, in order. Nothing is mounted here: it is looked at whether they conflict, and whether
+    /// `AutoUnmount` is among them while the owner alone is served, and no more.
     pub mount_options: Items<MountOption>,
     /// Whose requests are served.
     pub acl: SessionACL,

@@ -17,8 +17,8 @@ use fuse_reply::{
 use fuse_request::ForgetList;
 use fuse_wire::{Errno, FileHandle, FopenFlags, INodeNo};
 
-/// Accepts each kernel, and leaves the configuration as it is: of what is offered `FUSE_ASYNC_READ`, `FUSE_BIG_WRITES`
-/// and `FUSE_MAX_PAGES` are granted.
+/// Accepts each kernel, and leaves the configuration as it is: of what is offered `FUSE_ASYNC_READ`, `FUSE_BIG_WRITES`,
+/// `FUSE_MAX_PAGES` and `FUSE_INIT_EXT` are granted.
 pub fn init() -> Result<(), Errno>
     ensures { result ≡ Ok tt }
 {
@@ -104,7 +104,7 @@ pub fn rmdir(reply: ReplyEmpty) -> Replied
     reply.error(Errno::ENOSYS)
 }
 
-/// ENOSYS, which the caller gets.
+/// ENOSYS, which the caller of a rename without flags gets. With flags it gets EINVAL, and so do all later ones.
 pub fn rename(reply: ReplyEmpty) -> Replied
     ensures reply { result ≡ Out.Frame (reply_of reply.id (Error ENOSYS)) }
     ensures answer { IsAnswer (Error ENOSYS) }

@@ -355,11 +355,11 @@ pub trait Filesystem: Send + Sync {
             (Call.RemoveXAttr ino.0 name.now) reply.id reply.door result };
 
     /// FLUSH: a descriptor of an open file is closed. It comes at each `close(2)`, unless the file was opened with
-    /// `FOPEN_NOFLUSH` and no writes are cached; so one open may have many, or none. Its error is that of the
-    /// `close(2)`: here failed writes can be told. Nothing need be brought to the disk. Where `FUSE_POSIX_LOCKS` was
-    /// granted, all locks that `lock_owner` has on this file are given up here, since no SETLK comes for them. ENOSYS
-    /// is remembered: this close and all later ones succeed, and no FLUSH is sent again. `defaults::flush` answers
-    /// ENOSYS, so it is not for a filesystem that keeps such locks.
+    /// `FOPEN_NOFLUSH` and `FUSE_WRITEBACK_CACHE` was not granted; so one open may have many, or none. Its error is
+    /// that of the `close(2)`: here failed writes can be told. Nothing need be brought to the disk. Where
+    /// `FUSE_POSIX_LOCKS` was granted, all locks that `lock_owner` has on this file are given up here, since no SETLK
+    /// comes for them. ENOSYS is remembered: this close and all later ones succeed, and no FLUSH is sent again.
+    /// `defaults::flush` answers ENOSYS, so it is not for a filesystem that keeps such locks.
     fn flush(
         &self,
         request: &Request,
@@ -390,8 +390,8 @@ pub trait Filesystem: Send + Sync {
     /// for. The first time `offset` is 0. Later it is the one that an entry was added with, and the listing goes on
     /// after that entry. What an offset means is for the filesystem to choose, and any u64 may come. No entry is the
     /// end. `.` and `..` are entries like others: the kernel adds neither. For a name that is empty, has a `/` or is
-    /// longer than 1024 bytes the caller gets EIO. The entries do not count as lookups. `defaults::readdir` answers
-    /// ENOSYS, which the caller gets.
+    /// longer than 1024 bytes (4095 since Linux 6.14) the caller gets EIO. The entries do not count as lookups.
+    /// `defaults::readdir` answers ENOSYS, which the caller gets.
     fn readdir(
         &self,
         request: &Request,

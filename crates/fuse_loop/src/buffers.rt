@@ -63,8 +63,8 @@ impl Lines {
     }
 }
 
-/// The memory of a session, all of it taken before the first message: where messages are received, the lines of its run,
-/// and the mark of its end. A contract sees the lines.
+/// The memory that a session can't do without, taken before the first message: where messages are received, the lines
+/// of its run, and the mark of its end. A contract sees the lines.
 #[derive(Drop)]
 pub struct Buffers {
     /// Where messages are received, `BUFFER_SIZE` bytes long.

@@ -9,7 +9,7 @@ use fuse_wire::{Sending, Sink};
 /// Why a notice did not reach the kernel.
 #[derive(Clone, Copy, Debug, PartialEq, Eq)]
 pub enum Undelivered {
-    /// Nobody waits for that poll (the kernel's ENOENT).
+    /// The sink knows of nobody who waits for that poll. Linux itself takes the notice of one all the same.
     Absent,
     /// The device failed.
     Failed,

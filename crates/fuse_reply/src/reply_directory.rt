@@ -33,7 +33,8 @@ pub type ReplyDirectory = ReplyListing<DirEntries>;
 impl ReplyListing<DirEntries> {
     #[tactic(auto, unfolding(crate::specs::Listing::dirent))]
     /// Adds an entry behind the others: its inode, the offset at which the listing goes on after it, what kind of file
-    /// it is, and its name. Of a name the kernel takes 1 to 1024 bytes, none of them `/`; here it may have `u32::MAX`.
+    /// it is, and its name. Of a name the kernel takes 1 to 1024 bytes (4095 since Linux 6.14), none of them `/`; here
+    /// it may have `u32::MAX`.
     ///
     /// Ok(false): it was added. Ok(true): it does not fit, and nothing changed; a shorter one may fit still. An error:
     /// there was no memory, and nothing changed.

@@ -34,7 +34,7 @@ impl ReplyListing<PlusEntries> {
     #[tactic(auto, unfolding(crate::specs::Listing::direntplus, crate::specs::Listing::dirent))]
     /// Adds an entry behind the others: the offset at which the listing goes on after it, its name, and what a lookup
     /// of the name answers. The inode and the kind are those of the attributes; the first argument is not sent. Of a
-    /// name the kernel takes 1 to 1024 bytes, none of them `/`; here it may have `u32::MAX`.
+    /// name the kernel takes 1 to 1024 bytes (4095 since Linux 6.14), none of them `/`; here it may have `u32::MAX`.
     ///
     /// Ok(false): it was added. Ok(true): it does not fit, and nothing changed; a shorter one may fit still. An error:
     /// there was no memory, and nothing changed.

@@ -22,8 +22,8 @@ pub enum SessionError {
     AutoUnmount,
     /// `clone_fd` is set with more than one thread, and no device is opened here. Nothing was done, as for a conflict.
     CloneFd,
-    /// No memory was to be had for the receive buffer, the lines of the run or the notifier. Nothing was done, as for a
-    /// conflict.
+    /// No memory was to be had for the receive buffer, the lines of the run or the mark of its end. Nothing was done,
+    /// as for a conflict.
     Memory,
     /// No message was left before an INIT was accepted.
     NotConnected,

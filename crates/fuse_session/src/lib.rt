@@ -1,7 +1,7 @@
 //! Sessions: the handshake with a kernel, and the run that answers each later message, on the caller's thread or on
 //! others. The trait `Filesystem`, its defaults and the verdict, in `fuse_dispatch`, are had from here too.
 //! The layers above rely on this: when `mount` answers Ok and nothing was lost, every message that it took has the one
-//! frame or note that it is owed.
+//! frame or note that it is owed or, where replies come later, the mark of one.
 #![tactic(auto)]
 
 mod background;

@@ -111,10 +111,11 @@ fn open<R: Wait + AllocGlobal, FS: Filesystem, S: Source, K: Sink>(
 }
 
 impl<FS: Filesystem, S: Source, K: Sink + Send> Session<FS, S, K> {
-    /// Opens a session: first the options of `config` are looked at, then its memory is taken, the only memory that a
-    /// session takes itself (where messages are received, the lines of its run, and a notifier), and then the kernel is
-    /// greeted. `owner` is the user whose session it is, and `config` says whose requests are served. `page_size` is in
-    /// bytes, and not 0: the kernel is told how many pages a request may span.
+    /// Opens a session: first the options of `config` are looked at, then the memory is taken that a session can't do
+    /// without (where messages are received, the lines of its run, and the mark of its end), and then the kernel is
+    /// greeted. A run on several threads takes more, and goes on where there is none. `owner` is the user whose session
+    /// it is, and `config` says whose requests are served. `page_size` is in bytes, and not 0: the kernel is told how
+    /// many pages a request may span.
     ///
     /// An error hands all back. Where the options are refused, or there is no memory, nothing else was done; otherwise
     /// `destroy` was called once. It is never `SessionError::Threads`.
@@ -246,8 +247,8 @@ impl<FS: Filesystem, S: Source, K: Sink + Send> Session<FS, S, K> {
     /// was to serve. On one thread each message is answered before the next is taken. On more of them this one
     /// receives, as many workers answer as were asked for, but at most 64 and no more than can be started, and one more
     /// sends; replies go out in any order. This thread answers too what it can't hand on to a worker, and sends where
-    /// no sender could be started. A frame or a note that the sink refuses is counted as lost, and not sent again.
-    /// `destroy` is called once.
+    /// no sender could be started. A reply or a note that the sink refuses is counted as lost, and a notice nowhere;
+    /// neither is sent again. `destroy` is called once.
     pub fn run<R: Threads + Wait + AllocGlobal + Sync>(self, rt: &R) -> Ended<FS, S, K>
 
         // What was taken, sent, lost and counted after the handshake, why it ended so, and that `destroy` was called once.

@@ -5,7 +5,8 @@ ghost use Rattle.fuse_wire.specs.Errno.{errno_from, named_numbers};
 use std::marker::Model;
 
 /// An error number of Linux, as in `asm-generic/errno-base.h` and `asm-generic/errno.h`: from 1 to the last value of an
-/// i32. A reply carries its negative. A contract sees the number.
+/// i32. A reply carries its negative. The kernel takes 1 to 511: it refuses a reply with a greater one, and whoever
+/// asked goes on waiting. A contract sees the number.
 #[derive(Clone, Copy, Debug, PartialEq, Eq)]
 pub struct Errno {
     code: u32,

@@ -30,9 +30,10 @@ pub trait Sink {
     /// Its frames and notes, where it tells them, how often it has failed, and what it was made over.
     ghost told: { Self → SinkState };
 
-    /// Sends one frame, whose length field counts the header and the payload. A frame of the id 0 is a notice. The
-    /// kernel may hold the write of one until requests are answered, and replies come by this call too: so what writes
-    /// to `/dev/fuse` itself hands notices to a thread of their own, and does not wait for them here.
+    /// Sends one frame, whose length field counts the header and the payload. A frame whose status is above 0 is a
+    /// notice, and its id is 0. The kernel may hold the write of one until requests are answered, and replies come by
+    /// this call too: so what writes to `/dev/fuse` itself hands notices to a thread of their own, and does not wait
+    /// for them here.
     fn send(&mut self, header: &[u8; 16], payload: &[u8]) -> Sending
         requires { number header.now 0 4 ≡ 16 + length payload.now }
         ensures { Sends result (header.now ++ payload.now) (told self.old) (told self.new) };

@@ -25,7 +25,7 @@ impl FopenFlags {
     /// The file is a stream: it has no position at all, and no read or write waits for another because of it.
     pub const FOPEN_STREAM: FopenFlags = FopenFlags(1 << 4);
 
-    /// Closing the file sends no FLUSH, unless writes are cached.
+    /// Closing the file sends no FLUSH, unless `FUSE_WRITEBACK_CACHE` was granted.
     pub const FOPEN_NOFLUSH: FopenFlags = FopenFlags(1 << 5);
 
     /// Direct writes to the file may go on at the same time.

@@ -17,7 +17,7 @@ impl InitFlags {
     /// The filesystem keeps the locks of `fcntl(2)`.
     pub const FUSE_POSIX_LOCKS: InitFlags = InitFlags(1 << 1);
 
-    /// Attributes are asked for with the handle of the open file.
+    /// Attributes are asked for with the handle of the open file: no kernel does it for this flag.
     pub const FUSE_FILE_OPS: InitFlags = InitFlags(1 << 2);
 
     /// The filesystem itself truncates where a file is opened with `O_TRUNC`.
