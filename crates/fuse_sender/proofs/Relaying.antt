@@ -23,7 +23,8 @@ use Rattle.fuse_core.specs.Marks.{late_tag}
 use Rattle.fuse_book.specs.Matched.{Tag}
 use Rattle.fuse_sender.specs.Pairing.{Parts, outs_of}
 use Rattle.fuse_loop.specs.Progress.{LeavesOut, Moves, OutletState, counting, progress}
-use Rattle.fuse_sender.specs.Relays.{IsLateReply, IsRelayed, RelayState, Relays, SendsLate, SendsOut, SendsParcel, TakesLate, is_own, late_out, with_tag}
+use Rattle.fuse_sender.specs.Relays.{HandsEach, IsLateReply, IsRelayed, RelayState, Relays, SendsLate, SendsOut, SendsParcel, TakesLate}
+use Rattle.fuse_sender.specs.Relays.{is_own, late_out, with_tag}
 use Rattle.fuse_book.specs.declared.book.Book.{Book}
 use Rattle.fuse_loop.proofs.FrameLines.{notices-append}
 use Rattle.fuse_loop.proofs.ItemLists.{All-append}
@@ -70,9 +71,15 @@ still source unasked a b same = same-notices source unasked a b (Moves-none (rec
   unasked = refl;
 }))
 
+-- these parcels were handed on one after the other, and then those
+HandsEach-append : (xs ys : List Parcel) (a b c : RelayState) → HandsEach xs a b → HandsEach ys b c → HandsEach (xs ++ ys) a c
+HandsEach-append [] ys a b c first second = subst (λ (s : RelayState). HandsEach ys s c) first second
+HandsEach-append (x ∷ xs) ys a b c first second = (first.0, first.1, HandsEach-append xs ys first.0 b c first.2 second)
+
 -- nothing was handed on
 pub Relays-none : (a : RelayState) → Relays [] a a
 Relays-none a = record {
+  each = refl;
   outs = [];
   gone = [];
   mixed = (refl, refl);
@@ -90,6 +97,7 @@ Relays-none a = record {
 -- these parcels, and then those
 pub Relays-then : (xs ys : List Parcel) (a b c : RelayState) → Relays xs a b → Relays ys b c → Relays (xs ++ ys) a c
 Relays-then xs ys a b c first second = record {
+  each = HandsEach-append xs ys a b c first.each second.each;
   outs = first.outs ++ second.outs;
   gone = first.gone ++ second.gone;
   mixed = subst (λ (l : List Out). LeavesOut l (first.outs ++ second.outs) (outs_of (xs ++ ys))) (sym (map-append gone_out first.gone second.gone))
@@ -229,8 +237,10 @@ TakesLate-by late tag go a b is keeps own = record {
 }
 
 -- what is handed to the sink at once, with no mark and no late frame
-at_once : (seq : ℕ) (out : Out) (a b : RelayState) → Handing out a.outlet b.outlet → b.book ≡ a.book → Relays (Prompt seq out ∷ []) a b
-at_once seq out a b handing same = record {
+at_once : (seq : ℕ) (out : Out) (a b : RelayState) → SendsOut out a b → Handing out a.outlet b.outlet → b.book ≡ a.book
+    → Relays (Prompt seq out ∷ []) a b
+at_once seq out a b sends handing same = record {
+  each = (b, sends, refl);
   outs = out ∷ [];
   gone = [];
   mixed = inl ([], refl, (refl, refl));
@@ -248,13 +258,14 @@ at_once seq out a b handing same = record {
 -- what goes out for a message
 pub Relays-out : (seq : ℕ) (out : Out) (a b : RelayState) → SendsOut out a b → Relays (Prompt seq out ∷ []) a b
 Relays-out seq (Frame f) a b sends =
-    let once = sends.0 in at_once seq (Frame f) a b (handing-frame f a.outlet b.outlet once.end once.delivered once.counts once.reply) sends.1
+    let once = sends.0 in at_once seq (Frame f) a b sends (handing-frame f a.outlet b.outlet once.end once.delivered once.counts once.reply) sends.1
 Relays-out seq (Noting id mark) a b sends =
-    let once = sends.0 in at_once seq (Noting id mark) a b (handing-note id mark a.outlet b.outlet once.end once.delivered once.counts) sends.1
+    let once = sends.0 in at_once seq (Noting id mark) a b sends (handing-note id mark a.outlet b.outlet once.end once.delivered once.counts) sends.1
 Relays-out seq (Deferred number id) a b sends =
     let tag : Tag = (number, id.0) in
     let lets = letting-go tag sends.0 a.outlet b.outlet sends.2 in
     record {
+      each = (b, sends, refl);
       outs = Deferred number id ∷ lets.outs;
       gone = tagged tag sends.0;
       mixed = inl ([], refl, lets.mixed);
@@ -273,6 +284,7 @@ Relays-out seq (Deferred number id) a b sends =
 pub Relays-one : (parcel : Parcel) (a b : RelayState) → SendsParcel parcel a b → Relays (parcel ∷ []) a b
 Relays-one (Prompt seq out) a b sends = Relays-out seq out a b sends
 Relays-one (Notice frame) a b sends = record {
+  each = (b, sends, refl);
   outs = [];
   gone = [];
   mixed = (refl, refl);
@@ -290,6 +302,7 @@ Relays-one (Late late) a b sends =
     let tag : Tag = late_tag late in
     let lets = letting-go tag sends.0 a.outlet b.outlet sends.2 in
     record {
+      each = (b, sends, refl);
       outs = lets.outs;
       gone = tagged tag sends.0;
       mixed = lets.mixed;

@@ -74,9 +74,15 @@ SendsParcel (Notice frame) before after = SendsNotice frame before.outlet after.
 SendsParcel (Late late) before after =
     (go : Option LateSeen) × TakesLate late go before.book after.book × SendsLate go before.outlet after.outlet
 
+-- the parcels were handed on one after the other, in their order
+abbrev pub HandsEach : List Parcel → (before after : RelayState) → Type 0
+HandsEach [] before after = after ≡ before
+HandsEach (p ∷ ps) before after = (between : RelayState) × SendsParcel p before between × HandsEach ps between after
+
 -- Of the parcels each frame, note and notice was, in that order, appended to the sink or refused by it, and so were, among them, the late
 -- frames that were let go; the marks and the late frames came into the book; and nothing else was appended.
 pub record Relays (parcels : List Parcel) (before after : RelayState) : Type 0 where
+  pub each : HandsEach parcels before after
   pub outs : List Out
   pub gone : List (Tag × LateSeen)
   pub mixed : LeavesOut (map (λ l. late_out l.1) gone) outs (outs_of parcels)
