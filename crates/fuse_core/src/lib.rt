@@ -5,6 +5,7 @@
 
 mod copied;
 mod event;
+pub mod laws;
 mod lists;
 mod marks;
 mod state;
