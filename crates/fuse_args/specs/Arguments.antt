@@ -54,6 +54,6 @@ init_at bytes = if nat_le 16 (length bytes) then Some (init_fields bytes, drop 6
 abbrev pub u64_first : List ℕ → Option (ℕ × List ℕ)
 u64_first = fixed 8 (λ b. number b 0 8)
 
--- CUSE_INIT: 64 bytes, of which none is read
+-- CUSE_INIT: 64 bytes, as `fuser` has it, where `struct cuse_init_in` has 16; none is read
 abbrev pub cuse_init_at : List ℕ → Option (Unit {0} × List ℕ)
 cuse_init_at = fixed 64 (λ b. tt)

@@ -52,7 +52,7 @@ rename2_at = fixed 16 (λ b. record { newdir = number b 0 8; flags = number b 8 
 abbrev pub access_at : List ℕ → Option (AccessArguments × List ℕ)
 access_at = fixed 8 (λ b. record { mask = signed w32 b 0 })
 
--- SETXATTR: size4 flags4i (`struct fuse_setxattr_in`)
+-- SETXATTR: size4 flags4i (the front of `struct fuse_setxattr_in`, `FUSE_COMPAT_SETXATTR_IN_SIZE`)
 abbrev pub setxattr_at : List ℕ → Option (SetXAttrArguments × List ℕ)
 setxattr_at = fixed 8 (λ b. record { size = number b 0 4; flags = signed w32 b 4 })
 

@@ -132,7 +132,7 @@ impl<'a> ArgumentIterator<'a> {
         Some(u64_at(all, 0))
     }
 
-    /// The part of CUSE_INIT, of 64 bytes. No field of it is read.
+    /// The part of CUSE_INIT, of 64 bytes as in `fuser`, where `struct cuse_init_in` has 16. No field of it is read.
     pub fn fetch_cuse_init(&mut self) -> Option<()>
         ensures { Fetches result self.old self.new (cuse_init_at self.old) }
     {

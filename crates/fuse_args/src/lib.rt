@@ -1,5 +1,6 @@
 //! A reader of the arguments after a request's header. It borrows from the message, takes no memory, and every fetch
-//! gives exactly what stands at the front of the bytes left, or None where too little is left, and then nothing moves.
+//! gives exactly what stands at the front of the bytes left, or None where what is asked for does not stand there, and
+//! then nothing moves.
 #![tactic(auto)]
 
 mod argument;

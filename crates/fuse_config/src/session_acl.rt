@@ -3,9 +3,9 @@ ghost use Rattle.std.specs.Prelude.{◌≡◌};
 ghost use Rattle.std.specs.Option.{option_copied};
 ghost use Rattle.fuse_config.specs.Access.{mount_option_of};
 
-/// Whose requests are served; others get EACCES. INIT, DESTROY, and what goes by an open file or gives up an inode
-/// (READ, WRITE, FSYNC, RELEASE, READDIR, READDIRPLUS, FSYNCDIR, RELEASEDIR, FORGET, BATCH_FORGET) are served whoever
-/// sends them. The kernel's own checks of permissions are another matter.
+/// Whose requests are served; others get EACCES. INIT, DESTROY, READ, WRITE, FSYNC, RELEASE, READDIR, READDIRPLUS,
+/// FSYNCDIR, RELEASEDIR, FORGET and BATCH_FORGET are served whoever sends them. The kernel's own checks of permissions
+/// are another matter.
 #[derive(Clone, Copy, Debug, PartialEq, Eq, Default)]
 pub enum SessionACL {
     /// Those of everybody.

@@ -48,7 +48,7 @@ pub record IsPutOff (door : Result DoorSeen NoDoor) (id : ℕ) (out : Out) : Typ
 abbrev pub Answers : {F : Type 0} → MayAnswer F → F → Request → Call → (id : ℕ) → Result DoorSeen NoDoor → Out → Type 0
 Answers may_answer fs request c id door out = Answered may_answer fs request c id out ⊎ IsPutOff door id out
 
--- the kernel asks to be told of news of an open file
+-- a POLL, whether or not the kernel asks to be told of news
 abbrev pub IsPoll : Call → Type 0
 IsPoll (Poll ino fh kh events flags) = Unit {0}
 IsPoll c = ⊥

@@ -15,7 +15,7 @@ use Rattle.fuse_request.specs.Decoding.{operation}
 use Rattle.fuse_operations.specs.Operation.Op.{Forget, Init, Read, Write, Interrupt, NotifyReply, CuseInit, IoCtl, BatchForget, FAllocate}
 use Rattle.fuse_operations.specs.Operation.Op.{CopyFileRange}
 
--- INIT and DESTROY pass whoever sends them, and so does what goes by an open file or gives up an inode
+-- these pass whoever sends them: INIT, DESTROY, forgets, and of what goes by an open file reads, writes, fsyncs and releases
 abbrev pub passing : List ℕ
 passing =
     FUSE_INIT ∷ FUSE_DESTROY ∷ FUSE_FORGET ∷ FUSE_READ ∷ FUSE_WRITE ∷ FUSE_RELEASE ∷ FUSE_FSYNC ∷ FUSE_READDIR ∷ FUSE_RELEASEDIR

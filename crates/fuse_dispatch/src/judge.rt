@@ -60,8 +60,8 @@ fn judge(operation: Operation<'_>) -> Verdict<'_>
 /// - a header that is not good: `Broken`;
 /// - DESTROY: `Ends`;
 /// - what does not decode: ENOSYS, whoever sends it;
-/// - a user who is not served: EACCES. INIT, DESTROY, and what goes by an open file or gives up an inode (READ, WRITE,
-///   READDIR, READDIRPLUS, FSYNC, FSYNCDIR, RELEASE, RELEASEDIR, FORGET, BATCH_FORGET) pass, whoever sends them;
+/// - a user who is not served: EACCES. INIT, DESTROY, READ, WRITE, READDIR, READDIRPLUS, FSYNC, FSYNCDIR, RELEASE,
+///   RELEASEDIR, FORGET and BATCH_FORGET pass, whoever sends them;
 /// - another INIT: EIO;
 /// - INTERRUPT, NOTIFY_REPLY, CUSE_INIT, and an IOCTL that is not restricted: ENOSYS;
 /// - an offset or a length that is in no file, of READ, WRITE, FALLOCATE or COPY_FILE_RANGE: EINVAL;

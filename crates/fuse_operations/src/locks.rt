@@ -12,7 +12,7 @@ pub struct Lock {
     pub range: (u64, u64),
     /// The kind of lock: the `l_type` of `fcntl(2)`.
     pub typ: i32,
-    /// The process that holds it.
+    /// The process that asks for it, and 0 where a lock is asked about or given back.
     pub pid: u32,
 }
 

@@ -54,7 +54,7 @@ abbrev pub gen_formed : Option ℕ → Option ℕ → Option GenForm
 gen_formed (Some seed) (Some count) = Some record { seed = seed; count = count }
 gen_formed _ _ = None
 
--- the form of `gen` that the words are: three of them, `gen`, a seed below 2^31, and at most 65535 messages
+-- the form of `gen` that the words are: three of them, `gen`, a seed below 2^31, and at most 65535 requests
 abbrev pub gen_form_of : List (List ℕ) → Option GenForm
 gen_form_of (gen ∷ seed ∷ count ∷ []) =
     if bytes_eq gen (codes "gen") then gen_formed (number_within 0 2147483647 seed) (number_within 0 65535 count) else None
@@ -65,7 +65,7 @@ abbrev pub load_formed : Option ℕ → Option ℕ → Option ℕ → Option Loa
 load_formed (Some seed) (Some count) (Some threads) = Some record { seed = seed; count = count; threads = threads }
 load_formed _ _ _ = None
 
--- the form of `load` that the words are: four of them, `load`, a seed and a number of messages as for `gen`, and at most 1024 threads
+-- the form of `load` that the words are: four of them, `load`, a seed and a number of requests as for `gen`, and at most 1024 threads
 abbrev pub load_form_of : List (List ℕ) → Option LoadForm
 load_form_of (load ∷ seed ∷ count ∷ threads ∷ []) =
     if bytes_eq load (codes "load")

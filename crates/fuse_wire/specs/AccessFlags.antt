@@ -1,4 +1,4 @@
--- What ACCESS asks, as the number of 32 bits with a sign that it is sent as.
+-- What ACCESS asks: the 32 bits that are sent, read as a number with a sign.
 use Rattle.std.specs.Prelude.{ℤ, Bool}
 use Rattle.std.specs.Int.{w32, int_bit_and}
 use Rattle.std.specs.Ordering.{int_eq}

@@ -1,4 +1,4 @@
--- Errors by their names, those that the session itself answers with (`asm-generic/errno-base.h` and `asm-generic/errno.h`).
+-- Errors by their names, those that the session, the defaults of a filesystem and the trees answer with (`asm-generic/errno-base.h` and `asm-generic/errno.h`).
 use Rattle.std.specs.Prelude.{ℕ}
 
 abbrev pub EPERM : ℕ

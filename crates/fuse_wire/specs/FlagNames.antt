@@ -134,7 +134,7 @@ poll_flags_table =
     (codes "FUSE_POLL_SCHEDULE_NOTIFY", 2 ^ 0)
     ∷ []
 
--- what a file is ready for: `events` of `struct fuse_poll_in`, by `poll(2)`
+-- what is asked of a file, `events` of `struct fuse_poll_in`, and what it is ready for, `revents` of `struct fuse_poll_out`, by `poll(2)`
 abbrev pub poll_events_table : List (List ℕ × ℕ)
 poll_events_table =
     (codes "POLLIN", 2 ^ 0)

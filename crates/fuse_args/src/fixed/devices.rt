@@ -13,7 +13,7 @@ pub struct GetLkArguments {
     pub end: u64,
     /// The kind of lock: the `l_type` of `fcntl(2)`.
     pub typ: i32,
-    /// The process that holds it.
+    /// The process that asks for it, and 0 where a lock is asked about or given back.
     pub pid: u32,
     /// `FUSE_LK_FLOCK` says that the lock is one of `flock(2)`.
     pub lk_flags: u32,

@@ -76,7 +76,7 @@ pub struct AccessArguments {
     pub mask: i32,
 }
 
-/// The arguments of SETXATTR: `struct fuse_setxattr_in`.
+/// The arguments of SETXATTR: the front of `struct fuse_setxattr_in`, which is sent without `FUSE_SETXATTR_EXT`.
 #[derive(Clone, Copy)]
 pub struct SetXAttrArguments {
     /// How many bytes the value has.
