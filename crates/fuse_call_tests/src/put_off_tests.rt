@@ -36,7 +36,7 @@ fn how_many(sent: &[Items<u8>], frames: &[Items<u8>]) -> usize {
     frames.iter().filter(|frame| sent.contains(frame)).count()
 }
 
-/// The sink took these frames in some order, the notes of the rows, and no other.
+/// The sink took these frames in some order, as many notes as the rows have, and no other.
 fn replied<R: AllocGlobal + Abort>(rt: &R, sink: &MemorySink, rows: &[Row], frames: &[Items<u8>]) {
     let found = (sink.frames().len(), how_many(sink.frames(), frames));
     expect_same(rt, &found, &(frames.len(), frames.len()));

@@ -157,7 +157,7 @@ const UNSERVED: &[(Message, Ruling)] = &[
     (Message::GetAttr(6), DENIED),
     (Message::Zeros(FUSE_INTERRUPT, 6), DENIED),
     (Message::Zeros(FUSE_STATFS, 6), DENIED),
-    // what goes by an open file, gives up an inode or comes from the kernel itself passes
+    // INIT, reads and forgets pass
     (Message::Init(7, 8), FAULT),
     (Message::Read(6, 0x80), INVALID),
     (Message::Read(6, 0), Ok(("read", 0))),

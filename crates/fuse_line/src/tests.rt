@@ -53,22 +53,29 @@ fn line_of<A: AllocGlobal + Abort>(rt: &A, places: usize) -> (Line<Item>, Pass<I
     Line::new(rt.alloc(), places).expect(rt, "there is memory")
 }
 
-#[test]
-fn keeps_two_in_order_and_gives_back_the_third(rt: HostRuntime) {
-    let (line, mut pass) = line_of(&rt, 2);
+/// A line of two places keeps two items in order, and gives back the third.
+fn keeps_two<R: Wait + Abort>(rt: &R, line: &Line<Item>, mut pass: Pass<Item>)
+    requires { (pass.line ≡ line.now) × (pass.hand.kind ≡ First) }
+{
     let pushed = [
-        line.push(&rt, &mut pass, job(1)),
-        line.push(&rt, &mut pass, job(2)),
-        line.push(&rt, &mut pass, job(3)),
+        line.push(rt, &mut pass, job(1)),
+        line.push(rt, &mut pass, job(2)),
+        line.push(rt, &mut pass, job(3)),
     ];
     let third = Full { item: job(3) };
-    expect_same(&rt, &pushed, &[Ok(()), Ok(()), Err(third)]);
+    expect_same(rt, &pushed, &[Ok(()), Ok(()), Err(third)]);
     let popped = [
-        line.pop(&rt, &mut pass),
-        line.pop(&rt, &mut pass),
-        line.pop(&rt, &mut pass),
+        line.pop(rt, &mut pass),
+        line.pop(rt, &mut pass),
+        line.pop(rt, &mut pass),
     ];
-    expect_same(&rt, &popped, &[Some(job(1)), Some(job(2)), None]);
+    expect_same(rt, &popped, &[Some(job(1)), Some(job(2)), None]);
+}
+
+#[test]
+fn keeps_two_in_order_and_gives_back_the_third(rt: HostRuntime) {
+    let (line, pass) = line_of(&rt, 2);
+    keeps_two(&rt, &line, pass);
 }
 
 #[test]
@@ -103,11 +110,9 @@ fn splits_passes_off_and_joins_them(rt: HostRuntime) {
 
 #[test]
 fn keeps_two_in_order_and_gives_back_the_third_or_wants_memory(rt: HostRuntime) {
-    let Ok((line, mut pass)) = Line::new(rt.alloc(), 1) else {
-        return;
-    };
-    let pushed = line.push(&rt, &mut pass, job(1));
-    expect_same(&rt, &pushed, &Ok(()));
+    if let Ok((line, pass)) = Line::new(rt.alloc(), 2) {
+        keeps_two(&rt, &line, pass);
+    }
 }
 
 // Pushes the numbers below count, in order.

@@ -79,7 +79,7 @@ const LONGEST: &[(Kind, &[u8])] = &[
     ),
 ];
 
-/// A frame that is no error has the bytes of its answer.
+/// A frame of the longest answers is no error, and its header says how long it is.
 #[test]
 fn the_longest_replies_find_memory_where_there_is_some(rt: HostRuntime) {
     let bytes = many(rt.alloc(), 16_777_217).expect(&rt, "there is memory");

@@ -92,9 +92,9 @@ fn numbers_out_of_range_load_nothing(rt: HostRuntime) {
 }
 
 #[test]
-fn notices_are_kept_and_not_counted(rt: HostRuntime) {
+fn notices_are_taken_and_not_counted(rt: HostRuntime) {
     let mut store = FrameStore::with_room(rt.alloc(), 100);
-    // An empty reply, an error, a notice that a poll is to be told (status 1), and a note.
+    // A reply of two bytes, an error, a notice that a poll is to be told (status 1), and a note.
     let reply = b"\x12\0\0\0\0\0\0\0\x02\0\0\0\0\0\0\0";
     let error = b"\x10\0\0\0\xfe\xff\xff\xff\x03\0\0\0\0\0\0\0";
     let notice = b"\x18\0\0\0\x01\0\0\0\0\0\0\0\0\0\0\0";

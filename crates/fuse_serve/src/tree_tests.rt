@@ -227,7 +227,7 @@ fn serves<R: Threads + Wait + AllocGlobal + Abort + Sync>(
     serves_on(rt, Some(2), acl, requests, frames, notes, &Ok(()));
 }
 
-/// Whether a request passes whoever sends it: INIT, DESTROY, forgets, and those that go by an open file.
+/// Whether a request passes whoever sends it: INIT, DESTROY, forgets, and reads, writes, fsyncs and releases.
 fn passes(opcode: u16) -> bool {
     matches!(
         opcode,
@@ -286,7 +286,7 @@ fn serve_all<R: Threads + Wait + AllocGlobal + Abort + Sync>(rt: &R, cases: &[&[
     serve_user(rt, SessionACL::All, 0, true, cases);
 }
 
-/// The attributes of `hello.txt`: node, size, blocks, four times, mode, names, owner, and the size of a block.
+/// The attributes of `hello.txt`: node, size, blocks, three times with their nanoseconds, mode, names, owner, and the size of a block.
 const HELLO: &[u8; 88] =
     b"\x02\0\0\0\0\0\0\0\x0d\0\0\0\0\0\0\0\x01\0\0\0\0\0\0\0\0\0\0\0\0\0\0\0\0\0\0\0\0\0\0\0\0\0\0\0\0\0\0\0\0\0\0\0\0\0\0\0\0\0\0\0\xa4\x81\0\0\x01\0\0\0\0\0\0\0\0\0\0\0\0\0\0\0\0\x02\0\0\0\0\0\0";
 
@@ -627,7 +627,7 @@ fn last_operations() -> &'static [Case] {
     LAST_OPERATIONS
 }
 
-/// Each has the reply of the tree, and no other from whom it does not serve.
+/// Each has the reply of the tree, and from whom it does not serve EACCES, but where it passes.
 #[test]
 fn each_operation(rt: HostRuntime) {
     let operations = [first_operations(), last_operations()];

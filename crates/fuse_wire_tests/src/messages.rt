@@ -64,8 +64,8 @@ fn expect_answers<S: Source>(
     }
 }
 
-/// Messages whose bytes stand on a stream: one is shorter than a header says that it is, one longer than the others,
-/// and the last ends where the stream does.
+/// Messages whose bytes stand on a stream: one says that it is shorter than a header, one is longer than the others, and
+/// the last ends where the stream does.
 const MESSAGES: &[Answer] = &[
     (48, Message(48)),
     (39, Message(40)),

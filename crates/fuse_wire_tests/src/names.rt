@@ -426,7 +426,7 @@ fn odd() -> FattrFlags {
     FattrFlags::from_bits_retain(0x1008)
 }
 
-/// What is read from these bits of `valid`: by all, by those that have names, and from the size's alone.
+/// What is read from these bits of `valid`: by all, from the size's alone, and by those that have names.
 fn read_fattr_flags() -> [Option<FattrFlags>; 3] {
     [
         FattrFlags::from_bits(0x1008),
