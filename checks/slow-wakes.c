@@ -7,7 +7,7 @@
 #include <sys/syscall.h>
 #include <unistd.h>
 
-enum { WAIT = 0, WAKE = 1, COMMAND = 127 };      /* FUTEX_WAIT, FUTEX_WAKE, FUTEX_CMD_MASK of linux/futex.h */
+enum { WAIT = 0, WAKE = 1, COMMAND = 127 };      /* FUTEX_WAIT, FUTEX_WAKE, and what is below FUTEX_PRIVATE_FLAG, of linux/futex.h */
 enum { BEFORE_WAIT = 100, AFTER_WAKE = 400 };    /* microseconds */
 
 long syscall(long number, ...)
