@@ -1,2 +1,3 @@
+pub mod KeeperOnly
 pub mod OneFile
 pub mod OneLock

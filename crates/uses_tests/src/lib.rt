@@ -1,9 +1,11 @@
-//! The tests of `uses` and of `fuse_read_only`: sessions of the one file, of the one lock and of a small tree, from
-//! memory to memory.
+//! The tests of `uses` and of `fuse_read_only`: sessions of the one file, of the one lock, of a layer and of a small
+//! tree, from memory to memory.
 #![tactic(auto)]
 
 #[cfg(test)]
 mod asserts;
+#[cfg(test)]
+mod layer_tests;
 #[cfg(test)]
 mod lock_tests;
 #[cfg(test)]

@@ -13,6 +13,8 @@ pub(crate) type Row = (u8, u64, u8, Bytes, u8, Bytes);
 // Linux's numbers: `include/uapi/linux/fuse.h`, `errno-base.h` and `errno.h`.
 pub(crate) const LOOKUP: u8 = 1;
 
+pub(crate) const MKDIR: u8 = 9;
+
 pub(crate) const OPEN: u8 = 14;
 
 pub(crate) const READ: u8 = 15;

@@ -1,10 +1,8 @@
 // A session of the one file.
-use crate::rows::{ENOENT, EROFS, LOOKUP, NOTHING, OPEN, OPENING, READ, READDIR, Row};
+use crate::rows::{ENOENT, EROFS, LOOKUP, MKDIR, NOTHING, OPEN, OPENING, READ, READDIR, Row};
 use crate::serving::{expect_served, rest_of, source_of};
 use fuse_wire::MemorySink;
 use uses::{OneFile, serve_one_file};
-
-const MKDIR: u8 = 9;
 
 const DESTROY: u8 = 38;
 

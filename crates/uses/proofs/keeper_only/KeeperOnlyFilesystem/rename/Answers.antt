@@ -1,0 +1,7 @@
+use Rattle.std.proofs.Common.{◌∙◌, sym}
+use Rattle.uses.proofs.Keeping.{denied}
+use Rattle.uses.proofs.keeper_only.KeeperOnlyFilesystem.rename.Goals as goal
+
+-- somebody else than the keeper asks
+pub returns-then-denies : goal.returns-then-denies
+returns-then-denies g c = denied _ _ (sym c.denies.ensures ∙ c.if-denies.true) (λ allowed. allowed) c.error.ensures.answer c.error.ensures.reply
