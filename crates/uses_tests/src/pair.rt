@@ -1,5 +1,5 @@
 // A small tree: a directory with two files.
-ghost use Rattle.std.specs.Prelude.{◌==◌, ◌&&◌, [], ◌∷◌, None, Some, codes, if◌then◌else◌};
+ghost use Rattle.std.specs.Prelude.{◌==◌, ◌&&◌, [], ◌∷◌, ◌++◌, None, Some, codes, if◌then◌else◌};
 ghost use Rattle.std.specs.Str.{bytes_eq};
 ghost use Rattle.fuse_wire.specs.declared.file_attr.FileType.TheVariants.{Directory, RegularFile};
 ghost use Rattle.fuse_read_only.specs.Tree.{root_attr};
@@ -7,12 +7,17 @@ ghost use Rattle.fuse_read_only.specs.Tree.{root_attr};
 use fuse_read_only::{Entry, Files, root_attr};
 use fuse_wire::{Duration, FileAttr, FileType, INodeNo};
 
-/// The directory 1 with two files: `one`, which is node 2, and node 3, whose entry is long.
+/// The directory 1 with two files: `one`, which is node 2, and node 3, whose entry and whose contents are long. Its
+/// attributes say that it has more.
 #[derive(Clone, Copy, Debug, PartialEq, Eq)]
 pub(crate) struct Pair;
 
 /// The name of node 3.
 pub(crate) const LONG: &[u8; 40] = b"another-file-whose-name-has-forty-bytes!";
+
+/// Its contents: more than a reply holds without memory.
+pub(crate) const DIGITS: &[u8; 160] =
+    b"0123456789012345678901234567890123456789012345678901234567890123456789012345678901234567890123456789012345678901234567890123456789012345678901234567890123456789";
 
 impl Files for Pair {
     ghost tree = { λ files. record {
@@ -23,7 +28,11 @@ impl Files for Pair {
           else None;
       names = λ parent name.
           if (parent == 1) && bytes_eq name (codes "one") then Some (root_attr 2 RegularFile 292 1 6) else None;
-      contents = λ ino. if ino == 2 then Some (codes "first\n") else None;
+      contents = λ ino.
+          if ino == 2 then Some (codes "first\n")
+          else if ino == 3 then Some (codes "01234567890123456789012345678901234567890123456789012345678901234567890123456789"
+          ++ codes "01234567890123456789012345678901234567890123456789012345678901234567890123456789")
+          else None;
       entries = λ ino. if ino == 1 then
           record { ino = 1; kind = Directory; name = codes "." }
           ∷ record { ino = 1; kind = Directory; name = codes ".." }
@@ -51,7 +60,11 @@ impl Files for Pair {
     }
 
     fn contents(&self, ino: INodeNo) -> Option<&[u8]> {
-        if ino.0 == 2 { Some(b"first\n") } else { None }
+        match ino.0 {
+            2 => Some(b"first\n"),
+            3 => Some(DIGITS),
+            _ => None,
+        }
     }
 
     fn entry(&self, ino: INodeNo, place: usize) -> Option<Entry<'_>> {
