@@ -7,7 +7,7 @@ use fuse_notify::Notifier;
 use fuse_probing::Probing;
 use fuse_probing::test_messages::{ENOSYS, INIT_7_8, lookup, source_of};
 use fuse_session::{Filesystem, Session, SessionError, Transcript};
-use fuse_wire::{MemorySink, MemorySource, NoMemory};
+use fuse_wire::{MemorySink, MemorySource, NoMemory, PollHandle};
 use std::process::Abort;
 use std::sync::{Arc, Mutex, Wait};
 use std::thread::Threads;
@@ -101,4 +101,45 @@ fn on_two_threads_the_notices_of_a_filesystem_are_sent(rt: HostRuntime) {
     let found = (found_of(&rest), is_sent);
     drop(rest);
     expect_same(&rt, &found, &((Ok(()), counts(2, 2), (3, 0)), true));
+}
+
+/// Queues a notice by this notifier.
+fn tell<R: Wait + AllocGlobal>(rt: &R, made: Result<Notifier, NoMemory>) {
+    if let Ok(mut notifier) = made {
+        let _ = notifier.poll(rt, PollHandle(7));
+    }
+}
+
+/// What is left of a session on so many threads that gets no request, where a notice was queued before its run.
+fn run_told_before<R: Threads + Wait + AllocGlobal + Abort + Send + Sync + Copy>(
+    rt: &R,
+    n_threads: Option<usize>,
+) -> Rest<Probing<Telling<R>>> {
+    let config = everybody(rt.alloc(), n_threads);
+    let probe = Telling::new(*rt, rt.alloc(), None);
+    let source = source_of(rt.alloc(), &[&INIT_7_8]);
+    let source = source.expect(rt, "there is memory");
+    let sink = MemorySink::new(rt.alloc(), Vec::new(rt.alloc()));
+    let filesystem = Probing { probe };
+    rest_of(
+        match Session::new(rt, filesystem, source, sink, 0, 4096, &config) {
+            Ok(mut session) => {
+                tell(rt, session.notifier());
+                session.run(rt)
+            }
+            Err(over) => over,
+        },
+    )
+}
+
+/// Also where no reply goes out that they could follow.
+#[test]
+fn what_is_queued_before_a_run_is_sent(rt: HostRuntime) {
+    for n_threads in [None, Some(2)] {
+        let rest = run_told_before(&rt, n_threads);
+        let is_sent = are_after_init(rest.sink.frames(), &[Frame::News([7, 0])]);
+        let found = (n_threads, rest.outcome, is_sent);
+        drop(rest);
+        expect_same(&rt, &found, &(n_threads, Ok(()), true));
+    }
 }
