@@ -264,6 +264,21 @@ const AT_ONCE: &[Row<'static>] = &[
         last: None,
         left: 0,
     },
+    // One worker has the first call; the caller answers none before the line of jobs is full.
+    Row {
+        turns: &[Piece::Requests(0, 100)],
+        hold: Hold::UntilCalled(2),
+        faults: 0,
+        workers: &[Some(1)],
+        rounds: 1,
+        end: b'g',
+        received: 100,
+        ids: 100,
+        lost: 0,
+        calls: 100,
+        last: None,
+        left: 0,
+    },
     // So they do where a message is longer than a place of the line of jobs, up to the longest that can be received.
     Row {
         turns: &[Piece::Long(0, 3, 200)],
