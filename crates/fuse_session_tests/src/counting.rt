@@ -150,6 +150,11 @@ impl Counting {
     pub(crate) fn destroyed(&self) -> u64 {
         self.destroyed
     }
+
+    /// How often it was called.
+    pub(crate) fn calls(&self) -> u64 {
+        self.calls.load(Ordering::SeqCst)
+    }
 }
 
 impl Probe for Counting {

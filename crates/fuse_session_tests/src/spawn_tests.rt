@@ -273,9 +273,18 @@ fn is_answered_or_wants_memory<R: Abort>(rt: &R, over: Over) {
         ..
     } = over.transcript;
     expect_same(rt, &(over.outcome, received, frames, lost), &expected);
-    let destroyed = over.filesystem.probe.destroyed();
-    expect_same(rt, &(destroyed, received), &(received.min(1), received));
+    let probe = &over.filesystem.probe;
+    let found = (probe.destroyed(), probe.calls(), received);
+    let calls = received.saturating_sub(1);
+    expect_same(rt, &found, &(received.min(1), calls, received));
     drop(over);
+}
+
+/// A session of those messages is over, which has answered both, and the LOOKUP by one call.
+fn is_answered<R: AllocGlobal + Abort>(rt: &R, what: &str, over: Over) {
+    let calls = over.filesystem.probe.calls();
+    is_left(rt, what, over, &ANSWERED);
+    expect_same(rt, &calls, &1);
 }
 
 /// A session on two threads that this spawner is to start, and which is run here where it does not; and whether it was
@@ -298,14 +307,14 @@ fn on_a_thread<R: Threads + Wait + AllocGlobal + Abort + Send + Sync + Copy + 's
 #[test]
 fn a_session_runs_in_the_background(rt: HostRuntime) {
     let (over, is_started) = on_a_thread(&rt);
-    is_left(&rt, "on a thread", over, &ANSWERED);
+    is_answered(&rt, "on a thread", over);
     expect_same(&rt, &is_started, &true);
 }
 
 #[test]
 fn a_session_runs_in_the_background_or_here(rt: HostRuntime) {
     let (over, _) = on_a_thread(&rt);
-    is_left(&rt, "on a thread or here", over, &ANSWERED);
+    is_answered(&rt, "on a thread or here", over);
 }
 
 #[test]
@@ -345,6 +354,19 @@ fn shared_count<R: AllocGlobal + Abort>(
     let count = Arc::new(rt.alloc(), AtomicU64::new(0)).expect(rt, "there is memory");
     let share = Arc::try_clone(&count).expect(rt, "there is memory");
     (count, share)
+}
+
+/// It is answered before whoever started it goes on.
+#[test]
+fn a_session_is_over_once_it_is_started_on_the_same_thread(rt: HostRuntime) {
+    let (calls, share) = shared_count(&rt);
+    let mut spawner = spawner_of(&rt, Some(&[]));
+    let counting = Counting::waiting(share, 0);
+    let spawned = spawn(&rt, &mut spawner, None, counting, MESSAGES);
+    let called = calls.load(Ordering::SeqCst);
+    let (over, is_started) = over(&rt, spawned, Look::Nothing);
+    is_answered(&rt, "where it is started", over);
+    expect_same(&rt, &(called, is_started), &(1, true));
 }
 
 /// It is started before its lookup goes on, which waits for whoever started it.
