@@ -101,7 +101,7 @@ fn reads_a_slice(rt: HostRuntime) {
     );
 }
 
-/// How many bytes are read at once where the reader has them.
+/// How many bytes are read at once where the reader has them, and written at once where the writer takes them.
 const MANY: usize = 100_000;
 
 #[test]
@@ -224,6 +224,14 @@ fn writes_to_a_vector(rt: HostRuntime) {
             [1, 2, 3].as_slice(),
         ),
     );
+}
+
+#[test]
+fn a_long_piece_is_written_at_once(rt: HostRuntime) {
+    let piece = vec![in rt.alloc(); 7; MANY].expect(&rt, "there is memory");
+    let mut bytes = Vec::new(rt.alloc());
+    let found = StdSink::new(&mut bytes).write(&piece);
+    expect_same(&rt, &(found, bytes.len()), &(ByteWrite::Wrote(MANY), MANY));
 }
 
 #[test]
