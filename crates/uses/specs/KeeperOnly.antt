@@ -32,6 +32,6 @@ promise keeper below inner = record {
       (keeper new ≡ keeper old) × inner.may_init (below old) request before result (below new) after;
   may_answer = λ fs request call a. MayHave (is_denied (keeper fs) request call) (inner.may_answer (below fs) request call a) a;
   may_note = λ fs request call mark. inner.may_note (below fs) request call mark;
-  may_destroy = λ old new. inner.may_destroy (below old) (below new);
+  may_destroy = λ old new. (keeper new ≡ keeper old) × inner.may_destroy (below old) (below new);
   defers = inner.defers;
 }

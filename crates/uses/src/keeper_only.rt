@@ -20,8 +20,7 @@ use fuse_wire::{
 /// A filesystem over another, in which one user alone, its keeper, takes names away or changes them: UNLINK, RMDIR and
 /// RENAME of anybody else get EACCES. All else is for the filesystem below.
 ///
-/// - It promises what that filesystem does, but for what it denies. So whatever is below, and whatever is proved of it,
-///   is kept.
+/// - It promises what that filesystem does, but for what it denies, and that its keeper stays the same.
 /// - What it hands on is handed on as it came: the reply, by value, `config`, and what a poll is told through. What comes
 ///   back is what it gives.
 /// - It puts replies off where the filesystem below does.
