@@ -137,7 +137,7 @@ impl<FS: Filesystem, S: Source, K: Sink + Send> Running<FS, S, K> {
         }
     }
 
-    /// What queues notices for the session.
+    /// What queues notices for the session. `NoMemory` only where the count of what shares the line is at its end.
     pub fn notifier(&mut self) -> Result<Notifier, NoMemory>
         ensures same { self.new ≡ self.old }
         ensures fresh { IfOk result (λ n. n ≡ fresh_door (started self.old).line) }

@@ -70,7 +70,8 @@ pub struct State {
 }
 
 impl State {
-    /// The state in which nothing has happened yet, with this many workers.
+    /// The state in which nothing has happened yet, with this many workers. `NoMemory` where there is no memory for
+    /// their hands.
     pub fn new(alloc: Global, workers: usize) -> Result<State, NoMemory>
         ensures empty { IfOk result (λ state. state ≡ empty workers) }
         ensures balanced { IfOk result Balanced }

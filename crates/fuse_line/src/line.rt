@@ -43,7 +43,7 @@ impl<T: Class> Model for Line<T> {
 }
 
 impl<T: Class> Line<T> {
-    /// A line with so many places, and its first pass.
+    /// A line with so many places, and its first pass. `NoMemory` where there is no memory for it.
     pub fn new(alloc: Global, places: usize) -> Result<(Line<T>, Pass<T>), NoMemory>
         requires { 0 < places }
         ensures line { IfOk result (λ r. (r.1.line ≡ r.0) × (r.0.slots ≡ places)) }

@@ -48,7 +48,8 @@ fn door_for<W: Work>(doors: &mut Doors, seq: u64) -> Result<Door, NoDoor>
 }
 
 impl Answerer {
-    /// What answers with doors to this line, and with shares of the mark of this end.
+    /// What answers with doors to this line, and with shares of the mark of this end. `NoMemory` only where the count
+    /// of what shares the line, or the mark, is at its end.
     pub fn new(frames: &mut RunLine<Parcel>, ending: &mut Ending) -> Result<Answerer, NoMemory>
         ensures same { (frames.new ≡ frames.old) × (ending.new ≡ ending.old) }
         ensures fresh { IfOk result (λ made. made ≡ record {
@@ -79,7 +80,7 @@ impl Answerer {
         work.answer(rt, &mut self.notifier, door, seq, message)
     }
 
-    /// What another thread answers with.
+    /// What another thread answers with. `NoMemory` comes as from `new`.
     pub fn again(&mut self) -> Result<Answerer, NoMemory>
         ensures same { self.new ≡ self.old }
         ensures again { IfOk result (λ again. again ≡ record {

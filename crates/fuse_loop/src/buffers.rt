@@ -36,7 +36,8 @@ impl Model for Lines {
 }
 
 impl Lines {
-    /// Takes the memory of lines that nobody has used.
+    /// Two lines of `LINE_PLACES` places that nobody has used, with what the caller answers with and the mark of the
+    /// run's end. `NoMemory` where there is no memory for them.
     fn new(alloc: Global) -> Result<Lines, NoMemory>
         ensures unused { IfOk result IsUnused }
         ensures places { IfOk result (λ made. (made.frames.line.slots ≡ LINE_PLACES)
@@ -54,7 +55,7 @@ impl Lines {
         })
     }
 
-    /// What queues notices for whoever sends.
+    /// What queues notices for whoever sends. `NoMemory` only where the count of what shares the line is at its end.
     pub fn notifier(&mut self) -> Result<Notifier, NoMemory>
         ensures same { self.new ≡ self.old }
         ensures fresh { IfOk result (λ n. n ≡ fresh_door self.old.frames.line) }
@@ -86,7 +87,8 @@ impl Model for Buffers {
 }
 
 impl Buffers {
-    /// Takes it.
+    /// A receive buffer, and two lines of `LINE_PLACES` places that nobody has used. `NoMemory` where there is no
+    /// memory for them.
     pub fn new(alloc: Global) -> Result<Buffers, NoMemory>
         ensures unused { IfOk result IsUnused }
         ensures places { IfOk result (λ made. (made.frames.line.slots ≡ LINE_PLACES)
@@ -97,7 +99,7 @@ impl Buffers {
         Ok(Buffers { receive, lines })
     }
 
-    /// What queues notices for whoever sends.
+    /// What queues notices for whoever sends. `NoMemory` only where the count of what shares the line is at its end.
     pub fn notifier(&mut self) -> Result<Notifier, NoMemory>
         ensures same { self.new ≡ self.old }
         ensures fresh { IfOk result (λ n. n ≡ fresh_door self.old.frames.line) }

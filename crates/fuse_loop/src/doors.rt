@@ -45,7 +45,8 @@ impl Doors {
         Doors { line, pass, mark }
     }
 
-    /// The door that the reply to the message of this number may come later through.
+    /// The door that the reply to the message of this number may come later through. The error is `Starved`, and comes
+    /// where `again` has one.
     pub fn door(&mut self, seq: u64) -> Result<Door, NoDoor>
         ensures same { self.new ≡ self.old }
         ensures door { MatchResult result
@@ -62,7 +63,8 @@ impl Doors {
         }
     }
 
-    /// What makes such doors for another thread.
+    /// What makes such doors for another thread. `NoMemory` only where the count of what shares the line, or the mark,
+    /// is at its end.
     pub fn again(&mut self) -> Result<Doors, NoMemory>
         ensures same { self.new ≡ self.old }
         ensures again { IfOk result (λ doors. doors ≡ record {

@@ -27,7 +27,7 @@ impl Model for Ending {
 }
 
 impl Ending {
-    /// A mark that is not set.
+    /// A mark that is not set. `NoMemory` where there is no memory for it.
     pub fn new(alloc: Global) -> Result<Ending, NoMemory>
         ensures { IfOk result (λ made. made ≡ mark made.name None None) }
     {
@@ -38,7 +38,7 @@ impl Ending {
         })
     }
 
-    /// A share of the mark.
+    /// A share of the mark. `NoMemory` only where the count of its shares is at its end.
     pub fn share(&mut self) -> Result<EndMark, NoMemory>
         ensures same { self.new ≡ self.old }
         ensures share { IfOk result (λ share. share ≡ mark self.old.name self.old.known None) }

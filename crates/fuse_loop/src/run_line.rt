@@ -37,7 +37,7 @@ impl<T: Class> Model for RunLine<T> {
 }
 
 impl<T: Class + Drop> RunLine<T> {
-    /// An empty line.
+    /// An empty line of `LINE_PLACES` places, with its first pass. `NoMemory` where there is no memory for it.
     pub fn new(alloc: Global) -> Result<RunLine<T>, NoMemory>
         ensures places { IfOk result (λ made. made.line.slots ≡ LINE_PLACES) }
         ensures unused { IfOk result (λ made. made.hand ≡ hand First 0 [] []) }
@@ -51,7 +51,7 @@ impl<T: Class + Drop> RunLine<T> {
 }
 
 impl RunLine<Parcel> {
-    /// What queues notices on it.
+    /// What queues notices on it. `NoMemory` only where the count of what shares the line is at its end.
     pub fn notifier(&mut self) -> Result<Notifier, NoMemory>
         ensures same { self.new ≡ self.old }
         ensures fresh { IfOk result (λ n. n ≡ fresh_door self.old.line) }
@@ -61,7 +61,8 @@ impl RunLine<Parcel> {
         Ok(Notifier::new(share, door))
     }
 
-    /// What makes doors to it, each with a share of this mark.
+    /// What makes doors to it, each with a share of this mark. `NoMemory` only where the count of what shares the line
+    /// is at its end.
     pub fn doors(&mut self, mark: EndMark) -> Result<Doors, NoMemory>
         ensures same { self.new ≡ self.old }
         ensures doors { IfOk result (λ doors. doors ≡ record { pass = fresh_door self.old.line; mark = mark }) }
@@ -71,7 +72,8 @@ impl RunLine<Parcel> {
         Ok(Doors::new(share, pass, mark))
     }
 
-    /// Whether no notice waits.
+    /// Whether the line was empty at a moment of this call: no notice waited, and no late frame. A prompt never waits
+    /// here, as for `next`.
     #[inline(always)]
     pub fn is_empty(&mut self) -> bool
         ensures { self.new ≡ self.old }

@@ -80,7 +80,8 @@ impl Notice {
         }
     }
 
-    /// The kernel is to drop a name in a directory.
+    /// The kernel is to drop a name in a directory. `TooBig` where no frame can carry the name, `Memory` where the
+    /// payload is longer than 144 bytes and there is no memory for it.
     pub fn inval_entry(alloc: Global, parent: INodeNo, name: &[u8]) -> Result<Notice, NoticeError>
         ensures { Makes result (InvalEntry parent.0 name.now) }
     {
@@ -98,7 +99,8 @@ impl Notice {
     }
 
     /// The kernel is to keep these bytes of an inode, from an offset on, which is in bytes. Where they end behind the
-    /// file's end, the kernel takes the file to be that long.
+    /// file's end, the kernel takes the file to be that long. `TooBig` where no frame can carry the bytes, `Memory`
+    /// where the payload is longer than 144 bytes and there is no memory for it.
     pub fn store(
         alloc: Global,
         ino: INodeNo,
@@ -120,8 +122,9 @@ impl Notice {
         })
     }
 
-    /// A name in a directory is gone, and led to the inode `child`. The kernel drops the name, as by `inval_entry`, and
-    /// tells those who watch the inode.
+    /// A name in a directory is gone, and led to the inode `child`. The kernel drops the name, as by `inval_entry`,
+    /// and tells those who watch the inode. `TooBig` where no frame can carry the name, `Memory` where the payload is
+    /// longer than 144 bytes and there is no memory for it.
     pub fn delete(
         alloc: Global,
         parent: INodeNo,

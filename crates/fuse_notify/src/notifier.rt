@@ -57,7 +57,8 @@ impl Notifier {
         Notifier { line, pass }
     }
 
-    /// Another notifier to the same line, for another thread or another part of a filesystem.
+    /// Another notifier to the same line, for another thread or another part of a filesystem. It takes no memory:
+    /// `NoMemory` comes only where the count of what shares the line is at its end.
     pub fn again(&mut self) -> Result<Notifier, NoMemory>
         ensures same { self.new ≡ self.old }
         ensures fresh { IfOk result (λ n. n ≡ fresh_door self.old.line) }
@@ -67,7 +68,7 @@ impl Notifier {
         Ok(Notifier { line, pass })
     }
 
-    /// What a poll with this handle is told through when the file has news.
+    /// What a poll with this handle is told through when the file has news. `NoMemory` comes as from `again`.
     pub fn poll_notifier(&mut self, handle: PollHandle) -> Result<PollNotifier, NoMemory>
         ensures same { self.new ≡ self.old }
         ensures fresh { IfOk result (λ p. p ≡ record { handle = handle.0; door = fresh_door self.old.line }) }
@@ -77,6 +78,7 @@ impl Notifier {
     }
 
     /// A file that is polled has news: who waits for it polls again. The handle is the one that the poll came with.
+    /// `Full` where its push found the line full; no other error comes.
     pub fn poll<R: Wait + AllocGlobal>(
         &mut self,
         rt: &R,
@@ -89,7 +91,8 @@ impl Notifier {
     }
 
     /// The kernel is to drop what it keeps of an inode: its attributes and, from an offset on, so many bytes. A length
-    /// that is not positive means all bytes from the offset on, and an offset below 0 no bytes.
+    /// that is not positive means all bytes from the offset on, and an offset below 0 no bytes. `Full` where its push
+    /// found the line full; no other error comes.
     pub fn inval_inode<R: Wait + AllocGlobal>(
         &mut self,
         rt: &R,
@@ -103,7 +106,8 @@ impl Notifier {
         self.queue(rt, Ok(notice))
     }
 
-    /// The kernel is to drop a name in a directory.
+    /// The kernel is to drop a name in a directory. `TooBig` where no frame can carry the name, `Memory` where the
+    /// payload is longer than 144 bytes and there is no memory for it, `Full` where its push found the line full.
     pub fn inval_entry<R: Wait + AllocGlobal>(
         &mut self,
         rt: &R,
@@ -117,7 +121,9 @@ impl Notifier {
     }
 
     /// The kernel is to keep these bytes of an inode, from an offset on, which is in bytes. Where they end behind the
-    /// file's end, the kernel takes the file to be that long.
+    /// file's end, the kernel takes the file to be that long. `TooBig` where no frame can carry the bytes, `Memory`
+    /// where the payload is longer than 144 bytes and there is no memory for it, `Full` where its push found the line
+    /// full.
     pub fn store<R: Wait + AllocGlobal>(
         &mut self,
         rt: &R,
@@ -131,8 +137,9 @@ impl Notifier {
         self.queue(rt, made)
     }
 
-    /// A name in a directory is gone, and led to the inode `child`. The kernel drops the name, as by `inval_entry`, and
-    /// tells those who watch the inode.
+    /// A name in a directory is gone, and led to the inode `child`. The kernel drops the name, as by `inval_entry`,
+    /// and tells those who watch the inode. `TooBig` where no frame can carry the name, `Memory` where the payload is
+    /// longer than 144 bytes and there is no memory for it, `Full` where its push found the line full.
     pub fn delete<R: Wait + AllocGlobal>(
         &mut self,
         rt: &R,

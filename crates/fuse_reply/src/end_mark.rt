@@ -35,7 +35,7 @@ impl Model for EndMark {
 }
 
 impl EndMark {
-    /// A mark that is not set, and its Seal.
+    /// A mark that is not set, and its Seal. `NoMemory` where there is no memory for it.
     pub fn new(alloc: Global) -> Result<(EndMark, Seal), NoMemory>
         ensures { IfOk result (λ made. made.0 ≡ mark made.1 None None) }
     {
@@ -50,7 +50,8 @@ impl EndMark {
         Ok((EndMark { table, seat, kept }, Seal { seat: storing }))
     }
 
-    /// Another share of the mark, which has read as much and keeps no Seal.
+    /// Another share of the mark, which has read as much and keeps no Seal. It takes no memory: `NoMemory` comes only
+    /// where the count of the shares is at its end.
     pub fn share(&mut self) -> Result<EndMark, NoMemory>
         ensures same { self.new ≡ self.old }
         ensures share { IfOk result (λ share. share ≡ mark self.old.name self.old.known None) }

@@ -68,8 +68,8 @@ fn header_of(id: RequestId, status: i32, payload: usize) -> [u8; OUT_HEADER_SIZE
 }
 
 impl Packed {
-    /// The frame of a request's id, a status and a payload. A payload of up to 144 bytes takes no memory. An error
-    /// comes where the payload is longer and there is no memory for it.
+    /// The frame of a request's id, a status and a payload of at most `MAX_PAYLOAD` bytes. A payload of up to 144
+    /// bytes takes no memory. `NoMemory` where the payload is longer and there is no memory for it.
     pub fn new(
         alloc: Global,
         id: RequestId,
@@ -117,8 +117,8 @@ impl Packed {
         Ok(Packed::around(id, 0, payload))
     }
 
-    /// The frame of a payload in three parts, one after the other, as by `new`. Each is copied once, to where the frame
-    /// stands.
+    /// The frame of a payload in three parts, one after the other, at most `MAX_PAYLOAD` bytes in all. Each is copied
+    /// once, to where the frame stands. `NoMemory` as from `new`.
     pub fn joined(
         alloc: Global,
         id: RequestId,

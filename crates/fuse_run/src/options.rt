@@ -20,7 +20,8 @@ pub struct SessionMemory {
     pub notifier: Notifier,
 }
 
-/// The memory of a session. The options are looked at first.
+/// The memory of a session. The options are looked at first, and the error is the first of `Conflict`, `AutoUnmount`
+/// and `CloneFd` that holds. `Memory` where they are well and there is no memory.
 pub fn prepare(alloc: Global, config: &Config) -> Result<SessionMemory, SessionError>
     ensures ok { IfOk result IsTaken }
     ensures well { IfOk result (λ _. OptionsWell config.now) }
@@ -30,8 +31,8 @@ pub fn prepare(alloc: Global, config: &Config) -> Result<SessionMemory, SessionE
     take_memory(alloc)
 }
 
-/// The memory of a session over a device that is mounted already. That each of several threads is to have its own is
-/// looked at first.
+/// The memory of a session over a device that is mounted already. The error is `CloneFd` where each of several threads
+/// is to have a device of its own, and else `Memory` where there is no memory.
 pub fn prepare_device(alloc: Global, config: &Config) -> Result<SessionMemory, SessionError>
     ensures ok { IfOk result IsTaken }
     ensures well { IfOk result (λ _. ¬ (ClonesDevice config.now)) }

@@ -81,6 +81,7 @@ impl<FS: Filesystem, S: Source, K: Sink + Send> BackgroundSession<FS, S, K> {
     }
 
     /// What queues notices, as `Session::notifier` does. One that is queued after the session's end is not sent.
+    /// `NoMemory` comes as there.
     pub fn notifier(&mut self) -> Result<Notifier, NoMemory>
         ensures same { self.new ≡ self.old }
         ensures fresh { IfOk result (λ n. n ≡ fresh_door self.old.line) }

@@ -295,7 +295,8 @@ impl<FS: Filesystem, S: Source, K: Sink + Send> Session<FS, S, K> {
     }
 
     /// What queues notices. On one thread they are sent after the next message is answered, on several as soon as the
-    /// sender comes to them. One that is queued after the session's end is not sent.
+    /// sender comes to them. One that is queued after the session's end is not sent. It takes no memory: `NoMemory`
+    /// comes only where the count of what shares the line is at its end.
     pub fn notifier(&mut self) -> Result<Notifier, NoMemory>
         ensures same { self.new ≡ self.old }
         ensures fresh { IfOk result (λ n. n ≡ fresh_door self.old.line) }
