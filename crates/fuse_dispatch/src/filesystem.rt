@@ -218,13 +218,13 @@ pub trait Filesystem: Send + Sync {
         ensures { Answers promise.may_answer self.now request.now
             (Call.Open ino.0 flags.0) reply.id reply.door result };
 
-    /// READ: the bytes of an open file from `offset` on, `size` of them. `offset` and `size` are in bytes, and `offset`
-    /// is at most `i64::MAX`. Fewer bytes than `size` are the end of the file, and none are past it; for more than
-    /// `size` the caller gets EIO. `fh` is the number that the file was opened with, `flags` are those that it is open
-    /// with (`O_SYNC` and the like), and `lock_owner` is who holds the locks of the read, where the kernel says it. The
-    /// kernel may cache the bytes, unless the file was opened with `FOPEN_DIRECT_IO`. Where `FUSE_WRITEBACK_CACHE` was
-    /// granted it may read a file that is open for writing alone. `defaults::read` answers ENOSYS, which the caller
-    /// gets.
+    /// READ: the bytes of an open file from `offset` on, `size` of them. `offset` and `size` are in bytes, and
+    /// `offset` is at most `i64::MAX`. Fewer bytes than `size` are the end of the file, and none are past it; for more
+    /// than `size` the caller gets EIO. `fh` is the number that the file was opened with, `flags` are those that it is
+    /// open with (`O_SYNC` and the like), and `lock_owner` is the caller as an owner of locks, where the kernel says
+    /// it. The kernel may cache the bytes, unless the file was opened with `FOPEN_DIRECT_IO`. Where
+    /// `FUSE_WRITEBACK_CACHE` was granted it may read a file that is open for writing alone. `defaults::read` answers
+    /// ENOSYS, which the caller gets.
     fn read(
         &self,
         request: &Request,

@@ -47,7 +47,8 @@ impl Read {
         self.arguments.size
     }
 
-    /// Who holds the locks on the file, where the flags have `FUSE_READ_LOCKOWNER`.
+    /// The caller as an owner of locks: `lock_owner` of `struct fuse_read_in`. None where the flags have no
+    /// `FUSE_READ_LOCKOWNER`.
     pub fn lock_owner(&self) -> Option<LockOwner>
         ensures { owner_number result ≡ lock_owner_of self.now }
     {
@@ -63,7 +64,7 @@ impl Read {
         OpenFlags(self.arguments.flags)
     }
 
-    /// Which fields count.
+    /// Which fields are valid: `FUSE_READ_LOCKOWNER` for `lock_owner`.
     pub fn read_flags(&self) -> ReadFlags
         ensures { result.0 ≡ self.now.read_flags }
     {
@@ -121,7 +122,8 @@ impl<'a> Write<'a> {
         WriteFlags::from_bits_retain(self.arguments.write_flags)
     }
 
-    /// Who holds the locks on the file, where the flags have `FUSE_WRITE_LOCKOWNER`.
+    /// The caller as an owner of locks: `lock_owner` of `struct fuse_write_in`. None where the flags have no
+    /// `FUSE_WRITE_LOCKOWNER`.
     pub fn lock_owner(&self) -> Option<LockOwner>
         ensures { owner_number result ≡ writer_of self.now.arguments }
     {
@@ -161,7 +163,7 @@ impl Flush {
         FileHandle(self.arguments.fh)
     }
 
-    /// Who holds the locks on the file.
+    /// The caller as an owner of locks: `lock_owner` of `struct fuse_flush_in`.
     pub fn lock_owner(&self) -> LockOwner
         ensures { result.0 ≡ self.now.lock_owner }
     {

@@ -49,7 +49,7 @@ impl GetAttr {
     ghost use Rattle.fuse_operations.specs.Call.{handle_number};
     ghost use Rattle.fuse_operations.specs.Fields.{fh_of};
 
-    /// Which fields count.
+    /// Which fields are valid: `FUSE_GETATTR_FH` for `fh`.
     pub fn getattr_flags(&self) -> GetattrFlags
         ensures { result.0 ≡ self.now.getattr_flags }
     {

@@ -102,7 +102,8 @@ impl<K> Releasing<K> {
         OpenFlags(self.arguments.flags)
     }
 
-    /// Who holds the locks on the file, where the flags have `FUSE_RELEASE_FLOCK_UNLOCK`.
+    /// Whose locks of `flock(2)` are given up: `lock_owner` of `struct fuse_release_in`. None where the flags have no
+    /// `FUSE_RELEASE_FLOCK_UNLOCK`.
     pub fn lock_owner(&self) -> Option<LockOwner>
         ensures { owner_number result ≡ releaser_of self.now }
     {

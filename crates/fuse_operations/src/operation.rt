@@ -23,7 +23,7 @@ pub struct Init {
 impl Init {
     ghost use Rattle.fuse_operations.specs.InitOperation.{arguments_of, offered, version};
 
-    /// The capabilities offered. The second word counts where the first has `FUSE_INIT_EXT`.
+    /// The capabilities offered. The second word is valid where the first has `FUSE_INIT_EXT`.
     pub fn capabilities(&self) -> InitFlags
         ensures { result.0 ≡ offered (arguments_of self.now) }
     {

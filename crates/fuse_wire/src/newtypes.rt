@@ -26,7 +26,8 @@ pub struct Generation(pub u64);
 #[derive(Clone, Copy, Debug, PartialEq, Eq, PartialOrd, Ord, Hash)]
 pub struct FileHandle(pub u64);
 
-/// Who holds a lock, as a number of the kernel's own, from 0 to the last u64: `owner` of `struct fuse_lk_in`.
+/// An owner of locks, who may hold none, as a number of the kernel's own, from 0 to the last u64: `owner` of
+/// `struct fuse_lk_in`.
 #[derive(Clone, Copy, Debug, PartialEq, Eq, PartialOrd, Ord, Hash)]
 pub struct LockOwner(pub u64);
 

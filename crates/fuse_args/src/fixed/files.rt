@@ -27,9 +27,9 @@ pub struct ReadArguments {
     pub offset: u64,
     /// The most bytes that are wanted.
     pub size: u32,
-    /// `FUSE_READ_LOCKOWNER` says that `lock_owner` counts.
+    /// `FUSE_READ_LOCKOWNER` says that `lock_owner` is valid.
     pub read_flags: u32,
-    /// Who holds the locks on the file.
+    /// The caller as an owner of locks. It is valid where `read_flags` has `FUSE_READ_LOCKOWNER`.
     pub lock_owner: u64,
     /// The flags that the file was opened with.
     pub flags: i32,
@@ -44,9 +44,9 @@ pub struct WriteArguments {
     pub offset: i64,
     /// How many bytes follow.
     pub size: u32,
-    /// `FUSE_WRITE_LOCKOWNER` says that `lock_owner` counts.
+    /// `FUSE_WRITE_LOCKOWNER` says that `lock_owner` is valid.
     pub write_flags: u32,
-    /// Who holds the locks on the file.
+    /// The caller as an owner of locks. It is valid where `write_flags` has `FUSE_WRITE_LOCKOWNER`.
     pub lock_owner: u64,
     /// The flags that the file was opened with.
     pub flags: i32,
@@ -57,7 +57,7 @@ pub struct WriteArguments {
 pub struct FlushArguments {
     /// The open file.
     pub fh: u64,
-    /// Who holds the locks on the file.
+    /// The caller as an owner of locks.
     pub lock_owner: u64,
 }
 
@@ -77,9 +77,10 @@ pub struct ReleaseArguments {
     pub fh: u64,
     /// The flags that the file was opened with.
     pub flags: i32,
-    /// `FUSE_RELEASE_FLUSH` says that the file is to be flushed, `FUSE_RELEASE_FLOCK_UNLOCK` that `lock_owner` counts.
+    /// `FUSE_RELEASE_FLUSH` says that the file is to be flushed, `FUSE_RELEASE_FLOCK_UNLOCK` that `lock_owner` is
+    /// valid.
     pub release_flags: u32,
-    /// Who holds the locks on the file.
+    /// Whose locks of `flock(2)` are given up. It is valid where `release_flags` has `FUSE_RELEASE_FLOCK_UNLOCK`.
     pub lock_owner: u64,
 }
 

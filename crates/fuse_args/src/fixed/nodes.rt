@@ -3,7 +3,7 @@
 /// The arguments of GETATTR: `struct fuse_getattr_in`.
 #[derive(Clone, Copy)]
 pub struct GetAttrArguments {
-    /// `FUSE_GETATTR_FH` says that `fh` counts.
+    /// `FUSE_GETATTR_FH` says that `fh` is valid.
     pub getattr_flags: u32,
     /// The open file.
     pub fh: u64,
@@ -18,7 +18,7 @@ pub struct SetAttrArguments {
     pub fh: u64,
     /// The size in bytes.
     pub size: u64,
-    /// Who holds the locks on the file.
+    /// The caller as an owner of locks. It is valid where `valid` has `FATTR_LOCKOWNER`.
     pub lock_owner: u64,
     /// When it was last read: the seconds.
     pub atime: i64,

@@ -28,7 +28,7 @@ impl FattrFlags {
     /// The time of the last change of its contents.
     pub const FATTR_MTIME: FattrFlags = FattrFlags(1 << 5);
 
-    /// The field `fh` counts.
+    /// The field `fh` is valid.
     pub const FATTR_FH: FattrFlags = FattrFlags(1 << 6);
 
     /// The time of the last access becomes the present.
@@ -37,7 +37,7 @@ impl FattrFlags {
     /// The time of the last change of its contents becomes the present.
     pub const FATTR_MTIME_NOW: FattrFlags = FattrFlags(1 << 8);
 
-    /// The field `lock_owner` counts.
+    /// The field `lock_owner` is valid.
     pub const FATTR_LOCKOWNER: FattrFlags = FattrFlags(1 << 9);
 
     /// The time of the last change of its attributes.

@@ -10,7 +10,7 @@ use bitflags::{Flag, Flags};
 pub struct GetattrFlags(u32);
 
 impl GetattrFlags {
-    /// The field `fh` counts.
+    /// The field `fh` is valid.
     pub const FUSE_GETATTR_FH: GetattrFlags = GetattrFlags(1 << 0);
 }
 

@@ -77,7 +77,7 @@ impl InitFlags {
     /// A read of the device after an abort gives `ECONNABORTED`.
     pub const FUSE_ABORT_ERROR: InitFlags = InitFlags(1 << 21);
 
-    /// The field `max_pages` of `struct fuse_init_out` counts.
+    /// The field `max_pages` of `struct fuse_init_out` is valid.
     pub const FUSE_MAX_PAGES: InitFlags = InitFlags(1 << 22);
 
     /// The targets of symbolic links may be cached.
@@ -89,7 +89,7 @@ impl InitFlags {
     /// Cached pages are dropped only where the filesystem asks for it.
     pub const FUSE_EXPLICIT_INVAL_DATA: InitFlags = InitFlags(1 << 25);
 
-    /// The field `map_alignment` of `struct fuse_init_out` counts.
+    /// The field `map_alignment` of `struct fuse_init_out` is valid.
     pub const FUSE_MAP_ALIGNMENT: InitFlags = InitFlags(1 << 26);
 
     /// Directories may be mounted as filesystems of their own.

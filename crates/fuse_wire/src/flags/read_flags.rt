@@ -10,7 +10,7 @@ use bitflags::{Flag, Flags};
 pub struct ReadFlags(u32);
 
 impl ReadFlags {
-    /// The field `lock_owner` counts.
+    /// The field `lock_owner` is valid.
     pub const FUSE_READ_LOCKOWNER: ReadFlags = ReadFlags(1 << 1);
 }
 

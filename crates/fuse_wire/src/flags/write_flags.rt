@@ -13,7 +13,7 @@ impl WriteFlags {
     /// The write comes late, from the page cache, and its file handle is a guess.
     pub const FUSE_WRITE_CACHE: WriteFlags = WriteFlags(1 << 0);
 
-    /// The field `lock_owner` counts.
+    /// The field `lock_owner` is valid.
     pub const FUSE_WRITE_LOCKOWNER: WriteFlags = WriteFlags(1 << 1);
 
     /// The bits of set-user-id and set-group-id are to be cleared.
