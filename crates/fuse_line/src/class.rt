@@ -6,6 +6,7 @@ pub trait Class {
     /// Whether the item is an inner one.
     ghost is_inner: { Self → Bool };
 
+    /// Whether this item is an inner one.
     fn inner(&self) -> bool
         ensures { result ≡ is_inner self.now };
 }

@@ -185,12 +185,12 @@ impl<T: Class> Line<T> {
         unreachable!()
     }
 
-    // A wait for an item, for a pop in the same loop.
+    /// A wait for an item, for a pop in the same loop.
     pub(crate) fn wait_for_item(&self) -> Waiting<'_> {
         self.items.wait()
     }
 
-    // A wait for a place, for a push in the same loop.
+    /// A wait for a place, for a push in the same loop.
     pub(crate) fn wait_for_place(&self) -> Waiting<'_> {
         self.places.wait()
     }

@@ -9,7 +9,7 @@ use crate::Class;
 use crate::hand::Hand;
 use crossbeam_queue::protocol::{Join, Lesson, Outcome, Protocol, Split};
 
-// The rule of a line.
+/// The rule of a line.
 pub struct Moved;
 
 impl<T: Class> Protocol<T, Hand<T>> for Moved {
@@ -18,7 +18,7 @@ impl<T: Class> Protocol<T, Hand<T>> for Moved {
     ghost first = { hand First 0 [] [] };
 }
 
-// An inner pass comes off the first, which counts it.
+/// An inner pass comes off the first, which counts it.
 pub struct Inners;
 
 impl<T> Split<Hand<T>> for Inners {
@@ -27,7 +27,7 @@ impl<T> Split<Hand<T>> for Inners {
     ghost right = { λ v. hand Inner 0 [] [] };
 }
 
-// A door comes off any pass.
+/// A door comes off any pass.
 pub struct Doors;
 
 impl<T> Split<Hand<T>> for Doors {
@@ -36,7 +36,7 @@ impl<T> Split<Hand<T>> for Doors {
     ghost right = { λ v. hand Door 0 [] [] };
 }
 
-// One pass takes in what another knows.
+/// One pass takes in what another knows.
 pub struct Joins;
 
 impl<T> Join<Hand<T>> for Joins {
@@ -45,7 +45,7 @@ impl<T> Join<Hand<T>> for Joins {
     ghost spent = { hand Spent 0 [] [] };
 }
 
-// An item joins the line at its back.
+/// An item joins the line at its back.
 pub struct Puts;
 
 impl<T> Outcome<T, Hand<T>> for Puts {
@@ -56,7 +56,7 @@ impl<T: Class> Lesson<T, Hand<T>> for Puts {
     ghost fact = { λ v items. Tells T.is_inner v items };
 }
 
-// The item at the front of the line leaves it.
+/// The item at the front of the line leaves it.
 pub struct Takes;
 
 impl<T: Class> Outcome<T, Hand<T>> for Takes {

@@ -17,8 +17,8 @@ pub fn range_bytes(ino: u64, offset: i64, length: i64) -> [u8; 24]
     ]
 }
 
-#[tactic(auto, unfolding(crate::specs::Heads::entry_head))]
 /// What stands in front of a name that is no longer valid: `struct fuse_notify_inval_entry_out`.
+#[tactic(auto, unfolding(crate::specs::Heads::entry_head))]
 pub fn entry_head_bytes(parent: u64, namelen: u32) -> [u8; 16]
     ensures { result ≡ entry_head parent namelen }
 {
@@ -27,9 +27,9 @@ pub fn entry_head_bytes(parent: u64, namelen: u32) -> [u8; 16]
     [p0, p1, p2, p3, p4, p5, p6, p7, n0, n1, n2, n3, 0, 0, 0, 0]
 }
 
-#[tactic(auto, unfolding(crate::specs::Heads::wide_head))]
 /// What stands in front of data to keep, or of a name that is gone: `struct fuse_notify_store_out` and `struct
 /// fuse_notify_delete_out`.
+#[tactic(auto, unfolding(crate::specs::Heads::wide_head))]
 pub fn wide_head_bytes(first: u64, second: u64, size: u32) -> [u8; 24]
     ensures { result ≡ wide_head first second size }
 {

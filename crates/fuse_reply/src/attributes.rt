@@ -47,8 +47,8 @@ fn span_parts(span: &Duration) -> (u64, u32)
     (span.as_secs(), span.subsec_nanos())
 }
 
-#[tactic(auto, unfolding(crate::specs::Attributes::size_fields))]
 /// The numbers of 8 bytes.
+#[tactic(auto, unfolding(crate::specs::Attributes::size_fields))]
 #[inline(always)]
 fn size_bytes(attr: &FileAttr) -> [u8; 24]
     ensures { result ≡ size_fields attr.now }
@@ -62,8 +62,8 @@ fn size_bytes(attr: &FileAttr) -> [u8; 24]
     ]
 }
 
-#[tactic(auto, unfolding(crate::specs::Attributes::second_fields))]
 /// The seconds of the three times.
+#[tactic(auto, unfolding(crate::specs::Attributes::second_fields))]
 #[inline(always)]
 fn second_bytes(atime: i64, mtime: i64, ctime: i64) -> [u8; 24]
     ensures { result ≡ second_fields atime mtime ctime }
@@ -77,8 +77,8 @@ fn second_bytes(atime: i64, mtime: i64, ctime: i64) -> [u8; 24]
     ]
 }
 
-#[tactic(auto, unfolding(crate::specs::Attributes::narrow_fields))]
 /// The nanoseconds of the three times, and the numbers of 4 bytes.
+#[tactic(auto, unfolding(crate::specs::Attributes::narrow_fields))]
 #[inline(always)]
 fn narrow_bytes(atimensec: u32, mtimensec: u32, ctimensec: u32, attr: &FileAttr) -> [u8; 40]
     ensures { result ≡ narrow_fields atimensec mtimensec ctimensec attr.now }
@@ -103,8 +103,8 @@ fn in_range(attr: FileAttr)
     ensures { IsAttr attr }
 {}
 
-#[tactic(auto, unfolding(crate::specs::Attributes::attr_block))]
 /// The attributes as a reply carries them: `struct fuse_attr`.
+#[tactic(auto, unfolding(crate::specs::Attributes::attr_block))]
 #[inline(always)]
 fn attr_bytes(attr: &FileAttr) -> [u8; 88]
     ensures bytes { result ≡ attr_block attr.now }
@@ -118,8 +118,8 @@ fn attr_bytes(attr: &FileAttr) -> [u8; 88]
     joined(&wide, &narrow_bytes(atimensec, mtimensec, ctimensec, attr))
 }
 
-#[tactic(auto, unfolding(crate::specs::Attributes::entry_front))]
 /// The front of `struct fuse_entry_out`, before the attributes.
+#[tactic(auto, unfolding(crate::specs::Attributes::entry_front))]
 #[inline(always)]
 fn entry_front_bytes(
     entry_ttl: &Duration,
@@ -146,8 +146,8 @@ fn entry_front_bytes(
     ]
 }
 
-#[tactic(auto, unfolding(crate::specs::Attributes::entry_payload))]
 /// An inode under a name as a reply carries it: `struct fuse_entry_out`.
+#[tactic(auto, unfolding(crate::specs::Attributes::entry_payload))]
 #[inline(always)]
 pub fn entry_bytes(
     entry_ttl: &Duration,
@@ -162,8 +162,8 @@ pub fn entry_bytes(
     joined(&front, &attr_bytes(attr))
 }
 
-#[tactic(auto, unfolding(crate::specs::Attributes::attr_front))]
 /// The front of `struct fuse_attr_out`, before the attributes.
+#[tactic(auto, unfolding(crate::specs::Attributes::attr_front))]
 #[inline(always)]
 fn attr_front_bytes(ttl: &Duration) -> [u8; 16]
     ensures bytes { result ≡ attr_front ttl.now }
@@ -175,8 +175,8 @@ fn attr_front_bytes(ttl: &Duration) -> [u8; 16]
     [a0, a1, a2, a3, a4, a5, a6, a7, n0, n1, n2, n3, 0, 0, 0, 0]
 }
 
-#[tactic(auto, unfolding(crate::specs::Attributes::attr_payload))]
 /// Attributes alone as a reply carries them: `struct fuse_attr_out`.
+#[tactic(auto, unfolding(crate::specs::Attributes::attr_payload))]
 #[inline(always)]
 pub fn attr_out_bytes(ttl: &Duration, attr: &FileAttr) -> [u8; 104]
     ensures bytes { result ≡ attr_payload ttl.now attr.now }

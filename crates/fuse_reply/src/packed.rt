@@ -84,8 +84,8 @@ impl Packed {
         Ok(Packed::around(id, status, copied))
     }
 
-    #[tactic(auto, unfolding(crate::specs::Frame::frame))]
     /// The frame of a payload that is held already.
+    #[tactic(auto, unfolding(crate::specs::Frame::frame))]
     #[inline(always)]
     fn around(id: RequestId, status: i32, payload: SmallVec<u8, INLINE_SIZE>) -> Packed
         requires { length payload.items ≤ max_payload }

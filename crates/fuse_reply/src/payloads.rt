@@ -6,8 +6,8 @@ ghost use Rattle.fuse_reply.specs.Listing.{dirent_head};
 
 use fuse_wire::FileHandle;
 
-#[tactic(auto, unfolding(crate::specs::Payload::open_payload))]
 /// An open file: `struct fuse_open_out`.
+#[tactic(auto, unfolding(crate::specs::Payload::open_payload))]
 pub fn open_bytes(fh: FileHandle, open_flags: u32) -> [u8; 16]
     ensures { result ≡ open_payload fh.0 open_flags }
 {
@@ -16,8 +16,8 @@ pub fn open_bytes(fh: FileHandle, open_flags: u32) -> [u8; 16]
     [h0, h1, h2, h3, h4, h5, h6, h7, f0, f1, f2, f3, 0, 0, 0, 0]
 }
 
-#[tactic(auto, unfolding(crate::specs::Payload::word_payload))]
 /// A number, and 4 bytes without a use: `struct fuse_write_out` and its like.
+#[tactic(auto, unfolding(crate::specs::Payload::word_payload))]
 pub fn word_bytes(n: u32) -> [u8; 8]
     ensures { result ≡ word_payload n }
 {
@@ -25,8 +25,8 @@ pub fn word_bytes(n: u32) -> [u8; 8]
     [n0, n1, n2, n3, 0, 0, 0, 0]
 }
 
-#[tactic(auto, unfolding(crate::specs::Payload::statfs_counts))]
 /// The counts of `struct fuse_kstatfs`, of 8 bytes each.
+#[tactic(auto, unfolding(crate::specs::Payload::statfs_counts))]
 pub fn statfs_count_bytes(blocks: u64, bfree: u64, bavail: u64, files: u64, ffree: u64) -> [u8; 40]
     ensures { result ≡ statfs_counts blocks bfree bavail files ffree }
 {
@@ -41,8 +41,8 @@ pub fn statfs_count_bytes(blocks: u64, bfree: u64, bavail: u64, files: u64, ffre
     ]
 }
 
-#[tactic(auto, unfolding(crate::specs::Payload::statfs_sizes))]
 /// The numbers of `struct fuse_kstatfs` that have 4 bytes, and the bytes after them that have no use.
+#[tactic(auto, unfolding(crate::specs::Payload::statfs_sizes))]
 pub fn statfs_size_bytes(bsize: u32, namelen: u32, frsize: u32) -> [u8; 40]
     ensures { result ≡ statfs_sizes bsize namelen frsize }
 {
@@ -55,8 +55,8 @@ pub fn statfs_size_bytes(bsize: u32, namelen: u32, frsize: u32) -> [u8; 40]
     ]
 }
 
-#[tactic(auto, unfolding(crate::specs::Payload::lock_payload))]
 /// A lock: `struct fuse_file_lock`.
+#[tactic(auto, unfolding(crate::specs::Payload::lock_payload))]
 pub fn lock_bytes(start: u64, end: u64, typ: i32, pid: u32) -> [u8; 24]
     ensures { result ≡ lock_payload start end typ pid }
 {
@@ -70,8 +70,8 @@ pub fn lock_bytes(start: u64, end: u64, typ: i32, pid: u32) -> [u8; 24]
     ]
 }
 
-#[tactic(auto, unfolding(crate::specs::Payload::ioctl_front))]
 /// What stands in front of the bytes that an ioctl gives back: `struct fuse_ioctl_out`.
+#[tactic(auto, unfolding(crate::specs::Payload::ioctl_front))]
 pub fn ioctl_bytes(code: i32) -> [u8; 16]
     ensures { result ≡ ioctl_front code }
 {
@@ -79,8 +79,8 @@ pub fn ioctl_bytes(code: i32) -> [u8; 16]
     [r0, r1, r2, r3, 0, 0, 0, 0, 1, 0, 0, 0, 1, 0, 0, 0]
 }
 
-#[tactic(auto, unfolding(crate::specs::Listing::dirent_head))]
 /// What stands in front of the name of an entry: `struct fuse_dirent`.
+#[tactic(auto, unfolding(crate::specs::Listing::dirent_head))]
 pub fn dirent_head_bytes(ino: u64, offset: u64, namelen: u32, typ: u32) -> [u8; 24]
     ensures { result ≡ dirent_head ino offset namelen typ }
 {

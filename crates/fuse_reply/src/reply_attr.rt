@@ -16,8 +16,8 @@ pub struct Attrs;
 pub type ReplyAttr = Reply<Attrs>;
 
 impl Reply<Attrs> {
-    #[tactic(auto, using(crate::proofs::AreReplies::attr_is_reply))]
     /// The inode has these attributes, which hold for so long.
+    #[tactic(auto, using(crate::proofs::AreReplies::attr_is_reply))]
     pub fn attr(self, ttl: &Duration, attr: &FileAttr) -> Replied
         ensures reply { result ≡ Out.Frame (reply self.id (Attr ttl.now attr.now)) }
         ensures answer { IsAnswer (Attr ttl.now attr.now) }

@@ -14,8 +14,8 @@ pub struct Blocks;
 pub type ReplyBmap = Reply<Blocks>;
 
 impl Reply<Blocks> {
-    #[tactic(auto, using(crate::proofs::AreReplies::bmap_is_reply))]
     /// It lies in this block of the device, any u64: `struct fuse_bmap_out`.
+    #[tactic(auto, using(crate::proofs::AreReplies::bmap_is_reply))]
     pub fn bmap(self, block: u64) -> Replied
         ensures reply { result ≡ Out.Frame (reply self.id (Bmap block)) }
         ensures answer { IsAnswer (Bmap block) }

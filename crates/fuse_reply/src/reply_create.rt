@@ -19,9 +19,9 @@ pub struct NewFiles;
 pub type ReplyCreate = Reply<NewFiles>;
 
 impl Reply<NewFiles> {
-    #[tactic(auto, using(crate::proofs::AreReplies::create_is_reply), unfolding(crate::specs::Payload::create_payload))]
     /// The name leads to the new inode of these attributes, and both hold for so long. The file is open under this
     /// number, and is treated as the flags say. `FOPEN_PASSTHROUGH` may not be among them, as in `ReplyOpen::opened`.
+    #[tactic(auto, using(crate::proofs::AreReplies::create_is_reply), unfolding(crate::specs::Payload::create_payload))]
     pub fn created(
         self,
         ttl: &Duration,

@@ -19,9 +19,9 @@ pub struct Bytes;
 pub type ReplyData = Reply<Bytes>;
 
 impl Reply<Bytes> {
-    #[tactic(auto, using(crate::proofs::AreReplies::data_is_reply))]
     /// These are the bytes, at most `u32::MAX - 16` of them. More than 144 take memory; where none is to be had, the
     /// reply is ENOMEM.
+    #[tactic(auto, using(crate::proofs::AreReplies::data_is_reply))]
     pub fn data(self, bytes: &[u8]) -> Replied
         requires { length bytes.now ≤ max_payload }
         ensures replies { RepliesWith self.id (Data bytes.now) result }

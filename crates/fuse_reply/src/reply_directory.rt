@@ -31,13 +31,13 @@ impl EntryKind for DirEntries {
 pub type ReplyDirectory = ReplyListing<DirEntries>;
 
 impl ReplyListing<DirEntries> {
-    #[tactic(auto, unfolding(crate::specs::Listing::dirent))]
     /// Adds an entry behind the others: its inode, the offset at which the listing goes on after it, what kind of file
     /// it is, and its name. Of a name the kernel takes 1 to 1024 bytes (4095 since Linux 6.14), none of them `/`; here
     /// it may have `u32::MAX`.
     ///
     /// Ok(false): it was added. Ok(true): it does not fit, and nothing changed; a shorter one may fit still. An error:
     /// there was no memory, and nothing changed.
+    #[tactic(auto, unfolding(crate::specs::Listing::dirent))]
     pub fn add(
         &mut self,
         ino: INodeNo,
@@ -56,8 +56,8 @@ impl ReplyListing<DirEntries> {
         put_entry(&mut self.held, self.size, &[], &head, name)
     }
 
-    #[tactic(auto, using(crate::proofs::AreReplies::listing_is_reply))]
     /// These are the entries. Those that were added are the payload of the frame; they are not copied again.
+    #[tactic(auto, using(crate::proofs::AreReplies::listing_is_reply))]
     pub fn ok(self) -> Replied
         ensures reply { (entries : List DirEntry) → self.held ≡ listing entries
             → result ≡ Out.Frame (reply self.id (Directory entries)) }

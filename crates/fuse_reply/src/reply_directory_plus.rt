@@ -31,13 +31,13 @@ impl EntryKind for PlusEntries {
 pub type ReplyDirectoryPlus = ReplyListing<PlusEntries>;
 
 impl ReplyListing<PlusEntries> {
-    #[tactic(auto, unfolding(crate::specs::Listing::direntplus, crate::specs::Listing::dirent))]
     /// Adds an entry behind the others: the offset at which the listing goes on after it, its name, and what a lookup
     /// of the name answers. The inode and the kind are those of the attributes; the first argument is not sent. Of a
     /// name the kernel takes 1 to 1024 bytes (4095 since Linux 6.14), none of them `/`; here it may have `u32::MAX`.
     ///
     /// Ok(false): it was added. Ok(true): it does not fit, and nothing changed; a shorter one may fit still. An error:
     /// there was no memory, and nothing changed.
+    #[tactic(auto, unfolding(crate::specs::Listing::direntplus, crate::specs::Listing::dirent))]
     pub fn add(
         &mut self,
         _ino: INodeNo,
@@ -76,8 +76,8 @@ impl ReplyListing<PlusEntries> {
         put_entry(&mut self.held, self.size, &lookup, &head, name)
     }
 
-    #[tactic(auto, using(crate::proofs::AreReplies::plus_listing_is_reply))]
     /// These are the entries. Those that were added are the payload of the frame; they are not copied again.
+    #[tactic(auto, using(crate::proofs::AreReplies::plus_listing_is_reply))]
     pub fn ok(self) -> Replied
         ensures reply { (entries : List PlusEntry) → self.held ≡ plus_listing entries
             → result ≡ Out.Frame (reply self.id (DirectoryPlus entries)) }

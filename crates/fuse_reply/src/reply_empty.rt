@@ -13,8 +13,8 @@ pub struct Nothing;
 pub type ReplyEmpty = Reply<Nothing>;
 
 impl Reply<Nothing> {
-    #[tactic(auto, using(crate::proofs::AreReplies::empty_is_reply))]
     /// It is done.
+    #[tactic(auto, using(crate::proofs::AreReplies::empty_is_reply))]
     pub fn ok(self) -> Replied
         ensures { result ≡ Out.Frame (reply self.id Empty) }
     {

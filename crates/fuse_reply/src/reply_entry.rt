@@ -24,8 +24,8 @@ impl Reply<Entries> {
         self.entry_with_ttls(ttl, ttl, attr, generation)
     }
 
-    #[tactic(auto, using(crate::proofs::AreReplies::entry_is_reply))]
     /// The name leads to the inode of these attributes. The attributes and the name hold for so long each.
+    #[tactic(auto, using(crate::proofs::AreReplies::entry_is_reply))]
     pub fn entry_with_ttls(
         self,
         attr_ttl: &Duration,

@@ -14,8 +14,8 @@ pub struct Offsets;
 pub type ReplyLseek = Reply<Offsets>;
 
 impl Reply<Offsets> {
-    #[tactic(auto, using(crate::proofs::AreReplies::lseek_is_reply))]
     /// It is at this offset, in bytes, any i64: `struct fuse_lseek_out`.
+    #[tactic(auto, using(crate::proofs::AreReplies::lseek_is_reply))]
     pub fn offset(self, offset: i64) -> Replied
         ensures reply { result ≡ Out.Frame (reply self.id (Lseek offset)) }
         ensures answer { IsAnswer (Lseek offset) }

@@ -17,8 +17,8 @@ pub struct Events;
 pub type ReplyPoll = Reply<Events>;
 
 impl Reply<Events> {
-    #[tactic(auto, using(crate::proofs::AreReplies::poll_is_reply))]
     /// It is ready for these, now. Bits without a name are sent as they are.
+    #[tactic(auto, using(crate::proofs::AreReplies::poll_is_reply))]
     pub fn poll(self, revents: PollEvents) -> Replied
         ensures reply { result ≡ Out.Frame (reply self.id (Poll revents.0)) }
         ensures answer { IsAnswer (Poll revents.0) }

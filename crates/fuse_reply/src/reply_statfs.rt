@@ -15,10 +15,10 @@ pub struct Fills;
 pub type ReplyStatfs = Reply<Fills>;
 
 impl Reply<Fills> {
-    #[tactic(auto, using(crate::proofs::AreReplies::statfs_is_reply), unfolding(crate::specs::Payload::statfs_payload))]
     /// The fill, as `statvfs(3)` has it: blocks in all, free ones, and those that are free for users; inodes in all,
     /// and free ones; the size of a block that reads and writes do best with, in bytes; the longest name, in bytes; and the
     /// size of a block that is counted, in bytes. Each may be any number of its type.
+    #[tactic(auto, using(crate::proofs::AreReplies::statfs_is_reply), unfolding(crate::specs::Payload::statfs_payload))]
     pub fn statfs(
         self,
         blocks: u64,

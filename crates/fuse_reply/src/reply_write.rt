@@ -15,8 +15,8 @@ pub struct ByteCounts;
 pub type ReplyWrite = Reply<ByteCounts>;
 
 impl Reply<ByteCounts> {
-    #[tactic(auto, using(crate::proofs::AreReplies::write_is_reply))]
     /// So many bytes were written, any u32.
+    #[tactic(auto, using(crate::proofs::AreReplies::write_is_reply))]
     pub fn written(self, size: u32) -> Replied
         ensures reply { result ≡ Out.Frame (reply self.id (Write size)) }
         ensures answer { IsAnswer (Write size) }

@@ -17,8 +17,8 @@ pub struct Xattrs;
 pub type ReplyXattr = Reply<Xattrs>;
 
 impl Reply<Xattrs> {
-    #[tactic(auto, using(crate::proofs::AreReplies::xattr_size_is_reply))]
     /// It has so many bytes, any u32: `struct fuse_getxattr_out`. A request that asks for 0 bytes is answered so.
+    #[tactic(auto, using(crate::proofs::AreReplies::xattr_size_is_reply))]
     pub fn size(self, size: u32) -> Replied
         ensures reply { result ≡ Out.Frame (reply self.id (XattrSize size)) }
         ensures answer { IsAnswer (XattrSize size) }

@@ -9,7 +9,7 @@ pub enum Sight {
     Reading(Option<u64>),
 }
 
-// The rule of the word.
+/// The rule of the word.
 pub struct SetOnce;
 
 impl TableRule<(), Sight, ()> for SetOnce {
@@ -22,7 +22,7 @@ impl TableRule<(), Sight, ()> for SetOnce {
     ghost first = { λ _. Storing None };
 }
 
-// The Seal stores, once.
+/// The Seal stores, once.
 pub struct Stores;
 
 impl Play<(), Sight> for Stores {
@@ -33,7 +33,7 @@ impl Play<(), Sight> for Stores {
     ghost then = { λ _ _ word after. after ≡ (Storing (told word), []) };
 }
 
-// A reading seat loads.
+/// A reading seat loads.
 pub struct Loads;
 
 impl Play<(), Sight> for Loads {
@@ -42,7 +42,7 @@ impl Play<(), Sight> for Loads {
     ghost then = { λ _ before word after. HasRead before word after };
 }
 
-// The Seal's seat splits off the first reading one.
+/// The Seal's seat splits off the first reading one.
 pub struct FirstReader;
 
 impl Split<Sight> for FirstReader {
@@ -54,7 +54,7 @@ impl Split<Sight> for FirstReader {
     ghost right = { λ _. Reading None };
 }
 
-// A reading seat splits off another, which knows as much.
+/// A reading seat splits off another, which knows as much.
 pub struct Shares;
 
 impl Split<Sight> for Shares {

@@ -45,8 +45,8 @@ impl Model for Message {
 }
 
 impl Message {
-    #[tactic(auto, unfolding(crate::specs::Generated::message))]
     /// The message of this opcode, id, node and body. Whoever asks is 0.
+    #[tactic(auto, unfolding(crate::specs::Generated::message))]
     fn new(opcode: u32, id: u64, node: u64, body: &[u8]) -> Message
         requires { length body.now ≤ 64 }
         ensures { result ≡ message opcode id node body.now }
@@ -130,8 +130,8 @@ fn init_bytes(major: u32, minor: u32, max_readahead: u32) -> [u8; 64]
     ]
 }
 
-#[tactic(auto, unfolding(crate::specs::Generated::read_body))]
 /// The body of READ and READDIR: `struct fuse_read_in`.
+#[tactic(auto, unfolding(crate::specs::Generated::read_body))]
 fn read_bytes(offset: u64, size: u32) -> [u8; 40]
     ensures { result ≡ read_body offset size }
 {
@@ -143,8 +143,8 @@ fn read_bytes(offset: u64, size: u32) -> [u8; 40]
     ]
 }
 
-#[tactic(auto, unfolding(crate::specs::Generated::write_body))]
 /// The body of WRITE, which writes `hello`: `struct fuse_write_in`, and these bytes.
+#[tactic(auto, unfolding(crate::specs::Generated::write_body))]
 fn write_bytes() -> [u8; 45]
     ensures { result ≡ write_body (codes "hello") }
 {
