@@ -94,7 +94,7 @@ impl<Kind> Reply<Kind> {
         Replied::failed(alloc, id, error)
     }
 
-    /// EIO: the filesystem has no answer.
+    /// EIO: the filesystem has no answer to it.
     pub fn unanswered(self) -> Replied
         ensures { result ≡ Out.Frame (reply self.id (Error EIO)) }
     {

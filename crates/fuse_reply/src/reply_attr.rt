@@ -16,7 +16,7 @@ pub struct Attrs;
 pub type ReplyAttr = Reply<Attrs>;
 
 impl Reply<Attrs> {
-    /// The inode has these attributes, which hold for so long.
+    /// The inode has these attributes, which hold for so long: `struct fuse_attr_out`.
     #[tactic(auto, using(crate::proofs::AreReplies::attr_is_reply))]
     pub fn attr(self, ttl: &Duration, attr: &FileAttr) -> Replied
         ensures reply { result ≡ Out.Frame (reply self.id (Attr ttl.now attr.now)) }

@@ -19,8 +19,9 @@ pub struct NewFiles;
 pub type ReplyCreate = Reply<NewFiles>;
 
 impl Reply<NewFiles> {
-    /// The name leads to the new inode of these attributes, and both hold for so long. The file is open under this
-    /// number, and is treated as the flags say. `FOPEN_PASSTHROUGH` may not be among them, as in `ReplyOpen::opened`.
+    /// The name leads to the new inode of these attributes, and both hold for so long: `struct fuse_entry_out`. The
+    /// file is open under this number, and is treated as the flags say: `struct fuse_open_out`, behind the entry.
+    /// `FOPEN_PASSTHROUGH` may not be among them, as in `ReplyOpen::opened`.
     #[tactic(auto, using(crate::proofs::AreReplies::create_is_reply), unfolding(crate::specs::Payload::create_payload))]
     pub fn created(
         self,

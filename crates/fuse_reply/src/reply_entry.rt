@@ -16,7 +16,8 @@ pub struct Entries;
 pub type ReplyEntry = Reply<Entries>;
 
 impl Reply<Entries> {
-    /// The name leads to the inode of these attributes, and both hold for so long.
+    /// The name leads to the inode of these attributes, and both hold for so long: `struct fuse_entry_out`. To LOOKUP,
+    /// `attr.ino` 0 says that there is no such name, and the kernel keeps that for so long.
     pub fn entry(self, ttl: &Duration, attr: &FileAttr, generation: Generation) -> Replied
         ensures reply { result ≡ Out.Frame (reply self.id (Entry ttl.now ttl.now generation.0 attr.now)) }
         ensures answer { IsAnswer (Entry ttl.now ttl.now generation.0 attr.now) }
@@ -24,7 +25,7 @@ impl Reply<Entries> {
         self.entry_with_ttls(ttl, ttl, attr, generation)
     }
 
-    /// The name leads to the inode of these attributes. The attributes and the name hold for so long each.
+    /// The same, where the attributes hold for `attr_ttl`, and the name for `entry_ttl`.
     #[tactic(auto, using(crate::proofs::AreReplies::entry_is_reply))]
     pub fn entry_with_ttls(
         self,

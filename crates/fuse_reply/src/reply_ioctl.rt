@@ -18,8 +18,9 @@ pub struct IoctlResults;
 pub type ReplyIoctl = Reply<IoctlResults>;
 
 impl Reply<IoctlResults> {
-    /// The ioctl came to this result, any i32, and gives these bytes back, at most `u32::MAX - 32` of them. More than
-    /// 128 take memory; where none is to be had, the reply is ENOMEM.
+    /// The ioctl came to this result, any i32, and gives these bytes back, at most `u32::MAX - 32` of them:
+    /// `struct fuse_ioctl_out`, and they stand behind it. More than 128 take memory; where none is to be had, the
+    /// reply is ENOMEM.
     #[tactic(auto, using(crate::proofs::AreReplies::ioctl_is_reply))]
     pub fn ioctl(self, code: i32, bytes: &[u8]) -> Replied
         requires { ioctl_out_size + length bytes.now ≤ max_payload }

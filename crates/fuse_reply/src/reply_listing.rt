@@ -118,7 +118,7 @@ impl<Kind: EntryKind> ReplyListing<Kind> {
         reply.error(error)
     }
 
-    /// Nothing answered it: an error of input or output.
+    /// EIO: the filesystem has no answer to it.
     pub fn unanswered(self) -> Replied
         ensures { result ≡ Out.Frame (reply self.id (Error EIO)) }
     {

@@ -18,9 +18,9 @@ pub struct OpenFiles;
 pub type ReplyOpen = Reply<OpenFiles>;
 
 impl Reply<OpenFiles> {
-    /// It is open under this number, which the kernel names it by from now on, and is treated as the flags say.
-    /// `FOPEN_PASSTHROUGH` may not be among them: it wants a file that the server registered with the kernel, which no
-    /// reply here can name.
+    /// It is open under this number, which the kernel names it by from now on, and is treated as the flags say:
+    /// `struct fuse_open_out`. `FOPEN_PASSTHROUGH` may not be among them: it wants a file that the server registered
+    /// with the kernel, which no reply here can name.
     #[tactic(auto, using(crate::proofs::AreReplies::open_is_reply))]
     pub fn opened(self, fh: FileHandle, flags: FopenFlags) -> Replied
         requires { bit_and flags.0 FOPEN_PASSTHROUGH ≡ 0 }

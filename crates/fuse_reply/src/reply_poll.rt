@@ -17,7 +17,7 @@ pub struct Events;
 pub type ReplyPoll = Reply<Events>;
 
 impl Reply<Events> {
-    /// It is ready for these, now. Bits without a name are sent as they are.
+    /// It is ready for these, now: `struct fuse_poll_out`. Bits without a name are sent as they are.
     #[tactic(auto, using(crate::proofs::AreReplies::poll_is_reply))]
     pub fn poll(self, revents: PollEvents) -> Replied
         ensures reply { result ≡ Out.Frame (reply self.id (Poll revents.0)) }

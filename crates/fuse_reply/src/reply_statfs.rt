@@ -16,8 +16,9 @@ pub type ReplyStatfs = Reply<Fills>;
 
 impl Reply<Fills> {
     /// The fill, as `statvfs(3)` has it: blocks in all, free ones, and those that are free for users; inodes in all,
-    /// and free ones; the size of a block that reads and writes do best with, in bytes; the longest name, in bytes; and the
-    /// size of a block that is counted, in bytes. Each may be any number of its type.
+    /// and free ones; the size of a block that reads and writes do best with, in bytes; the longest name, in bytes;
+    /// and the size of a block that is counted, in bytes. Each may be any number of its type. They are
+    /// `struct fuse_kstatfs`.
     #[tactic(auto, using(crate::proofs::AreReplies::statfs_is_reply), unfolding(crate::specs::Payload::statfs_payload))]
     pub fn statfs(
         self,

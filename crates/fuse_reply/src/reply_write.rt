@@ -15,7 +15,7 @@ pub struct ByteCounts;
 pub type ReplyWrite = Reply<ByteCounts>;
 
 impl Reply<ByteCounts> {
-    /// So many bytes were written, any u32.
+    /// So many bytes were written, any u32: `struct fuse_write_out`.
     #[tactic(auto, using(crate::proofs::AreReplies::write_is_reply))]
     pub fn written(self, size: u32) -> Replied
         ensures reply { result ≡ Out.Frame (reply self.id (Write size)) }
