@@ -1,8 +1,8 @@
-// What the product fixes about a message.
+// What the library fixes about a message.
 use fuse_request::{Operation, RequestError};
 use fuse_wire::Errno;
 
-/// What the product itself fixes about a message after the handshake, before any filesystem is asked.
+/// What the library itself fixes about a message after the handshake, before any filesystem is asked.
 #[derive(Drop)]
 pub enum Verdict<'a> {
     /// It has no good header, for this reason, and ends the run without a frame.

@@ -1,4 +1,4 @@
-// What a request comes to: an error that the product fixes, or what the filesystem answers.
+// What a request comes to: an error that the library fixes, or what the filesystem answers.
 ghost use Rattle.std.specs.Prelude.{◌≡◌, false};
 ghost use Rattle.fuse_header.specs.Header.{header_fields, request_of};
 ghost use Rattle.fuse_dispatch.specs.Asked.{ComesBy, IsOwed};
@@ -29,7 +29,8 @@ pub struct Service<H> {
     pub rule: AccessRule,
 }
 
-/// That service as several threads run it: a reply may come later, where the handler says so.
+/// That service as several threads run it: a reply may come after its method has returned, where `DEFERS` of the
+/// handler is true and there is a door for it.
 #[derive(Drop)]
 pub struct Shared<H> {
     /// The service.

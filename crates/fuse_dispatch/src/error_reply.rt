@@ -7,7 +7,7 @@ use fuse_reply::{Out, ReplyEmpty};
 use fuse_wire::{Errno, RequestId};
 use std::alloc::Global;
 
-/// The reply of an error.
+/// The error that answers the request of this id: its header alone, which takes no memory.
 #[inline(always)]
 pub fn refusal(alloc: Global, id: RequestId, error: Errno) -> Out
     ensures { result ≡ Out.Frame (reply id.0 (Error error)) }

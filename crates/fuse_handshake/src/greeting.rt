@@ -1,4 +1,4 @@
-// What the product makes of a message in the handshake.
+// What the library makes of a message in the handshake.
 ghost use Rattle.std.specs.Prelude.{◌≡◌, option_map};
 ghost use Rattle.fuse_request.specs.Message.{header_of};
 ghost use Rattle.fuse_operations.specs.InitOperation.{arguments_of};
@@ -35,7 +35,7 @@ pub enum HandshakeError {
     Init(Errno),
 }
 
-/// What the product makes of a message in the handshake.
+/// What the library makes of a message in the handshake.
 #[derive(Clone, Copy)]
 pub enum Greeting {
     /// It is no good message, and ends the handshake without a frame.
@@ -81,7 +81,7 @@ fn init_of(operation: &Operation<'_>) -> Option<Init>
 }
 
 impl Greeting {
-    /// What the product makes of this message.
+    /// What the library makes of this message.
     pub fn of(message: &[u8]) -> Greeting
         ensures greeting { result ≡ greeting message.now }
         ensures spoken { IsSpoken result }

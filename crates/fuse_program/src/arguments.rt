@@ -38,7 +38,9 @@ pub struct LoadForm {
     pub threads: usize,
 }
 
-/// The form that the words are, which come after the program's own name.
+/// The form of `serve THREADS ACL OWNER PAGE`, from the words after the program's own name: THREADS at most 1024, ACL
+/// `all`, `root` or `owner`, OWNER a u32, PAGE a u32 of at least 1. A number is one to ten digits. None where the
+/// words are not these five.
 pub fn serve_form(words: &[&[u8]]) -> Option<ServeForm>
     ensures form { result ≡ form_of (map (λ w. w.now) words.now) }
     ensures page { IfSome result (λ f. 0 < f.page) }
@@ -57,7 +59,7 @@ pub fn serve_form(words: &[&[u8]]) -> Option<ServeForm>
     })
 }
 
-/// The same of `gen SEED COUNT`.
+/// The form of `gen SEED COUNT`: SEED below 2^31, COUNT at most 65535. None where the words are not these three.
 pub fn gen_form(words: &[&[u8]]) -> Option<GenForm>
     ensures { result ≡ gen_form_of (map (λ w. w.now) words.now) }
 {
@@ -73,7 +75,8 @@ pub fn gen_form(words: &[&[u8]]) -> Option<GenForm>
     })
 }
 
-/// The same of `load SEED COUNT THREADS`.
+/// The form of `load SEED COUNT THREADS`: SEED below 2^31, COUNT at most 65535, THREADS at most 1024. None where the
+/// words are not these four.
 pub fn load_form(words: &[&[u8]]) -> Option<LoadForm>
     ensures { result ≡ load_form_of (map (λ w. w.now) words.now) }
 {

@@ -4,7 +4,8 @@ ghost use Rattle.fuse_program.specs.Status.{IsStatus, failure_status as status_o
 
 use fuse_session::SessionError;
 
-/// The status of an outcome, where so many frames were lost, or a write failed.
+/// The status of an outcome, where so many frames were lost, and `broken` says that a write failed: of Ok 0, or 8
+/// where a frame was lost or a write failed; of an error that of `failure_status`.
 pub fn status_of(outcome: &Result<(), SessionError>, lost: u64, broken: bool) -> u8
     ensures { IsStatus result outcome.now lost broken }
 {
@@ -15,7 +16,8 @@ pub fn status_of(outcome: &Result<(), SessionError>, lost: u64, broken: bool) ->
     }
 }
 
-/// The status of an error.
+/// The status of an error: 3 for `NotConnected`, 4 for `InvalidData` and `Init`, 5 for `Unsupported`, 7 for `Receive`,
+/// 9 for `Memory` and for options that are refused, 10 for `Threads`.
 pub fn failure_status(error: &SessionError) -> u8
     ensures { result ≡ status_of_failure error.now }
 {

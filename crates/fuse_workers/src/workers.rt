@@ -134,7 +134,8 @@ fn answer_alone<W: Work, S: Source, K: Sink, R: Wait + AllocGlobal>(
     stopped
 }
 
-/// Conducts a run.
+/// Conducts a run in a scope whose threads it starts: one that sends, and workers up to the number of flags. Where
+/// none can be started to send, the caller answers all messages itself, and sends.
 fn conduct<
     's,
     'a: 's,
