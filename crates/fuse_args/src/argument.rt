@@ -48,7 +48,8 @@ impl<'a> ArgumentIterator<'a> {
         self.rest.is_empty()
     }
 
-    /// The arguments of INIT, of which an old kernel sends 16 bytes and a newer one 64. What is missing is zero.
+    /// The arguments of INIT, of which an old kernel sends 16 bytes and a newer one 64. What is missing is zero. None
+    /// where fewer than 16 are left; nothing is taken then.
     pub fn fetch_init(&mut self) -> Option<InitArguments>
         ensures { Fetches result self.old self.new (init_at self.old) }
     {
@@ -66,7 +67,8 @@ impl<'a> ArgumentIterator<'a> {
         })
     }
 
-    /// A name: the bytes up to the first zero byte, which is passed too. None where no byte is zero.
+    /// A name: the bytes up to the first zero byte, which is passed too. None where no byte is zero; nothing is taken
+    /// then.
     #[inline(always)]
     pub fn fetch_str(&mut self) -> Option<&'a [u8]>
         ensures { FetchesSlice result self.old self.new (name_at self.old) }
@@ -87,8 +89,8 @@ impl<'a> ArgumentIterator<'a> {
         all
     }
 
-    /// All bytes that are left, where there are exactly so many: what WRITE and SETXATTR end with. None where there are
-    /// fewer or more.
+    /// All bytes that are left, where there are exactly so many: what WRITE and SETXATTR end with. None where there
+    /// are fewer or more; nothing is taken then.
     #[inline(always)]
     pub fn fetch_exactly(&mut self, size: u32) -> Option<&'a [u8]>
         ensures { FetchesSlice result self.old self.new (exactly size self.old) }
@@ -100,7 +102,7 @@ impl<'a> ArgumentIterator<'a> {
     }
 
     /// The first of the bytes that are left, where there are so many: what IOCTL ends with. Those behind them are
-    /// passed too. None where there are fewer.
+    /// passed too. None where there are fewer; nothing is taken then.
     #[inline(always)]
     pub fn fetch_at_least(&mut self, size: u32) -> Option<&'a [u8]>
         ensures { FetchesSlice result self.old self.new (at_least size self.old) }
@@ -111,7 +113,7 @@ impl<'a> ArgumentIterator<'a> {
         Some(&self.fetch_all()[..size as usize])
     }
 
-    /// So many rows of 16 bytes, as BATCH_FORGET has them. None where fewer are left.
+    /// So many rows of 16 bytes, as BATCH_FORGET has them. None where fewer are left; nothing is taken then.
     pub fn fetch_slice(&mut self, count: usize) -> Option<&'a [u8]>
         ensures { FetchesSlice result self.old self.new (rows_at count self.old) }
     {
@@ -124,7 +126,8 @@ impl<'a> ArgumentIterator<'a> {
         Some(&all[..size])
     }
 
-    /// A number of 8 bytes: the part of FORGET, RENAME, LINK and INTERRUPT.
+    /// A number of 8 bytes: the part of FORGET, RENAME, LINK and INTERRUPT. None where fewer bytes are left; nothing
+    /// is taken then.
     pub fn fetch_u64(&mut self) -> Option<u64>
         ensures { Fetches result self.old self.new (u64_first self.old) }
     {
@@ -133,6 +136,7 @@ impl<'a> ArgumentIterator<'a> {
     }
 
     /// The part of CUSE_INIT, of 64 bytes as in `fuser`, where `struct cuse_init_in` has 16. No field of it is read.
+    /// None where fewer bytes are left; nothing is taken then.
     pub fn fetch_cuse_init(&mut self) -> Option<()>
         ensures { Fetches result self.old self.new (cuse_init_at self.old) }
     {

@@ -239,8 +239,9 @@ impl KernelConfig {
         }
     }
 
-    /// The payload of the INIT reply to a kernel that offered these capabilities and speaks this minor version, where a
-    /// page has so many bytes. The number is how many bytes of it are sent. (`struct fuse_init_out` of `fuse.h`.)
+    /// The payload of the INIT reply to a kernel that offered these capabilities and speaks this minor version, which
+    /// is at least 6, where a page has so many bytes, not 0. The number is how many bytes of it are sent.
+    /// (`struct fuse_init_out` of `fuse.h`.)
     #[tactic(auto, unfolding(crate::specs::Configuration::init_payload))]
     pub fn init_reply(
         &self,

@@ -8,9 +8,10 @@ use std::marker::Model;
 /// A lock on a range of a file.
 #[derive(Clone, Copy, Debug, PartialEq, Eq)]
 pub struct Lock {
-    /// The first and the last byte of the range.
+    /// The first and the last byte of the range. The last is `i64::MAX` where the lock has no end.
     pub range: (u64, u64),
-    /// The kind of lock: the `l_type` of `fcntl(2)`.
+    /// The kind of lock, the `l_type` of `fcntl(2)`: `F_RDLCK` is 0, `F_WRLCK` 1, and `F_UNLCK` 2, which gives a lock
+    /// back.
     pub typ: i32,
     /// The process that asks for it, and 0 where a lock is asked about or given back.
     pub pid: u32,

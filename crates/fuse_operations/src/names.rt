@@ -101,7 +101,7 @@ impl<'a> MkNod<'a> {
         self.arguments.umask
     }
 
-    /// The device, where the kind is one.
+    /// The number of the device, where the kind is one, as `rdev` of `FileAttr` has it.
     pub fn rdev(&self) -> u32
         ensures { result ≡ self.now.arguments.rdev }
     {

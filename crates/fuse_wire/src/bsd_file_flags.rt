@@ -3,7 +3,7 @@ ghost use Rattle.std.specs.Prelude.{⊤, []};
 
 use bitflags::{Flag, Flags};
 
-/// The flags that a BSD marks a file with. On Linux no bit has a name.
+/// The flags that a BSD marks a file with. On Linux no bit has a name, and no request carries them.
 #[derive(Clone, Copy, Debug, PartialEq, Eq, Hash)]
 pub struct BsdFileFlags(u32);
 

@@ -48,7 +48,8 @@ pub struct FileAttr {
     pub uid: u32,
     /// The number of the group that owns it.
     pub gid: u32,
-    /// The number of the device that a device file stands for.
+    /// The number of the device that a device file stands for: the minor number in the bits 0 to 7 and 20 to 31, the
+    /// major number in those between (the kernel's `new_encode_dev`).
     pub rdev: u32,
     /// The block size for input and output, in bytes.
     pub blksize: u32,

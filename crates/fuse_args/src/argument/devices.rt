@@ -6,7 +6,7 @@ use crate::{ArgumentIterator, BMapArguments, GetLkArguments, IoCtlArguments, Pol
 use fuse_wire::{i32_at, u32_at, u64_at};
 
 impl<'a> ArgumentIterator<'a> {
-    /// The arguments of GETLK, SETLK and SETLKW, of 48 bytes.
+    /// The arguments of GETLK, SETLK and SETLKW, of 48 bytes. None where fewer bytes are left; nothing is taken then.
     pub fn fetch_getlk(&mut self) -> Option<GetLkArguments>
         ensures { Fetches result self.old self.new (getlk_at self.old) }
     {
@@ -22,7 +22,7 @@ impl<'a> ArgumentIterator<'a> {
         })
     }
 
-    /// The arguments of BMAP, of 16 bytes.
+    /// The arguments of BMAP, of 16 bytes. None where fewer bytes are left; nothing is taken then.
     pub fn fetch_bmap(&mut self) -> Option<BMapArguments>
         ensures { Fetches result self.old self.new (bmap_at self.old) }
     {
@@ -33,7 +33,7 @@ impl<'a> ArgumentIterator<'a> {
         })
     }
 
-    /// The arguments of IOCTL, of 32 bytes.
+    /// The arguments of IOCTL, of 32 bytes. None where fewer bytes are left; nothing is taken then.
     pub fn fetch_ioctl(&mut self) -> Option<IoCtlArguments>
         ensures { Fetches result self.old self.new (ioctl_at self.old) }
     {
@@ -48,7 +48,7 @@ impl<'a> ArgumentIterator<'a> {
         })
     }
 
-    /// The arguments of POLL, of 24 bytes.
+    /// The arguments of POLL, of 24 bytes. None where fewer bytes are left; nothing is taken then.
     pub fn fetch_poll(&mut self) -> Option<PollArguments>
         ensures { Fetches result self.old self.new (poll_at self.old) }
     {

@@ -10,7 +10,7 @@ use crate::{
 use fuse_wire::{i32_at, i64_at, u32_at, u64_at};
 
 impl<'a> ArgumentIterator<'a> {
-    /// The arguments of OPEN and OPENDIR, of 8 bytes.
+    /// The arguments of OPEN and OPENDIR, of 8 bytes. None where fewer bytes are left; nothing is taken then.
     pub fn fetch_open(&mut self) -> Option<OpenArguments>
         ensures { Fetches result self.old self.new (open_at self.old) }
     {
@@ -20,7 +20,7 @@ impl<'a> ArgumentIterator<'a> {
         })
     }
 
-    /// The arguments of CREATE, of 16 bytes.
+    /// The arguments of CREATE, of 16 bytes. None where fewer bytes are left; nothing is taken then.
     pub fn fetch_create(&mut self) -> Option<CreateArguments>
         ensures { Fetches result self.old self.new (create_at self.old) }
     {
@@ -32,7 +32,8 @@ impl<'a> ArgumentIterator<'a> {
         })
     }
 
-    /// The arguments of READ, READDIR and READDIRPLUS, of 40 bytes.
+    /// The arguments of READ, READDIR and READDIRPLUS, of 40 bytes. None where fewer bytes are left; nothing is taken
+    /// then.
     pub fn fetch_read(&mut self) -> Option<ReadArguments>
         ensures { Fetches result self.old self.new (read_at self.old) }
     {
@@ -47,7 +48,7 @@ impl<'a> ArgumentIterator<'a> {
         })
     }
 
-    /// The arguments of WRITE, of 40 bytes.
+    /// The arguments of WRITE, of 40 bytes. None where fewer bytes are left; nothing is taken then.
     pub fn fetch_write(&mut self) -> Option<WriteArguments>
         ensures { Fetches result self.old self.new (write_at self.old) }
     {
@@ -62,7 +63,7 @@ impl<'a> ArgumentIterator<'a> {
         })
     }
 
-    /// The arguments of FLUSH, of 24 bytes.
+    /// The arguments of FLUSH, of 24 bytes. None where fewer bytes are left; nothing is taken then.
     pub fn fetch_flush(&mut self) -> Option<FlushArguments>
         ensures { Fetches result self.old self.new (flush_at self.old) }
     {
@@ -73,7 +74,7 @@ impl<'a> ArgumentIterator<'a> {
         })
     }
 
-    /// The arguments of FSYNC and FSYNCDIR, of 16 bytes.
+    /// The arguments of FSYNC and FSYNCDIR, of 16 bytes. None where fewer bytes are left; nothing is taken then.
     pub fn fetch_fsync(&mut self) -> Option<FSyncArguments>
         ensures { Fetches result self.old self.new (fsync_at self.old) }
     {
@@ -84,7 +85,7 @@ impl<'a> ArgumentIterator<'a> {
         })
     }
 
-    /// The arguments of RELEASE and RELEASEDIR, of 24 bytes.
+    /// The arguments of RELEASE and RELEASEDIR, of 24 bytes. None where fewer bytes are left; nothing is taken then.
     pub fn fetch_release(&mut self) -> Option<ReleaseArguments>
         ensures { Fetches result self.old self.new (release_at self.old) }
     {
@@ -97,7 +98,7 @@ impl<'a> ArgumentIterator<'a> {
         })
     }
 
-    /// The arguments of FALLOCATE, of 32 bytes.
+    /// The arguments of FALLOCATE, of 32 bytes. None where fewer bytes are left; nothing is taken then.
     pub fn fetch_fallocate(&mut self) -> Option<FAllocateArguments>
         ensures { Fetches result self.old self.new (fallocate_at self.old) }
     {
@@ -110,7 +111,7 @@ impl<'a> ArgumentIterator<'a> {
         })
     }
 
-    /// The arguments of LSEEK, of 24 bytes.
+    /// The arguments of LSEEK, of 24 bytes. None where fewer bytes are left; nothing is taken then.
     pub fn fetch_lseek(&mut self) -> Option<LseekArguments>
         ensures { Fetches result self.old self.new (lseek_at self.old) }
     {
@@ -122,7 +123,7 @@ impl<'a> ArgumentIterator<'a> {
         })
     }
 
-    /// The arguments of COPY_FILE_RANGE, of 56 bytes.
+    /// The arguments of COPY_FILE_RANGE, of 56 bytes. None where fewer bytes are left; nothing is taken then.
     pub fn fetch_copy_file_range(&mut self) -> Option<CopyFileRangeArguments>
         ensures { Fetches result self.old self.new (copy_file_range_at self.old) }
     {

@@ -10,7 +10,7 @@ use crate::{
 use fuse_wire::{i32_at, i64_at, u32_at, u64_at};
 
 impl<'a> ArgumentIterator<'a> {
-    /// The arguments of GETATTR, of 16 bytes.
+    /// The arguments of GETATTR, of 16 bytes. None where fewer bytes are left; nothing is taken then.
     pub fn fetch_getattr(&mut self) -> Option<GetAttrArguments>
         ensures { Fetches result self.old self.new (getattr_at self.old) }
     {
@@ -21,7 +21,7 @@ impl<'a> ArgumentIterator<'a> {
         })
     }
 
-    /// The arguments of SETATTR, of 88 bytes.
+    /// The arguments of SETATTR, of 88 bytes. None where fewer bytes are left; nothing is taken then.
     pub fn fetch_setattr(&mut self) -> Option<SetAttrArguments>
         ensures { Fetches result self.old self.new (setattr_at self.old) }
     {
@@ -43,7 +43,7 @@ impl<'a> ArgumentIterator<'a> {
         })
     }
 
-    /// The arguments of MKNOD, of 16 bytes.
+    /// The arguments of MKNOD, of 16 bytes. None where fewer bytes are left; nothing is taken then.
     pub fn fetch_mknod(&mut self) -> Option<MkNodArguments>
         ensures { Fetches result self.old self.new (mknod_at self.old) }
     {
@@ -55,7 +55,7 @@ impl<'a> ArgumentIterator<'a> {
         })
     }
 
-    /// The arguments of MKDIR, of 8 bytes.
+    /// The arguments of MKDIR, of 8 bytes. None where fewer bytes are left; nothing is taken then.
     pub fn fetch_mkdir(&mut self) -> Option<MkDirArguments>
         ensures { Fetches result self.old self.new (mkdir_at self.old) }
     {
@@ -66,7 +66,7 @@ impl<'a> ArgumentIterator<'a> {
         })
     }
 
-    /// The arguments of RENAME2, of 16 bytes.
+    /// The arguments of RENAME2, of 16 bytes. None where fewer bytes are left; nothing is taken then.
     pub fn fetch_rename2(&mut self) -> Option<Rename2Arguments>
         ensures { Fetches result self.old self.new (rename2_at self.old) }
     {
@@ -77,7 +77,7 @@ impl<'a> ArgumentIterator<'a> {
         })
     }
 
-    /// The arguments of ACCESS, of 8 bytes.
+    /// The arguments of ACCESS, of 8 bytes. None where fewer bytes are left; nothing is taken then.
     pub fn fetch_access(&mut self) -> Option<AccessArguments>
         ensures { Fetches result self.old self.new (access_at self.old) }
     {
@@ -87,7 +87,7 @@ impl<'a> ArgumentIterator<'a> {
         })
     }
 
-    /// The arguments of SETXATTR, of 8 bytes.
+    /// The arguments of SETXATTR, of 8 bytes. None where fewer bytes are left; nothing is taken then.
     pub fn fetch_setxattr(&mut self) -> Option<SetXAttrArguments>
         ensures { Fetches result self.old self.new (setxattr_at self.old) }
     {
@@ -98,7 +98,7 @@ impl<'a> ArgumentIterator<'a> {
         })
     }
 
-    /// The arguments of GETXATTR and LISTXATTR, of 8 bytes.
+    /// The arguments of GETXATTR and LISTXATTR, of 8 bytes. None where fewer bytes are left; nothing is taken then.
     pub fn fetch_getxattr(&mut self) -> Option<GetXAttrArguments>
         ensures { Fetches result self.old self.new (getxattr_at self.old) }
     {
@@ -108,7 +108,7 @@ impl<'a> ArgumentIterator<'a> {
         })
     }
 
-    /// The arguments of BATCH_FORGET, of 8 bytes.
+    /// The arguments of BATCH_FORGET, of 8 bytes. None where fewer bytes are left; nothing is taken then.
     pub fn fetch_batch_forget(&mut self) -> Option<BatchForgetArguments>
         ensures { Fetches result self.old self.new (batch_forget_at self.old) }
     {

@@ -9,9 +9,9 @@ pub struct GetLkArguments {
     pub owner: u64,
     /// The first byte of the range.
     pub start: u64,
-    /// The last byte of the range.
+    /// The last byte of the range, `i64::MAX` where the lock has no end.
     pub end: u64,
-    /// The kind of lock: the `l_type` of `fcntl(2)`.
+    /// The kind of lock, the `l_type` of `fcntl(2)`: `F_RDLCK` is 0, `F_WRLCK` 1, `F_UNLCK` 2.
     pub typ: i32,
     /// The process that asks for it, and 0 where a lock is asked about or given back.
     pub pid: u32,

@@ -45,7 +45,7 @@ pub struct SetAttrArguments {
 pub struct MkNodArguments {
     /// The kind and the permissions.
     pub mode: u32,
-    /// The device, where the kind is one.
+    /// The number of the device, where the kind is one, as `rdev` of `FileAttr` has it.
     pub rdev: u32,
     /// The permissions that the caller masks.
     pub umask: u32,

@@ -105,7 +105,7 @@ impl InitFlags {
     /// INIT has the longer form of `struct fuse_init_in`, with `flags2`.
     pub const FUSE_INIT_EXT: InitFlags = InitFlags(1 << 30);
 
-    /// Reserved.
+    /// Reserved: `fuse.h` gives it no meaning, and it is not to be used.
     pub const FUSE_INIT_RESERVED: InitFlags = InitFlags(1 << 31);
 
     /// The calls that make a file carry its security context.
@@ -132,13 +132,14 @@ impl InitFlags {
     /// The kernel can send again the requests that wait, with the highest bit of their number set.
     pub const FUSE_HAS_RESEND: InitFlags = InitFlags(1 << 39);
 
-    /// A mount may map the numbers of users and groups.
+    /// A mount may map the numbers of users and groups. The flag is of a version after 7.40.
     pub const FUSE_ALLOW_IDMAP: InitFlags = InitFlags(1 << 40);
 
-    /// Requests may come over `io_uring`.
+    /// Requests may come over `io_uring`. The flag is of a version after 7.40.
     pub const FUSE_OVER_IO_URING: InitFlags = InitFlags(1 << 41);
 
-    /// Requests may time out, by the seconds of `request_timeout` in `struct fuse_init_out`.
+    /// Requests may time out, by the seconds of `request_timeout` in `struct fuse_init_out`. The flag is of a version
+    /// after 7.40.
     pub const FUSE_REQUEST_TIMEOUT: InitFlags = InitFlags(1 << 42);
 
     /// The bits as the protocol has them: `flags` with those below 32, and `flags2` with the others.
