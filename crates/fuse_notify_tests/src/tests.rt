@@ -15,11 +15,20 @@ use std::process::Abort;
 use std::sync::{Arc, Wait};
 use std::thread;
 
-const INODE: INodeNo = INodeNo(0x42);
+const INODE: INodeNo = INodeNo(0x9182_8384_8586_8788);
 
-const CHILD: INodeNo = INodeNo(0x43);
+const CHILD: INodeNo = INodeNo(0xa1a2_a3a4_a5a6_a7a8);
 
-const HANDLE: PollHandle = PollHandle(0x4321);
+const HANDLE: PollHandle = PollHandle(0x8877_6655_4433_2211);
+
+/// Where a range of a file begins that is to be dropped: 0xf1f2_f3f4_f5f6_f7f8 with its sign.
+const FROM: i64 = -0x0e0d_0c0b_0a09_0808;
+
+/// How long it is.
+const LENGTH: i64 = 0x7172_7374_7576_7778;
+
+/// Where bytes are to be kept.
+const OFFSET: u64 = 0xb1b2_b3b4_b5b6_b7b8;
 
 /// What the kernel is told unasked.
 enum News {
@@ -46,35 +55,35 @@ const EACH: &[(News, Result<(), Undelivered>)] = &[
 
 const POLL: &[u8] = &[
     0x18, 0, 0, 0, 1, 0, 0, 0, 0, 0, 0, 0, 0, 0, 0, 0, // header
-    0x21, 0x43, 0, 0, 0, 0, 0, 0, // kh
+    0x11, 0x22, 0x33, 0x44, 0x55, 0x66, 0x77, 0x88, // kh
 ];
 
 const INVAL_INODE: &[u8] = &[
     0x28, 0, 0, 0, 2, 0, 0, 0, 0, 0, 0, 0, 0, 0, 0, 0, // header
-    0x42, 0, 0, 0, 0, 0, 0, 0, // ino
-    0xfe, 0xff, 0xff, 0xff, 0xff, 0xff, 0xff, 0xff, // off
-    0x10, 0x27, 0, 0, 0, 0, 0, 0, // len
+    0x88, 0x87, 0x86, 0x85, 0x84, 0x83, 0x82, 0x91, // ino
+    0xf8, 0xf7, 0xf6, 0xf5, 0xf4, 0xf3, 0xf2, 0xf1, // off
+    0x78, 0x77, 0x76, 0x75, 0x74, 0x73, 0x72, 0x71, // len
 ];
 
 const INVAL_ENTRY: &[u8] = &[
     0x24, 0, 0, 0, 3, 0, 0, 0, 0, 0, 0, 0, 0, 0, 0, 0, // header
-    0x42, 0, 0, 0, 0, 0, 0, 0, // parent
+    0x88, 0x87, 0x86, 0x85, 0x84, 0x83, 0x82, 0x91, // parent
     3, 0, 0, 0, 0, 0, 0, 0, // namelen
     0x61, 0x62, 0x63, 0, // name
 ];
 
 const STORE: &[u8] = &[
     0x2c, 0, 0, 0, 4, 0, 0, 0, 0, 0, 0, 0, 0, 0, 0, 0, // header
-    0x42, 0, 0, 0, 0, 0, 0, 0, // nodeid
-    0x32, 0, 0, 0, 0, 0, 0, 0, // offset
+    0x88, 0x87, 0x86, 0x85, 0x84, 0x83, 0x82, 0x91, // nodeid
+    0xb8, 0xb7, 0xb6, 0xb5, 0xb4, 0xb3, 0xb2, 0xb1, // offset
     4, 0, 0, 0, 0, 0, 0, 0, // size
     0xde, 0xad, 0xbe, 0xef,
 ];
 
 const DELETE: &[u8] = &[
     0x2c, 0, 0, 0, 6, 0, 0, 0, 0, 0, 0, 0, 0, 0, 0, 0, // header
-    0x42, 0, 0, 0, 0, 0, 0, 0, // parent
-    0x43, 0, 0, 0, 0, 0, 0, 0, // child
+    0x88, 0x87, 0x86, 0x85, 0x84, 0x83, 0x82, 0x91, // parent
+    0xa8, 0xa7, 0xa6, 0xa5, 0xa4, 0xa3, 0xa2, 0xa1, // child
     3, 0, 0, 0, 0, 0, 0, 0, // namelen
     0x61, 0x62, 0x63, 0, // name
 ];
@@ -95,9 +104,9 @@ const FRAMES: Frames = &[
 fn notice(alloc: Global, news: &News) -> Result<Notice, NoticeError> {
     match news {
         News::Poll => Ok(Notice::poll(alloc, HANDLE)),
-        News::InvalInode => Ok(Notice::inval_inode(alloc, INODE, -2, 10000)),
+        News::InvalInode => Ok(Notice::inval_inode(alloc, INODE, FROM, LENGTH)),
         News::InvalEntry(name) => Notice::inval_entry(alloc, INODE, name),
-        News::Store(bytes) => Notice::store(alloc, INODE, 50, bytes),
+        News::Store(bytes) => Notice::store(alloc, INODE, OFFSET, bytes),
         News::Delete(name) => Notice::delete(alloc, INODE, CHILD, name),
     }
 }
@@ -222,9 +231,9 @@ fn notify<R: Wait + AllocGlobal>(
 ) -> Result<(), NotifyError> {
     match news {
         News::Poll => notifier.poll(rt, HANDLE),
-        News::InvalInode => notifier.inval_inode(rt, INODE, -2, 10000),
+        News::InvalInode => notifier.inval_inode(rt, INODE, FROM, LENGTH),
         News::InvalEntry(name) => notifier.inval_entry(rt, INODE, name),
-        News::Store(bytes) => notifier.store(rt, INODE, 50, bytes),
+        News::Store(bytes) => notifier.store(rt, INODE, OFFSET, bytes),
         News::Delete(name) => notifier.delete(rt, INODE, CHILD, name),
     }
 }
@@ -237,6 +246,8 @@ enum Step {
     Drain(Frames),
     /// A poll finds the line full, comes back, and is told once.
     Poll,
+    /// The three notices that take bytes are queued with so many, and are these.
+    Carry(usize, Frames),
 }
 
 /// Makes the notice of this, and queues it, with this answer.
@@ -276,6 +287,40 @@ fn expect_told_once<R: Wait + Abort + AllocGlobal>(
     expect_drained(rt, line, first, &[(24, POLL)]);
 }
 
+/// So many bytes.
+fn many(rt: &impl Abort, alloc: Global, count: usize) -> Vec<u8> {
+    vec![in alloc; 0x61; count].expect(rt, "there is memory")
+}
+
+/// The notices of these bytes find memory, and are queued.
+fn expect_queued<R: Wait + Abort + AllocGlobal>(rt: &R, notifier: &mut Notifier, bytes: &[u8]) {
+    let found = (
+        notifier.inval_entry(rt, INODE, bytes),
+        notifier.store(rt, INODE, OFFSET, bytes),
+        notifier.delete(rt, INODE, CHILD, bytes),
+    );
+    expect_same(rt, &found, &(Ok(()), Ok(()), Ok(())));
+}
+
+/// The three notices of so many bytes find memory, and their frames are these.
+fn expect_carried<R: Wait + Abort + AllocGlobal>(
+    rt: &R,
+    line: &Line<Parcel>,
+    first: &mut Pass<Parcel>,
+    notifier: &mut Notifier,
+    count: usize,
+    frames: Frames,
+)
+    requires line { first.old.line ≡ line.now }
+    requires kind { first.old.hand.kind ≡ First }
+    ensures line { first.new.line ≡ line.now }
+    ensures kind { first.new.hand.kind ≡ First }
+{
+    let bytes = many(rt, rt.alloc(), count);
+    expect_queued(rt, notifier, &bytes);
+    expect_drained(rt, line, first, frames);
+}
+
 /// Takes a step, which goes as it says.
 fn take<R: Wait + Abort + AllocGlobal>(
     rt: &R,
@@ -293,6 +338,7 @@ fn take<R: Wait + Abort + AllocGlobal>(
         Step::Notify(news, answer) => expect_notified(rt, notifier, news, *answer),
         Step::Drain(frames) => expect_drained(rt, line, first, frames),
         Step::Poll => expect_told_once(rt, line, first, notifier),
+        Step::Carry(count, frames) => expect_carried(rt, line, first, notifier, *count, frames),
     }
 }
 
@@ -329,27 +375,54 @@ const REFUSED: &[Step] = &[
     Step::Drain(&[(40, INVAL_INODE)]),
 ];
 
-/// How long the frames of an entry, of data and of a name that is gone are, each of one byte more than 16 mebibytes.
-const LONG_FRAMES: Frames = &[
-    (16 + 17 + 16_777_217, &[]),
-    (16 + 24 + 16_777_217, &[]),
-    (16 + 25 + 16_777_217, &[]),
+/// What frames with 0x0102_0304 bytes begin with: that of an entry, of data, and of a name that is gone.
+const LONG_ENTRY: &[u8] = &[
+    0x25, 3, 2, 1, 3, 0, 0, 0, 0, 0, 0, 0, 0, 0, 0, 0, // header
+    0x88, 0x87, 0x86, 0x85, 0x84, 0x83, 0x82, 0x91, // parent
+    4, 3, 2, 1, 0, 0, 0, 0, // namelen
+    0x61, // name
 ];
 
-/// So many bytes.
-fn many(rt: &impl Abort, alloc: Global, count: usize) -> Vec<u8> {
-    vec![in alloc; 0x61; count].expect(rt, "there is memory")
-}
+const LONG_STORE: &[u8] = &[
+    0x2c, 3, 2, 1, 4, 0, 0, 0, 0, 0, 0, 0, 0, 0, 0, 0, // header
+    0x88, 0x87, 0x86, 0x85, 0x84, 0x83, 0x82, 0x91, // nodeid
+    0xb8, 0xb7, 0xb6, 0xb5, 0xb4, 0xb3, 0xb2, 0xb1, // offset
+    4, 3, 2, 1, 0, 0, 0, 0, // size
+    0x61,
+];
 
-/// The notices of these bytes find memory, and are queued.
-fn expect_queued<R: Wait + Abort + AllocGlobal>(rt: &R, notifier: &mut Notifier, bytes: &[u8]) {
-    let found = (
-        notifier.inval_entry(rt, INODE, bytes),
-        notifier.store(rt, INODE, 50, bytes),
-        notifier.delete(rt, INODE, CHILD, bytes),
-    );
-    expect_same(rt, &found, &(Ok(()), Ok(()), Ok(())));
-}
+const LONG_DELETE: &[u8] = &[
+    0x2d, 3, 2, 1, 6, 0, 0, 0, 0, 0, 0, 0, 0, 0, 0, 0, // header
+    0x88, 0x87, 0x86, 0x85, 0x84, 0x83, 0x82, 0x91, // parent
+    0xa8, 0xa7, 0xa6, 0xa5, 0xa4, 0xa3, 0xa2, 0xa1, // child
+    4, 3, 2, 1, 0, 0, 0, 0, // namelen
+    0x61, // name
+];
+
+/// Bytes of lengths about 144 with what stands in front of them and behind, and of longer ones.
+const LONG: &[Step] = &[
+    Step::Carry(119, &[(152, &[]), (159, &[]), (160, &[])]),
+    Step::Carry(120, &[(153, &[]), (160, &[]), (161, &[])]),
+    Step::Carry(121, &[(154, &[]), (161, &[]), (162, &[])]),
+    Step::Carry(122, &[(155, &[]), (162, &[]), (163, &[])]),
+    Step::Carry(123, &[(156, &[]), (163, &[]), (164, &[])]),
+    Step::Carry(124, &[(157, &[]), (164, &[]), (165, &[])]),
+    Step::Carry(125, &[(158, &[]), (165, &[]), (166, &[])]),
+    Step::Carry(126, &[(159, &[]), (166, &[]), (167, &[])]),
+    Step::Carry(127, &[(160, &[]), (167, &[]), (168, &[])]),
+    Step::Carry(128, &[(161, &[]), (168, &[]), (169, &[])]),
+    Step::Carry(129, &[(162, &[]), (169, &[]), (170, &[])]),
+    Step::Carry(1000, &[(1033, &[]), (1040, &[]), (1041, &[])]),
+    Step::Carry(65_536, &[(65_569, &[]), (65_576, &[]), (65_577, &[])]),
+    Step::Carry(
+        0x0102_0304,
+        &[
+            (0x0102_0325, LONG_ENTRY),
+            (0x0102_032c, LONG_STORE),
+            (0x0102_032d, LONG_DELETE),
+        ],
+    ),
+];
 
 #[test]
 fn a_line_takes_notices_while_it_has_room(rt: HostRuntime) {
@@ -363,10 +436,7 @@ fn a_line_takes_notices_while_it_has_room(rt: HostRuntime) {
 
 #[test]
 fn long_notices_find_memory_where_there_is_some(rt: HostRuntime) {
-    let (line, mut first, mut notifier) = line_of(&rt, rt.alloc(), 4);
-    let bytes = many(&rt, rt.alloc(), 16_777_217);
-    expect_queued(&rt, &mut notifier, &bytes);
-    expect_drained(&rt, &line, &mut first, LONG_FRAMES);
+    take_all(&rt, 4, LONG);
 }
 
 #[test]
