@@ -1,13 +1,8 @@
 // What is fetched from bodies of several lengths: INIT as kernels of several ages send it, names, and rows.
 use crate::asserts::{expect, expect_same, expect_same_in};
+use crate::part_tests::BYTES;
 use fuse_args::ArgumentIterator;
-
-/// What a new kernel sends: an older one sends fewer of these bytes.
-const BYTES: [u8; 64] = [
-    7, 0, 0, 0, 40, 0, 0, 0, 0, 16, 0, 0, 1, 0, 0, 0x40, 2, 1, 3, 4, 5, 6, 7, 8, 0, 0, 0, 0, 0, 0,
-    0, 0, 0, 0, 0, 0, 0, 0, 0, 0, 0, 0, 0, 0, 0, 0, 0, 0, 0, 0, 0, 0, 0, 0, 0, 0, 0, 0, 0, 0, 0, 0,
-    0, 0,
-];
+use std::process::Abort;
 
 /// The fields of INIT: the version, the readahead, and the two words of capabilities.
 fn fetched_init(arguments: &mut ArgumentIterator<'_>) -> Option<[u32; 5]> {
@@ -21,13 +16,34 @@ fn fetched_init(arguments: &mut ArgumentIterator<'_>) -> Option<[u32; 5]> {
     ])
 }
 
+/// How many bytes of INIT are there, its second word of capabilities, and how many bytes are left.
+const INITS: &[(usize, u32, usize)] = &[
+    (16, 0, 0),
+    (18, 0x4505, 0),
+    (19, 0x65_4505, 0),
+    (20, 0x8565_4505, 0),
+    (63, 0x8565_4505, 0),
+    (64, 0x8565_4505, 0),
+    (67, 0x8565_4505, 3),
+];
+
+/// What INIT has of so many bytes.
+fn expect_init(rt: &impl Abort, length: usize, flags2: u32, left: usize) {
+    let mut arguments = ArgumentIterator::new(BYTES.get(..length).unwrap_or(&[]));
+    let found = fetched_init(&mut arguments);
+    let expected = [0x8161_4101, 0x8262_4202, 0x8363_4303, 0x8464_4404, flags2];
+    expect_same_in(
+        rt,
+        &length,
+        &(found, arguments.len()),
+        &(Some(expected), left),
+    );
+}
+
 #[test]
 fn fetches_init_of_each_length(rt: HostRuntime) {
-    for (length, flags2) in [(16, 0), (18, 0x102), (64, 0x0403_0102)] {
-        let mut arguments = ArgumentIterator::new(BYTES.get(..length).unwrap_or(&[]));
-        let expected = Some([7, 40, 4096, 0x4000_0001, flags2]);
-        expect_same_in(&rt, &length, &fetched_init(&mut arguments), &expected);
-        expect_same_in(&rt, &length, &arguments.len(), &0);
+    for (length, flags2, left) in INITS {
+        expect_init(&rt, *length, *flags2, *left);
     }
     let mut arguments = ArgumentIterator::new(BYTES.get(..15).unwrap_or(&[]));
     expect_same(&rt, &fetched_init(&mut arguments), &None);
