@@ -258,7 +258,7 @@ fn reads_texts_that_nobody_wrote(rt: HostRuntime) {
 /// So long a text is read behind this front, as an option of this kind, which has what stands behind so many bytes.
 fn expect_long(rt: &impl Abort, alloc: Global, front: &str, kind: char, skipped: usize) {
     let mut text = "lowerdir=/a:"
-        .repeat(alloc, 400)
+        .repeat(alloc, 8_400)
         .expect(rt, "there is memory");
     text.insert_str(0, front).expect(rt, "there is memory");
     expect_read(rt, alloc, &text, (kind, text.get(skipped..).unwrap_or("")));

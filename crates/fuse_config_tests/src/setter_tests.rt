@@ -63,6 +63,17 @@ const THRESHOLDS: &[Step] = &[
     Step::Threshold(3, Ok(1)),
 ];
 
+// What the threshold was before it was set: three quarters of the background, rounded down.
+
+const THRESHOLD_OF_ONE: &[Step] = &[Step::MaxBackground(1, Ok(16)), Step::Threshold(9, Ok(0))];
+
+const THRESHOLD_OF_THREE: &[Step] = &[Step::MaxBackground(3, Ok(16)), Step::Threshold(9, Ok(2))];
+
+const THRESHOLD_OF_MOST: &[Step] = &[
+    Step::MaxBackground(u16::MAX, Ok(16)),
+    Step::Threshold(9, Ok(49151)),
+];
+
 const GRANULARITIES: &[Step] = &[
     Step::Granularity(10, Ok(1)),
     Step::Granularity(0, Err(1)),
@@ -96,6 +107,9 @@ const SETTINGS: &[(u64, u32, &[Step])] = &[
     (0, 0, NO_READAHEADS),
     (0, 131072, BACKGROUNDS),
     (0, 131072, THRESHOLDS),
+    (0, 131072, THRESHOLD_OF_ONE),
+    (0, 131072, THRESHOLD_OF_THREE),
+    (0, 131072, THRESHOLD_OF_MOST),
     (0, 131072, GRANULARITIES),
     (1 << 3 | 1 << 49, 131072, CAPABILITIES),
 ];
