@@ -2,33 +2,18 @@
 use Rattle.std.specs.Prelude.{ℕ, ◌+◌, ◌-◌, ◌*◌, ◌/◌, ◌%◌, ◌^◌, ◌++◌, ◌==◌, List, Option, None, Some, min, max, take, nat_lt, if◌then◌else◌, replicate}
 use Rattle.std.specs.Int.{w16, w32, to_le_bytes}
 use Rattle.std.specs.Int.RustNames.{bit_and, bit_or}
-use Rattle.fuse_wire.specs.declared.consts.TheConstants.{FUSE_KERNEL_VERSION, FUSE_KERNEL_MINOR_VERSION}
+use Rattle.fuse_wire.specs.declared.consts.TheConstants.{FUSE_KERNEL_VERSION, FUSE_KERNEL_MINOR_VERSION, MAX_WRITE_SIZE}
+use Rattle.fuse_wire.specs.Flags.{FUSE_ASYNC_READ, FUSE_BIG_WRITES, FUSE_INIT_EXT, FUSE_MAX_PAGES, FUSE_PASSTHROUGH}
 use Rattle.fuse_wire.specs.declared.newtypes.Version.{Version}
 use Rattle.fuse_config.specs.Values.{Configuration}
 
--- capabilities by their bits
-abbrev pub async_read : ℕ
-async_read = 2 ^ 0
+-- all capabilities that have a name: the bits 0 to 42
+abbrev pub known : ℕ
+known = 2 ^ 43 - 1
 
-abbrev pub big_writes : ℕ
-big_writes = 2 ^ 5
-
-abbrev pub max_pages_bit : ℕ
-max_pages_bit = 2 ^ 22
-
-abbrev pub init_ext : ℕ
-init_ext = 2 ^ 30
-
-abbrev pub passthrough : ℕ
-passthrough = 2 ^ 37
-
--- the bits 0 to 42 but for INIT_EXT
+-- those that a filesystem is told: INIT_EXT says only that there are more than 32
 abbrev pub known_without_ext : ℕ
-known_without_ext = 2 ^ 43 - 1 - init_ext
-
--- the most bytes that a WRITE may carry
-abbrev pub largest_write : ℕ
-largest_write = 16777216
+known_without_ext = known - FUSE_INIT_EXT
 
 -- before the filesystem has its say
 abbrev pub start : ℕ → ℕ → Version → Configuration
@@ -36,18 +21,18 @@ start offered readahead version = record {
   offered = offered;
   kernel_abi = version;
   kernel_readahead = readahead;
-  requested = bit_or (bit_or async_read big_writes) (bit_and offered max_pages_bit);
+  requested = bit_or (bit_or FUSE_ASYNC_READ FUSE_BIG_WRITES) (bit_and offered FUSE_MAX_PAGES);
   max_readahead = readahead;
   max_background = 16;
   congestion_threshold = None;
-  max_write = largest_write;
+  max_write = MAX_WRITE_SIZE;
   time_granularity = 1;
   max_stack_depth = 0;
 }
 
 -- what is granted: what was requested, and INIT_EXT, as far as it was offered
 abbrev pub granted_of : Configuration → ℕ → ℕ
-granted_of config offered = bit_and (bit_or config.requested init_ext) offered
+granted_of config offered = bit_and (bit_or config.requested FUSE_INIT_EXT) offered
 
 -- the congestion threshold: the one that was set, or three quarters of max_background, and never above max_background
 abbrev pub least_threshold : Option ℕ → ℕ → ℕ
@@ -61,9 +46,9 @@ threshold_of config = least_threshold config.congestion_threshold config.max_bac
 abbrev pub max_pages_of : Configuration → ℕ → ℕ
 max_pages_of config page = min 65535 ((max config.max_write config.max_readahead - 1) / page + 1)
 
--- the stack depth counts where PASSTHROUGH is granted
+-- the stack depth, which is sent where PASSTHROUGH is granted
 abbrev pub depth_of : Configuration → ℕ → ℕ
-depth_of config offered = if bit_and (granted_of config offered) passthrough == passthrough then config.max_stack_depth else 0
+depth_of config offered = if bit_and (granted_of config offered) FUSE_PASSTHROUGH == FUSE_PASSTHROUGH then config.max_stack_depth else 0
 
 -- major4 minor4 max_readahead4 flags4 max_background2 congestion_threshold2 max_write4 time_gran4 max_pages2 _2 flags2 4 max_stack_depth4 _24
 abbrev pub init_layout : (max_readahead flags max_background threshold max_write time_gran max_pages flags2 depth : ℕ) → List ℕ

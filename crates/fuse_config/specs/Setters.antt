@@ -3,9 +3,11 @@
 -- the power of ten below.
 use Rattle.std.specs.Prelude.{ℕ, zero, suc, ◌-◌, ◌^◌, ◌==◌, Some, Result, Ok, Err, nat_lt, if◌then◌else◌}
 use Rattle.std.specs.Int.RustNames.{bit_and, bit_or}
+use Rattle.fuse_wire.specs.Times.{nanos_per_second}
+use Rattle.fuse_wire.specs.declared.consts.TheConstants.{MAX_WRITE_SIZE}
 use Rattle.fuse_wire.specs.declared.flags.init_flags.InitFlags.{InitFlags}
 use Rattle.fuse_config.specs.Values.{Configuration}
-use Rattle.fuse_config.specs.Configuration.{threshold_of, largest_write}
+use Rattle.fuse_config.specs.Configuration.{known, threshold_of}
 
 -- how many filesystems may be stacked (`FILESYSTEM_MAX_STACK_DEPTH` of the kernel's `fs.h`)
 abbrev pub deepest_stack : ℕ
@@ -19,7 +21,7 @@ set_max_stack_depth depth config =
 abbrev pub set_max_write : ℕ → Configuration → Configuration × Result ℕ ℕ
 set_max_write bytes config =
     if bytes == 0 then (config, Err 1)
-    else if nat_lt largest_write bytes then (config, Err largest_write)
+    else if nat_lt MAX_WRITE_SIZE bytes then (config, Err MAX_WRITE_SIZE)
     else (record config { max_write = bytes }, Ok config.max_write)
 
 -- 0 is refused with 1, even where the kernel's own readahead is 0
@@ -40,10 +42,6 @@ set_congestion_threshold requests config =
     if requests == 0 then (config, Err 1)
     else (record config { congestion_threshold = Some requests }, Ok (threshold_of config))
 
--- a second, in nanoseconds
-abbrev pub second : ℕ
-second = 1000000000
-
 -- the greatest power of ten that is at most n, of those up to 10^most; 1 where n is 0
 unfoldable pub power_up_to : (most n : ℕ) → ℕ
 power_up_to zero n = 1
@@ -57,13 +55,9 @@ power_of_ten_below n = power_up_to 9 n
 abbrev pub set_time_granularity : ℕ → Configuration → Configuration × Result ℕ ℕ
 set_time_granularity nanos config =
     if nanos == 0 then (config, Err 1)
-    else if nat_lt second nanos then (config, Err second)
+    else if nat_lt nanos_per_second nanos then (config, Err nanos_per_second)
     else if nanos == power_of_ten_below nanos then (record config { time_granularity = nanos }, Ok config.time_granularity)
     else (config, Err (power_of_ten_below nanos))
-
--- all bits that have a name: 0 to 42
-abbrev pub known : ℕ
-known = 2 ^ 43 - 1
 
 -- the known bits that were not offered
 abbrev pub known_not_offered : ℕ → ℕ

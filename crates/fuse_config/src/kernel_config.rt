@@ -6,6 +6,7 @@ ghost use Rattle.fuse_config.specs.Setters.{add_capabilities, known_not_offered,
 ghost use Rattle.fuse_config.specs.Setters.{set_congestion_threshold, set_max_background, set_max_readahead};
 ghost use Rattle.fuse_config.specs.Setters.{set_max_stack_depth, set_max_write, set_time_granularity};
 ghost use Rattle.fuse_config.specs.Configuration.{init_layout, init_payload, init_payload_length, version_payload};
+ghost use Rattle.fuse_wire.specs.Times.{nanos_per_second};
 
 use bitflags::Flags;
 use fuse_wire::consts::{FUSE_KERNEL_MINOR_VERSION, FUSE_KERNEL_VERSION, MAX_WRITE_SIZE};
@@ -55,6 +56,7 @@ pub struct KernelConfig {
 impl Model for KernelConfig {
     ghost use Rattle.std.specs.Prelude.{◌≤◌};
     ghost use Rattle.fuse_config.specs.Values.{Configuration};
+    ghost use Rattle.fuse_wire.specs.Times.{nanos_per_second};
 
     ghost Value = { Configuration };
 
@@ -71,7 +73,7 @@ impl Model for KernelConfig {
       max_stack_depth = c.max_stack_depth;
     } };
 
-    ghost invariant = { λ c. c.time_granularity ≤ 1000000000 };
+    ghost invariant = { λ c. c.time_granularity ≤ nanos_per_second };
 }
 
 impl KernelConfig {
@@ -300,7 +302,7 @@ fn known_beside(offered: InitFlags) -> InitFlags
 /// The greatest power of ten that is at most this number, which is at most 10^9.
 fn power_of_ten_below(number: u32) -> u32
     requires least { 0 < number }
-    requires most { number ≤ 1000000000 }
+    requires most { number ≤ nanos_per_second }
     ensures value { result ≡ power_of_ten_below number }
     ensures below { result ≤ number }
 {

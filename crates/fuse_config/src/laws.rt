@@ -5,7 +5,8 @@ ghost use Rattle.std.specs.Int.RustNames.{bit_and};
 ghost use Rattle.fuse_wire.specs.Numbered.{SaysSame};
 ghost use Rattle.fuse_config.specs.Values.{Configuration};
 ghost use Rattle.fuse_config.specs.Configuration.{granted_of, threshold_of};
-ghost use Rattle.fuse_config.specs.Setters.{power_of_ten_below, second};
+ghost use Rattle.fuse_config.specs.Setters.{power_of_ten_below};
+ghost use Rattle.fuse_wire.specs.Times.{nanos_per_second};
 ghost use Rattle.fuse_config.specs.Options.{conflict_of, is_read_back, option_of, text_of};
 ghost use Rattle.fuse_config.specs.Conflicts.{FirstConflict};
 ghost use Rattle.fuse_config.specs.declared.conflict.Conflict.{Conflict};
@@ -63,6 +64,6 @@ pub fn one_conflict_is_named()
 
 /// The granularity that a refused one is answered with is the greatest power of ten below it.
 pub fn the_power_below_is_the_greatest()
-    ensures { (nanos : ℕ) → 0 < nanos → nanos ≤ second → (exponent : ℕ) ×
+    ensures { (nanos : ℕ) → 0 < nanos → nanos ≤ nanos_per_second → (exponent : ℕ) ×
         (power_of_ten_below nanos ≡ 10 ^ exponent) × (10 ^ exponent ≤ nanos) × (nanos < 10 * 10 ^ exponent) }
 {}

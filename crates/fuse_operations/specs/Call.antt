@@ -5,7 +5,7 @@ use Rattle.fuse_wire.specs.declared.newtypes.FileHandle.{FileHandle}
 use Rattle.fuse_wire.specs.declared.newtypes.LockOwner.{LockOwner}
 use Rattle.fuse_wire.specs.declared.time.SystemTime.{SystemTime}
 use Rattle.fuse_wire.specs.declared.time.TimeOrNow.{TimeOrNow}
-use Rattle.fuse_operations.specs.Fields.{contents_alone, fh_of, flushes, lock_owner_of, releaser_of, writer_of}
+use Rattle.fuse_operations.specs.Fields.{contents_alone, getattr_handle, flushes, read_lock_owner, release_lock_owner, write_lock_owner}
 use Rattle.fuse_operations.specs.Forgets.{rows_in}
 use Rattle.fuse_operations.specs.Operation.{Op}
 use Rattle.fuse_operations.specs.SetAttr.{atime_of, ctime_of, file_of, gid_of, mode_of, mtime_of, size_of, uid_of}
@@ -70,7 +70,7 @@ unsigned = cast_unsigned w64
 abbrev pub call : ℕ → Op → Option Call
 call node (Op.Lookup name) = Some (Lookup node name)
 call node (Op.Forget nlookup) = Some (Forget node nlookup)
-call node (Op.GetAttr a) = Some (GetAttr node (fh_of a))
+call node (Op.GetAttr a) = Some (GetAttr node (getattr_handle a))
 call node (Op.SetAttr a) =
     Some (SetAttr node (mode_of a) (uid_of a) (gid_of a) (size_of a) (atime_of a) (mtime_of a) (ctime_of a) (file_of a)
     None None None None)
@@ -83,10 +83,10 @@ call node (Op.RmDir name) = Some (RmDir node name)
 call node (Op.Rename newdir old_name new_name) = Some (Rename node old_name newdir new_name 0)
 call node (Op.Link oldnodeid new_name) = Some (Link oldnodeid node new_name)
 call node (Op.Open a) = Some (Open node a.flags)
-call node (Op.Read a) = Some (Read node a.fh a.offset a.size a.flags (lock_owner_of a))
-call node (Op.Write a written) = Some (Write node a.fh (unsigned a.offset) written a.write_flags a.flags (writer_of a))
+call node (Op.Read a) = Some (Read node a.fh a.offset a.size a.flags (read_lock_owner a))
+call node (Op.Write a written) = Some (Write node a.fh (unsigned a.offset) written a.write_flags a.flags (write_lock_owner a))
 call node Op.StatFs = Some (StatFs node)
-call node (Op.Release a) = Some (Release node a.fh a.flags (releaser_of a) (flushes a))
+call node (Op.Release a) = Some (Release node a.fh a.flags (release_lock_owner a) (flushes a))
 call node (Op.FSync a) = Some (FSync node a.fh (contents_alone a))
 call node (Op.SetXAttr a name value) = Some (SetXAttr node name value a.flags 0)
 call node (Op.GetXAttr a name) = Some (GetXAttr node name a.size)

@@ -11,60 +11,37 @@ use Rattle.fuse_args.specs.declared.fixed.files.ReleaseArguments.{ReleaseArgumen
 use Rattle.fuse_args.specs.declared.fixed.files.WriteArguments.{WriteArguments}
 use Rattle.fuse_args.specs.declared.fixed.nodes.GetAttrArguments.{GetAttrArguments}
 use Rattle.fuse_wire.specs.declared.newtypes.INodeNo.{INodeNo}
+use Rattle.fuse_wire.specs.ErrorNumbers.{EINVAL}
+use Rattle.fuse_wire.specs.Flags.{FUSE_FSYNC_FDATASYNC, FUSE_GETATTR_FH, FUSE_IOCTL_UNRESTRICTED, FUSE_READ_LOCKOWNER}
+use Rattle.fuse_wire.specs.Flags.{FUSE_RELEASE_FLOCK_UNLOCK, FUSE_RELEASE_FLUSH, FUSE_WRITE_LOCKOWNER}
 use Rattle.fuse_operations.specs.declared.locks.Lock.{Lock}
 use Rattle.fuse_operations.specs.declared.file_ranges.CopyFileRangeFile.{CopyFileRangeFile}
 use Rattle.fuse_operations.specs.declared.xattrs.GetXAttrSizeEnum.{GetXAttrSizeEnum}
 use Rattle.fuse_operations.specs.declared.xattrs.GetXAttrSizeEnum.TheVariants.{GetSize, Size}
 
--- flags of `fuse.h`
-abbrev pub FUSE_GETATTR_FH : ℕ
-FUSE_GETATTR_FH = 2 ^ 0
-
-abbrev pub FUSE_READ_LOCKOWNER : ℕ
-FUSE_READ_LOCKOWNER = 2 ^ 1
-
-abbrev pub FUSE_WRITE_LOCKOWNER : ℕ
-FUSE_WRITE_LOCKOWNER = 2 ^ 1
-
-abbrev pub FUSE_RELEASE_FLUSH : ℕ
-FUSE_RELEASE_FLUSH = 2 ^ 0
-
-abbrev pub FUSE_RELEASE_FLOCK_UNLOCK : ℕ
-FUSE_RELEASE_FLOCK_UNLOCK = 2 ^ 1
-
-abbrev pub FUSE_FSYNC_FDATASYNC : ℕ
-FUSE_FSYNC_FDATASYNC = 2 ^ 0
-
-abbrev pub FUSE_IOCTL_UNRESTRICTED : ℕ
-FUSE_IOCTL_UNRESTRICTED = 2 ^ 1
-
--- an invalid argument: the error of Linux
-abbrev pub EINVAL : ℕ
-EINVAL = 22
-
 -- whether flags have this one
 abbrev pub has_flag : (flag flags : ℕ) → Bool
 has_flag flag flags = bit_and flags flag == flag
 
--- a field that counts where flags have this one
+-- a field that is valid where flags have this one
 abbrev pub where_flag : {X : Type 0} → (flag flags : ℕ) → X → Option X
 where_flag flag flags field = if has_flag flag flags then Some field else None
 
 -- the open file of GETATTR
-abbrev pub fh_of : GetAttrArguments → Option ℕ
-fh_of arguments = where_flag FUSE_GETATTR_FH arguments.getattr_flags arguments.fh
+abbrev pub getattr_handle : GetAttrArguments → Option ℕ
+getattr_handle arguments = where_flag FUSE_GETATTR_FH arguments.getattr_flags arguments.fh
 
 -- the owner of locks of READ
-abbrev pub lock_owner_of : ReadArguments → Option ℕ
-lock_owner_of arguments = where_flag FUSE_READ_LOCKOWNER arguments.read_flags arguments.lock_owner
+abbrev pub read_lock_owner : ReadArguments → Option ℕ
+read_lock_owner arguments = where_flag FUSE_READ_LOCKOWNER arguments.read_flags arguments.lock_owner
 
 -- the owner of locks of WRITE
-abbrev pub writer_of : WriteArguments → Option ℕ
-writer_of arguments = where_flag FUSE_WRITE_LOCKOWNER arguments.write_flags arguments.lock_owner
+abbrev pub write_lock_owner : WriteArguments → Option ℕ
+write_lock_owner arguments = where_flag FUSE_WRITE_LOCKOWNER arguments.write_flags arguments.lock_owner
 
 -- the owner of locks of RELEASE and RELEASEDIR
-abbrev pub releaser_of : ReleaseArguments → Option ℕ
-releaser_of arguments = where_flag FUSE_RELEASE_FLOCK_UNLOCK arguments.release_flags arguments.lock_owner
+abbrev pub release_lock_owner : ReleaseArguments → Option ℕ
+release_lock_owner arguments = where_flag FUSE_RELEASE_FLOCK_UNLOCK arguments.release_flags arguments.lock_owner
 
 -- whether RELEASE and RELEASEDIR write what is held back
 abbrev pub flushes : ReleaseArguments → Bool

@@ -2,6 +2,7 @@
 use Rattle.std.specs.Prelude.{ℕ, ◌+◌, ◌*◌, ◌^◌, if◌then◌else◌}
 use Rattle.fuse_args.specs.declared.fixed.InitArguments.{InitArguments}
 use Rattle.fuse_wire.specs.declared.newtypes.Version.{Version}
+use Rattle.fuse_wire.specs.Flags.{FUSE_INIT_EXT}
 use Rattle.fuse_operations.specs.Fields.{has_flag}
 use Rattle.fuse_operations.specs.declared.operation.Init.{Init}
 
@@ -9,11 +10,7 @@ use Rattle.fuse_operations.specs.declared.operation.Init.{Init}
 abbrev pub arguments_of : Init → InitArguments
 arguments_of init = init.arguments
 
--- the flag of `fuse.h` that says that a second word of capabilities counts
-abbrev pub FUSE_INIT_EXT : ℕ
-FUSE_INIT_EXT = 2 ^ 30
-
--- the capabilities offered: `flags`, and where it has `FUSE_INIT_EXT`, `flags2` above them
+-- the capabilities offered: `flags`, and `flags2` above them, which is valid where `flags` has `FUSE_INIT_EXT`
 abbrev pub offered : InitArguments → ℕ
 offered init = if has_flag FUSE_INIT_EXT init.flags then init.flags + init.flags2 * 2 ^ 32 else init.flags
 

@@ -1,42 +1,13 @@
 -- What SETATTR sets: each field where `valid` has its flag (`FATTR_` of `fuse.h`).
-use Rattle.std.specs.Prelude.{◌^◌, ℕ, ℤ, Option, if◌then◌else◌}
+use Rattle.std.specs.Prelude.{ℕ, ℤ, Option, if◌then◌else◌}
 use Rattle.fuse_args.specs.declared.fixed.nodes.SetAttrArguments.{SetAttrArguments}
+use Rattle.fuse_wire.specs.Flags.{FATTR_ATIME, FATTR_ATIME_NOW, FATTR_CTIME, FATTR_FH, FATTR_GID, FATTR_MODE, FATTR_MTIME, FATTR_MTIME_NOW}
+use Rattle.fuse_wire.specs.Flags.{FATTR_SIZE, FATTR_UID}
 use Rattle.fuse_wire.specs.Times.{time_in}
 use Rattle.fuse_wire.specs.declared.time.SystemTime.{SystemTime}
 use Rattle.fuse_wire.specs.declared.time.TimeOrNow.{TimeOrNow}
 use Rattle.fuse_wire.specs.declared.time.TimeOrNow.TheVariants.{SpecificTime, Now}
 use Rattle.fuse_operations.specs.Fields.{has_flag, where_flag}
-
--- the flags of `valid`
-abbrev pub FATTR_MODE : ℕ
-FATTR_MODE = 2 ^ 0
-
-abbrev pub FATTR_UID : ℕ
-FATTR_UID = 2 ^ 1
-
-abbrev pub FATTR_GID : ℕ
-FATTR_GID = 2 ^ 2
-
-abbrev pub FATTR_SIZE : ℕ
-FATTR_SIZE = 2 ^ 3
-
-abbrev pub FATTR_ATIME : ℕ
-FATTR_ATIME = 2 ^ 4
-
-abbrev pub FATTR_MTIME : ℕ
-FATTR_MTIME = 2 ^ 5
-
-abbrev pub FATTR_FH : ℕ
-FATTR_FH = 2 ^ 6
-
-abbrev pub FATTR_ATIME_NOW : ℕ
-FATTR_ATIME_NOW = 2 ^ 7
-
-abbrev pub FATTR_MTIME_NOW : ℕ
-FATTR_MTIME_NOW = 2 ^ 8
-
-abbrev pub FATTR_CTIME : ℕ
-FATTR_CTIME = 2 ^ 10
 
 -- the kind and the permissions
 abbrev pub mode_of : SetAttrArguments → Option ℕ

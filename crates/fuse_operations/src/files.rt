@@ -24,7 +24,7 @@ impl Model for Read {
 
 impl Read {
     ghost use Rattle.fuse_operations.specs.Call.{owner_number};
-    ghost use Rattle.fuse_operations.specs.Fields.{lock_owner_of, file_offset};
+    ghost use Rattle.fuse_operations.specs.Fields.{read_lock_owner, file_offset};
 
     /// The open file.
     pub fn file_handle(&self) -> FileHandle
@@ -50,7 +50,7 @@ impl Read {
     /// The caller as an owner of locks: `lock_owner` of `struct fuse_read_in`. None where the flags have no
     /// `FUSE_READ_LOCKOWNER`.
     pub fn lock_owner(&self) -> Option<LockOwner>
-        ensures { owner_number result ≡ lock_owner_of self.now }
+        ensures { owner_number result ≡ read_lock_owner self.now }
     {
         self.read_flags()
             .contains(ReadFlags::FUSE_READ_LOCKOWNER)
@@ -92,7 +92,7 @@ impl<'a> Model for Write<'a> {
 
 impl<'a> Write<'a> {
     ghost use Rattle.fuse_operations.specs.Call.{owner_number};
-    ghost use Rattle.fuse_operations.specs.Fields.{writer_of, signed_offset};
+    ghost use Rattle.fuse_operations.specs.Fields.{write_lock_owner, signed_offset};
 
     /// The open file.
     pub fn file_handle(&self) -> FileHandle
@@ -125,7 +125,7 @@ impl<'a> Write<'a> {
     /// The caller as an owner of locks: `lock_owner` of `struct fuse_write_in`. None where the flags have no
     /// `FUSE_WRITE_LOCKOWNER`.
     pub fn lock_owner(&self) -> Option<LockOwner>
-        ensures { owner_number result ≡ writer_of self.now.arguments }
+        ensures { owner_number result ≡ write_lock_owner self.now.arguments }
     {
         self.write_flags()
             .contains(WriteFlags::FUSE_WRITE_LOCKOWNER)

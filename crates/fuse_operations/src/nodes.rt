@@ -47,7 +47,7 @@ impl Model for GetAttr {
 
 impl GetAttr {
     ghost use Rattle.fuse_operations.specs.Call.{handle_number};
-    ghost use Rattle.fuse_operations.specs.Fields.{fh_of};
+    ghost use Rattle.fuse_operations.specs.Fields.{getattr_handle};
 
     /// Which fields are valid: `FUSE_GETATTR_FH` for `fh`.
     pub fn getattr_flags(&self) -> GetattrFlags
@@ -58,7 +58,7 @@ impl GetAttr {
 
     /// The open file through which it is asked, if there is one: where the flags have `FUSE_GETATTR_FH`.
     pub fn file_handle(&self) -> Option<FileHandle>
-        ensures { handle_number result ≡ fh_of self.now }
+        ensures { handle_number result ≡ getattr_handle self.now }
     {
         self.getattr_flags()
             .contains(GetattrFlags::FUSE_GETATTR_FH)

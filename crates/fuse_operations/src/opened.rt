@@ -71,7 +71,7 @@ impl<K> Model for Releasing<K> {
 
 impl<K> Releasing<K> {
     ghost use Rattle.fuse_operations.specs.Call.{owner_number};
-    ghost use Rattle.fuse_operations.specs.Fields.{flushes, releaser_of};
+    ghost use Rattle.fuse_operations.specs.Fields.{flushes, release_lock_owner};
 
     /// What is to be done.
     pub fn release_flags(&self) -> ReleaseFlags
@@ -105,7 +105,7 @@ impl<K> Releasing<K> {
     /// Whose locks of `flock(2)` are given up: `lock_owner` of `struct fuse_release_in`. None where the flags have no
     /// `FUSE_RELEASE_FLOCK_UNLOCK`.
     pub fn lock_owner(&self) -> Option<LockOwner>
-        ensures { owner_number result ≡ releaser_of self.now }
+        ensures { owner_number result ≡ release_lock_owner self.now }
     {
         self.release_flags()
             .contains(ReleaseFlags::FUSE_RELEASE_FLOCK_UNLOCK)

@@ -4,7 +4,7 @@ use Rattle.std.specs.Int.{w32, w64, w128}
 use Rattle.std.specs.List.{AllByRecursion}
 use Rattle.fuse_wire.specs.declared.file_attr.FileAttr.{FileAttr}
 use Rattle.fuse_reply.specs.Sizes.{max_payload, inline_size, ioctl_out_size}
-use Rattle.fuse_reply.specs.Attributes.{nanos_per_second}
+use Rattle.fuse_wire.specs.Times.{nanos_per_second}
 use Rattle.fuse_reply.specs.Listing.{DirEntry, PlusEntry, dirent, direntplus, listing, plus_listing}
 
 pub data Answer : Type 0 where

@@ -2,7 +2,7 @@
 use Rattle.std.specs.Prelude.{ℕ, ℤ, ◌/◌, ◌%◌, ◌++◌, List, replicate}
 use Rattle.std.specs.Int.{w32, w64, to_le_bytes, cast_unsigned}
 use Rattle.std.specs.Int.RustNames.{bit_or}
-use Rattle.fuse_wire.specs.Times.{time_out}
+use Rattle.fuse_wire.specs.Times.{nanos_per_second, time_out}
 use Rattle.fuse_wire.specs.declared.file_attr.FileAttr.{FileAttr}
 use Rattle.fuse_wire.specs.declared.file_attr.FileType.{FileType}
 use Rattle.fuse_wire.specs.declared.file_attr.FileType.TheVariants.{NamedPipe, CharDevice, BlockDevice, Directory, RegularFile, Symlink, Socket}
@@ -43,10 +43,6 @@ attr_block attr =
     size_fields attr
     ++ second_fields (time_out attr.atime.0).0 (time_out attr.mtime.0).0 (time_out attr.ctime.0).0
     ++ narrow_fields (time_out attr.atime.0).1 (time_out attr.mtime.0).1 (time_out attr.ctime.0).1 attr
-
--- the nanoseconds of a second
-abbrev pub nanos_per_second : ℕ
-nanos_per_second = 1000000000
 
 -- the whole seconds of a span of so many nanoseconds
 abbrev pub span_seconds : ℕ → List ℕ

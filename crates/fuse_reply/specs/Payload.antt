@@ -1,5 +1,5 @@
 -- What answers carry: the structs of `fuse.h` whose names end in `_out`.
-use Rattle.std.specs.Prelude.{ℕ, ℤ, ◌++◌, ◌^◌, List, [], replicate}
+use Rattle.std.specs.Prelude.{ℕ, ℤ, ◌++◌, List, [], replicate}
 use Rattle.std.specs.Int.{w32, w64, to_le_bytes, cast_unsigned}
 use Rattle.fuse_wire.specs.declared.file_attr.FileAttr.{FileAttr}
 use Rattle.fuse_reply.specs.Answer.{Answer}
@@ -7,10 +7,6 @@ use Rattle.fuse_reply.specs.Answer.Answer.{Error, Empty, Data, Entry, Attr, Open
 use Rattle.fuse_reply.specs.Answer.Answer.{Directory, DirectoryPlus}
 use Rattle.fuse_reply.specs.Attributes.{entry_payload, attr_payload}
 use Rattle.fuse_reply.specs.Listing.{listing, plus_listing}
-
--- `FOPEN_PASSTHROUGH`, of the flags of an open file: the kernel reads and writes a file of its own, whose number stands beside
-abbrev pub FOPEN_PASSTHROUGH : ℕ
-FOPEN_PASSTHROUGH = 2 ^ 7
 
 -- `struct fuse_open_out`: fh8 open_flags4 backing_id4, which is 0
 unfoldable pub open_payload : (fh open_flags : ℕ) → List ℕ

@@ -2,7 +2,8 @@
 ghost use Rattle.std.specs.Prelude.{◌≡◌, ◌+◌, ◌++◌, ◌/◌, ◌%◌, ◌<◌, ◌^◌, length};
 ghost use Rattle.fuse_reply.specs.Answer.{IsAttr, IsSpan, IsAnswer};
 ghost use Rattle.fuse_reply.specs.Answer.Answer.{Entry, Attr};
-ghost use Rattle.fuse_reply.specs.Attributes.{nanos_per_second, kind_bits, mode, size_fields, second_fields};
+ghost use Rattle.fuse_wire.specs.Times.{nanos_per_second};
+ghost use Rattle.fuse_reply.specs.Attributes.{kind_bits, mode, size_fields, second_fields};
 ghost use Rattle.fuse_reply.specs.Attributes.{narrow_fields, attr_block, entry_front, entry_payload};
 ghost use Rattle.fuse_reply.specs.Attributes.{attr_front, attr_payload};
 ghost use Rattle.fuse_reply.specs.Listing.{entry_type};

@@ -1,6 +1,6 @@
 // A reply of an open file.
 ghost use Rattle.std.specs.Prelude.{◌≡◌, bit_and};
-ghost use Rattle.fuse_reply.specs.Payload.{FOPEN_PASSTHROUGH};
+ghost use Rattle.fuse_wire.specs.Flags.{FOPEN_PASSTHROUGH};
 ghost use Rattle.fuse_reply.specs.Frame.{reply};
 ghost use Rattle.fuse_reply.specs.Answer.{IsAnswer};
 ghost use Rattle.fuse_reply.specs.Answer.Answer.{Open};

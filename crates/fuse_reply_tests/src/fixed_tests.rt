@@ -1,6 +1,6 @@
 // What replies of fixed size, of ioctls and of extended attributes carry, as bytes.
 ghost use Rattle.std.specs.Prelude.{◌≡◌, bit_and};
-ghost use Rattle.fuse_reply.specs.Payload.{FOPEN_PASSTHROUGH};
+ghost use Rattle.fuse_wire.specs.Flags.{FOPEN_PASSTHROUGH};
 
 use crate::frames::{ATTRIBUTES, ENTRY_FRONT, ID, Parts, attributes, carries, short};
 use bitflags::Flags;

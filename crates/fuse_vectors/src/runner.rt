@@ -1,6 +1,6 @@
 // The runner of the vectors: what each makes is compared with its bytes.
 ghost use Rattle.std.specs.Prelude.{◌≡◌, bit_and, IfOk};
-ghost use Rattle.fuse_reply.specs.Payload.{FOPEN_PASSTHROUGH};
+ghost use Rattle.fuse_wire.specs.Flags.{FOPEN_PASSTHROUGH};
 ghost use Rattle.std.specs.Arc.{arc_value};
 ghost use Rattle.fuse_line.specs.declared.hand.Kind.TheVariants.{First};
 

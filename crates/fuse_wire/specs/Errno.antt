@@ -1,29 +1,30 @@
 -- Error numbers of Linux.
 use Rattle.std.specs.Prelude.{ℕ, ℤ, [], ◌∷◌, List, codes, pos, negsuc, zero, suc}
+use Rattle.fuse_wire.specs.ErrorNumbers.{EPERM, ENOENT, EIO, EAGAIN, ENOMEM, EACCES, EINVAL, EROFS, EDEADLK, ENOLCK, ENOSYS, EPROTO}
 
--- the error of a number: `EIO`, 5, where it is not positive
+-- the error of a number: `EIO` where it is not positive
 abbrev pub errno_from : ℤ → ℕ
-errno_from (pos zero) = 5
+errno_from (pos zero) = EIO
 errno_from (pos (suc n)) = suc n
-errno_from (negsuc n) = 5
+errno_from (negsuc n) = EIO
 
 -- the names of errors, each with the number that Linux has for it (`asm-generic/errno-base.h` and `asm-generic/errno.h`);
 -- `ENOTSUP` is the C library's, and `NO_XATTR` is this library's, for what a file without an attribute answers
 abbrev pub named_numbers : List (List ℕ × ℕ)
 named_numbers =
-    (codes "EPERM", 1)
-    ∷ (codes "ENOENT", 2)
+    (codes "EPERM", EPERM)
+    ∷ (codes "ENOENT", ENOENT)
     ∷ (codes "ESRCH", 3)
     ∷ (codes "EINTR", 4)
-    ∷ (codes "EIO", 5)
+    ∷ (codes "EIO", EIO)
     ∷ (codes "ENXIO", 6)
     ∷ (codes "E2BIG", 7)
     ∷ (codes "ENOEXEC", 8)
     ∷ (codes "EBADF", 9)
     ∷ (codes "ECHILD", 10)
-    ∷ (codes "EAGAIN", 11)
-    ∷ (codes "ENOMEM", 12)
-    ∷ (codes "EACCES", 13)
+    ∷ (codes "EAGAIN", EAGAIN)
+    ∷ (codes "ENOMEM", ENOMEM)
+    ∷ (codes "EACCES", EACCES)
     ∷ (codes "EFAULT", 14)
     ∷ (codes "ENOTBLK", 15)
     ∷ (codes "EBUSY", 16)
@@ -32,7 +33,7 @@ named_numbers =
     ∷ (codes "ENODEV", 19)
     ∷ (codes "ENOTDIR", 20)
     ∷ (codes "EISDIR", 21)
-    ∷ (codes "EINVAL", 22)
+    ∷ (codes "EINVAL", EINVAL)
     ∷ (codes "ENFILE", 23)
     ∷ (codes "EMFILE", 24)
     ∷ (codes "ENOTTY", 25)
@@ -40,15 +41,15 @@ named_numbers =
     ∷ (codes "EFBIG", 27)
     ∷ (codes "ENOSPC", 28)
     ∷ (codes "ESPIPE", 29)
-    ∷ (codes "EROFS", 30)
+    ∷ (codes "EROFS", EROFS)
     ∷ (codes "EMLINK", 31)
     ∷ (codes "EPIPE", 32)
     ∷ (codes "EDOM", 33)
     ∷ (codes "ERANGE", 34)
-    ∷ (codes "EDEADLK", 35)
+    ∷ (codes "EDEADLK", EDEADLK)
     ∷ (codes "ENAMETOOLONG", 36)
-    ∷ (codes "ENOLCK", 37)
-    ∷ (codes "ENOSYS", 38)
+    ∷ (codes "ENOLCK", ENOLCK)
+    ∷ (codes "ENOSYS", ENOSYS)
     ∷ (codes "ENOTEMPTY", 39)
     ∷ (codes "ELOOP", 40)
     ∷ (codes "EWOULDBLOCK", 11)
@@ -58,7 +59,7 @@ named_numbers =
     ∷ (codes "NO_XATTR", 61)
     ∷ (codes "EREMOTE", 66)
     ∷ (codes "ENOLINK", 67)
-    ∷ (codes "EPROTO", 71)
+    ∷ (codes "EPROTO", EPROTO)
     ∷ (codes "EMULTIHOP", 72)
     ∷ (codes "EBADMSG", 74)
     ∷ (codes "EOVERFLOW", 75)

@@ -1,4 +1,4 @@
--- Errors by their names, those that the session, the defaults of a filesystem and the trees answer with (`asm-generic/errno-base.h` and `asm-generic/errno.h`).
+-- Errors that contracts speak of by name: each is its number (`asm-generic/errno-base.h` and `asm-generic/errno.h`).
 use Rattle.std.specs.Prelude.{ℕ}
 
 abbrev pub EPERM : ℕ
@@ -10,6 +10,9 @@ ENOENT = 2
 abbrev pub EIO : ℕ
 EIO = 5
 
+abbrev pub EAGAIN : ℕ
+EAGAIN = 11
+
 abbrev pub ENOMEM : ℕ
 ENOMEM = 12
 
@@ -18,6 +21,15 @@ EACCES = 13
 
 abbrev pub EINVAL : ℕ
 EINVAL = 22
+
+abbrev pub EROFS : ℕ
+EROFS = 30
+
+abbrev pub EDEADLK : ℕ
+EDEADLK = 35
+
+abbrev pub ENOLCK : ℕ
+ENOLCK = 37
 
 abbrev pub ENOSYS : ℕ
 ENOSYS = 38

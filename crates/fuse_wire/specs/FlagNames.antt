@@ -1,15 +1,19 @@
 -- Sets of flags (`fuse.h`): each name and its bit.
 use Rattle.std.specs.Prelude.{ℕ, List, [], ◌∷◌, codes, ◌^◌}
+use Rattle.fuse_wire.specs.Flags.{FUSE_ASYNC_READ, FUSE_POSIX_LOCKS, FUSE_BIG_WRITES, FUSE_MAX_PAGES, FUSE_INIT_EXT, FUSE_PASSTHROUGH}
+use Rattle.fuse_wire.specs.Flags.{FOPEN_PASSTHROUGH, FUSE_GETATTR_FH, FATTR_MODE, FATTR_UID, FATTR_GID, FATTR_SIZE, FATTR_ATIME, FATTR_MTIME}
+use Rattle.fuse_wire.specs.Flags.{FATTR_FH, FATTR_ATIME_NOW, FATTR_MTIME_NOW, FATTR_CTIME, FUSE_READ_LOCKOWNER, FUSE_WRITE_LOCKOWNER}
+use Rattle.fuse_wire.specs.Flags.{FUSE_RELEASE_FLUSH, FUSE_RELEASE_FLOCK_UNLOCK, FUSE_FSYNC_FDATASYNC, FUSE_IOCTL_UNRESTRICTED}
 
 -- the capabilities that INIT negotiates ("INIT request/reply flags"): `flags` of `struct fuse_init_in`, and from bit 32 on `flags2`
 abbrev pub init_flags_table : List (List ℕ × ℕ)
 init_flags_table =
-    (codes "FUSE_ASYNC_READ", 2 ^ 0)
-    ∷ (codes "FUSE_POSIX_LOCKS", 2 ^ 1)
+    (codes "FUSE_ASYNC_READ", FUSE_ASYNC_READ)
+    ∷ (codes "FUSE_POSIX_LOCKS", FUSE_POSIX_LOCKS)
     ∷ (codes "FUSE_FILE_OPS", 2 ^ 2)
     ∷ (codes "FUSE_ATOMIC_O_TRUNC", 2 ^ 3)
     ∷ (codes "FUSE_EXPORT_SUPPORT", 2 ^ 4)
-    ∷ (codes "FUSE_BIG_WRITES", 2 ^ 5)
+    ∷ (codes "FUSE_BIG_WRITES", FUSE_BIG_WRITES)
     ∷ (codes "FUSE_DONT_MASK", 2 ^ 6)
     ∷ (codes "FUSE_SPLICE_WRITE", 2 ^ 7)
     ∷ (codes "FUSE_SPLICE_MOVE", 2 ^ 8)
@@ -26,7 +30,7 @@ init_flags_table =
     ∷ (codes "FUSE_HANDLE_KILLPRIV", 2 ^ 19)
     ∷ (codes "FUSE_POSIX_ACL", 2 ^ 20)
     ∷ (codes "FUSE_ABORT_ERROR", 2 ^ 21)
-    ∷ (codes "FUSE_MAX_PAGES", 2 ^ 22)
+    ∷ (codes "FUSE_MAX_PAGES", FUSE_MAX_PAGES)
     ∷ (codes "FUSE_CACHE_SYMLINKS", 2 ^ 23)
     ∷ (codes "FUSE_NO_OPENDIR_SUPPORT", 2 ^ 24)
     ∷ (codes "FUSE_EXPLICIT_INVAL_DATA", 2 ^ 25)
@@ -34,14 +38,14 @@ init_flags_table =
     ∷ (codes "FUSE_SUBMOUNTS", 2 ^ 27)
     ∷ (codes "FUSE_HANDLE_KILLPRIV_V2", 2 ^ 28)
     ∷ (codes "FUSE_SETXATTR_EXT", 2 ^ 29)
-    ∷ (codes "FUSE_INIT_EXT", 2 ^ 30)
+    ∷ (codes "FUSE_INIT_EXT", FUSE_INIT_EXT)
     ∷ (codes "FUSE_INIT_RESERVED", 2 ^ 31)
     ∷ (codes "FUSE_SECURITY_CTX", 2 ^ 32)
     ∷ (codes "FUSE_HAS_INODE_DAX", 2 ^ 33)
     ∷ (codes "FUSE_CREATE_SUPP_GROUP", 2 ^ 34)
     ∷ (codes "FUSE_HAS_EXPIRE_ONLY", 2 ^ 35)
     ∷ (codes "FUSE_DIRECT_IO_ALLOW_MMAP", 2 ^ 36)
-    ∷ (codes "FUSE_PASSTHROUGH", 2 ^ 37)
+    ∷ (codes "FUSE_PASSTHROUGH", FUSE_PASSTHROUGH)
     ∷ (codes "FUSE_NO_EXPORT_SUPPORT", 2 ^ 38)
     ∷ (codes "FUSE_HAS_RESEND", 2 ^ 39)
     ∷ (codes "FUSE_ALLOW_IDMAP", 2 ^ 40)
@@ -59,63 +63,63 @@ fopen_flags_table =
     ∷ (codes "FOPEN_STREAM", 2 ^ 4)
     ∷ (codes "FOPEN_NOFLUSH", 2 ^ 5)
     ∷ (codes "FOPEN_PARALLEL_DIRECT_WRITES", 2 ^ 6)
-    ∷ (codes "FOPEN_PASSTHROUGH", 2 ^ 7)
+    ∷ (codes "FOPEN_PASSTHROUGH", FOPEN_PASSTHROUGH)
     ∷ []
 
 -- what GETATTR says: `getattr_flags` of `struct fuse_getattr_in`
 abbrev pub getattr_flags_table : List (List ℕ × ℕ)
 getattr_flags_table =
-    (codes "FUSE_GETATTR_FH", 2 ^ 0)
+    (codes "FUSE_GETATTR_FH", FUSE_GETATTR_FH)
     ∷ []
 
 -- what SETATTR is to set: `valid` of `struct fuse_setattr_in`
 abbrev pub fattr_flags_table : List (List ℕ × ℕ)
 fattr_flags_table =
-    (codes "FATTR_MODE", 2 ^ 0)
-    ∷ (codes "FATTR_UID", 2 ^ 1)
-    ∷ (codes "FATTR_GID", 2 ^ 2)
-    ∷ (codes "FATTR_SIZE", 2 ^ 3)
-    ∷ (codes "FATTR_ATIME", 2 ^ 4)
-    ∷ (codes "FATTR_MTIME", 2 ^ 5)
-    ∷ (codes "FATTR_FH", 2 ^ 6)
-    ∷ (codes "FATTR_ATIME_NOW", 2 ^ 7)
-    ∷ (codes "FATTR_MTIME_NOW", 2 ^ 8)
+    (codes "FATTR_MODE", FATTR_MODE)
+    ∷ (codes "FATTR_UID", FATTR_UID)
+    ∷ (codes "FATTR_GID", FATTR_GID)
+    ∷ (codes "FATTR_SIZE", FATTR_SIZE)
+    ∷ (codes "FATTR_ATIME", FATTR_ATIME)
+    ∷ (codes "FATTR_MTIME", FATTR_MTIME)
+    ∷ (codes "FATTR_FH", FATTR_FH)
+    ∷ (codes "FATTR_ATIME_NOW", FATTR_ATIME_NOW)
+    ∷ (codes "FATTR_MTIME_NOW", FATTR_MTIME_NOW)
     ∷ (codes "FATTR_LOCKOWNER", 2 ^ 9)
-    ∷ (codes "FATTR_CTIME", 2 ^ 10)
+    ∷ (codes "FATTR_CTIME", FATTR_CTIME)
     ∷ []
 
 -- how to read: `read_flags` of `struct fuse_read_in`
 abbrev pub read_flags_table : List (List ℕ × ℕ)
 read_flags_table =
-    (codes "FUSE_READ_LOCKOWNER", 2 ^ 1)
+    (codes "FUSE_READ_LOCKOWNER", FUSE_READ_LOCKOWNER)
     ∷ []
 
 -- how to write: `write_flags` of `struct fuse_write_in`
 abbrev pub write_flags_table : List (List ℕ × ℕ)
 write_flags_table =
     (codes "FUSE_WRITE_CACHE", 2 ^ 0)
-    ∷ (codes "FUSE_WRITE_LOCKOWNER", 2 ^ 1)
+    ∷ (codes "FUSE_WRITE_LOCKOWNER", FUSE_WRITE_LOCKOWNER)
     ∷ (codes "FUSE_WRITE_KILL_SUIDGID", 2 ^ 2)
     ∷ []
 
 -- what else a release does: `release_flags` of `struct fuse_release_in`
 abbrev pub release_flags_table : List (List ℕ × ℕ)
 release_flags_table =
-    (codes "FUSE_RELEASE_FLUSH", 2 ^ 0)
-    ∷ (codes "FUSE_RELEASE_FLOCK_UNLOCK", 2 ^ 1)
+    (codes "FUSE_RELEASE_FLUSH", FUSE_RELEASE_FLUSH)
+    ∷ (codes "FUSE_RELEASE_FLOCK_UNLOCK", FUSE_RELEASE_FLOCK_UNLOCK)
     ∷ []
 
 -- what to bring to the disk: `fsync_flags` of `struct fuse_fsync_in`
 abbrev pub fsync_flags_table : List (List ℕ × ℕ)
 fsync_flags_table =
-    (codes "FUSE_FSYNC_FDATASYNC", 2 ^ 0)
+    (codes "FUSE_FSYNC_FDATASYNC", FUSE_FSYNC_FDATASYNC)
     ∷ []
 
 -- how an `ioctl` is called: `flags` of `struct fuse_ioctl_in` and of `struct fuse_ioctl_out`
 abbrev pub ioctl_flags_table : List (List ℕ × ℕ)
 ioctl_flags_table =
     (codes "FUSE_IOCTL_COMPAT", 2 ^ 0)
-    ∷ (codes "FUSE_IOCTL_UNRESTRICTED", 2 ^ 1)
+    ∷ (codes "FUSE_IOCTL_UNRESTRICTED", FUSE_IOCTL_UNRESTRICTED)
     ∷ (codes "FUSE_IOCTL_RETRY", 2 ^ 2)
     ∷ (codes "FUSE_IOCTL_32BIT", 2 ^ 3)
     ∷ (codes "FUSE_IOCTL_DIR", 2 ^ 4)

@@ -19,6 +19,7 @@ pub mod StreamSink
 pub mod HeldSink
 pub mod Times
 pub mod OpenMode
+pub mod Flags
 pub mod FlagNames
 pub mod AccessFlags
 pub mod StdDevices

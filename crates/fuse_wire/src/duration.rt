@@ -1,5 +1,6 @@
 //! Spans of time.
 ghost use Rattle.std.specs.Prelude.{◌≡◌, ◌+◌, ◌*◌, ◌/◌, ◌%◌, ◌<◌, ◌^◌};
+ghost use Rattle.fuse_wire.specs.Times.{nanos_per_second};
 
 use std::marker::Model;
 
@@ -15,36 +16,37 @@ pub struct Duration {
 impl Model for Duration {
     ghost use Rattle.std.specs.Prelude.{ℕ, ◌<◌, ◌^◌, ◌+◌, ◌*◌, ◌/◌, ◌%◌};
     ghost use Rattle.std.proofs.Common.{arith};
+    ghost use Rattle.fuse_wire.specs.Times.{nanos_per_second};
 
     ghost Value = { ℕ };
 
-    ghost view = { λ d. d.secs * 1000000000 + d.nanos };
+    ghost view = { λ d. d.secs * nanos_per_second + d.nanos };
 
-    ghost invariant = { λ d. d.nanos < 1000000000 };
+    ghost invariant = { λ d. d.nanos < nanos_per_second };
 
-    ghost inverse = { λ n. record { secs = n / 1000000000; nanos = n % 1000000000 } };
+    ghost inverse = { λ n. record { secs = n / nanos_per_second; nanos = n % nanos_per_second } };
 }
 
 impl Duration {
     /// So many seconds, any u64, and so many nanoseconds, which are below 10^9.
     pub fn new(secs: u64, nanos: u32) -> Duration
-        requires { nanos < 1000000000 }
-        ensures { result ≡ secs * 1000000000 + nanos }
+        requires { nanos < nanos_per_second }
+        ensures { result ≡ secs * nanos_per_second + nanos }
     {
         Duration { secs, nanos }
     }
 
     /// The whole seconds of it.
     pub fn as_secs(&self) -> u64
-        ensures { result ≡ self.now / 1000000000 }
+        ensures { result ≡ self.now / nanos_per_second }
     {
         self.secs
     }
 
     /// The nanoseconds above the whole seconds, below 10^9.
     pub fn subsec_nanos(&self) -> u32
-        ensures nanos { result ≡ self.now % 1000000000 }
-        ensures within { result < 1000000000 }
+        ensures nanos { result ≡ self.now % nanos_per_second }
+        ensures within { result < nanos_per_second }
     {
         self.nanos
     }
@@ -52,7 +54,7 @@ impl Duration {
     /// All of it in nanoseconds, below 2^64 * 10^9.
     pub fn as_nanos(&self) -> u128
         ensures nanos { result ≡ self.now }
-        ensures within { result < 2 ^ 64 * 1000000000 }
+        ensures within { result < 2 ^ 64 * nanos_per_second }
     {
         self.secs as u128 * 1_000_000_000 + self.nanos as u128
     }

@@ -6,7 +6,7 @@ ghost use Rattle.std.specs.Ordering.{int_cmp, int_eq, nat_cmp};
 ghost use Rattle.fuse_wire.specs.Numbered.{AsBits, AsNumber, AsTwoNumbers, OrderedAs, SaysSame, same_attributes};
 ghost use Rattle.fuse_wire.specs.Numbered.{variant};
 ghost use Rattle.std.specs.Hash as fed;
-ghost use Rattle.fuse_wire.specs.Times.{time_in, time_out};
+ghost use Rattle.fuse_wire.specs.Times.{nanos_per_second, time_in, time_out};
 ghost use Rattle.fuse_wire.specs.declared.time.SystemTime.{SystemTime};
 ghost use Rattle.fuse_wire.specs.declared.time.TimeOrNow.TheVariants.{Now, SpecificTime};
 ghost use Rattle.fuse_wire.specs.declared.file_attr.FileAttr.{FileAttr};
@@ -61,7 +61,7 @@ pub fn compared_as_nanoseconds()
         ⟦<Duration as PartialOrd>⟧.partial_cmp ⟦<Duration as Ord>⟧.cmp }
     ensures times_hash { (time : SystemTime) → ⟦<SystemTime as Hash>⟧.hash_input time ≡ fed.i128 time.0 }
     ensures spans_hash { (nanos : ℕ) → ⟦<Duration as Hash>⟧.hash_input nanos
-        ≡ fed.u64 (nanos / 1000000000) ++ fed.u32 (nanos % 1000000000) }
+        ≡ fed.u64 (nanos / nanos_per_second) ++ fed.u32 (nanos % nanos_per_second) }
 {}
 
 /// Sets of flags and flag numbers are equal where they have the same bits, and are hashed as these.
@@ -143,7 +143,7 @@ pub fn items_compared_one_by_one<T: PartialEq>()
 
 /// Seconds, and nanoseconds below 10^9, come back from the time that they make.
 pub fn times_come_back(secs: i64, nanos: u32)
-    requires { nanos < 1000000000 }
+    requires { nanos < nanos_per_second }
     ensures { time_out (time_in secs nanos) ≡ (secs, nanos) }
 {}
 

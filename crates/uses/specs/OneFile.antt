@@ -1,6 +1,7 @@
 -- A directory with one file in it.
 use Rattle.std.specs.Prelude.{◌==◌, ◌&&◌, ℕ, List, [], ◌∷◌, Option, None, Some, codes, if◌then◌else◌}
 use Rattle.std.specs.Str.{bytes_eq}
+use Rattle.fuse_wire.specs.Times.{nanos_per_second}
 use Rattle.fuse_wire.specs.declared.file_attr.FileAttr.{FileAttr}
 use Rattle.fuse_wire.specs.declared.file_attr.FileType.TheVariants.{Directory, RegularFile}
 use Rattle.fuse_read_only.specs.Tree.{Member, Tree, root_attr}
@@ -25,5 +26,5 @@ one_file = record {
   names = λ parent name. if (parent == 1) && bytes_eq name (codes "note") then attributes 2 else None;
   contents = λ ino. if ino == 2 then Some (codes "Remember the milk.\n") else None;
   entries = λ ino. if ino == 1 then members else [];
-  ttl = 1000000000;
+  ttl = nanos_per_second;
 }

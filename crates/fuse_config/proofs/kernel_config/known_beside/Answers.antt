@@ -3,7 +3,7 @@ use Rattle.std.proofs.Common.{◌≡◌, refl, ◌∙◌, ap, ◌-◌, ◌^◌}
 use Rattle.std.specs.Int.RustNames.{bit_and}
 use Rattle.bitflags.specs.Sets.{known_bits, known_from}
 use Rattle.fuse_wire.specs.FlagNames.{init_flags_table}
-use Rattle.fuse_config.specs.Setters.{known}
+use Rattle.fuse_config.specs.Configuration.{known}
 use Rattle.fuse_config.proofs.kernel_config.known_beside.Goals as goal
 
 known-named : known_bits init_flags_table ≡ known
