@@ -18,9 +18,7 @@ use Rattle.fuse_reply.specs.declared.out.Out.{Out}
 use Rattle.fuse_reply.specs.declared.out.Out.TheVariants.{Frame, Note as Noting, Deferred}
 use Rattle.fuse_reply.proofs.Tails.{LeavesTail-settled}
 use Rattle.fuse_program.specs.Program.{WritesFrames, TornFromFirst}
-
-same_some : {A : Type 0} (x y : A) → Some x ≡ Some y → x ≡ y
-same_some x y h = cc
+use Rattle.fuse_program.proofs.Reading.{same_some}
 
 -- the bytes of a frame with which a stream ends
 abbrev pub torn_in : Option Tail → List ℕ

@@ -11,8 +11,8 @@ use crate::load::summary_line;
 use crate::status::{failure_status, status_of};
 use fuse_config::Config;
 use fuse_session::{Ended, mount};
-use fuse_tree::{Hello, write_all, write_stream};
-use fuse_wire::{ByteSink, ByteSource, StreamSink, StreamSource};
+use fuse_tree::{Hello, write_stream};
+use fuse_wire::{ByteSink, ByteSource, StreamSink, StreamSource, write_all};
 use std::sync::Wait;
 use std::thread::Threads;
 

@@ -7,7 +7,8 @@ use Rattle.std.proofs.lemmas.List.Folds.{concat-append}
 use Rattle.std.proofs.lemmas.List.FromFn.{map-range_with_len_more, take-map-range_with_len}
 use Rattle.fuse_wire.specs.ByteSink.{ByteSinkState, PutsBytes}
 use Rattle.fuse_wire.specs.StreamSink.{WritesAll}
-use Rattle.fuse_wire.proofs.StreamLaws.{PutsBytes-append, WritesAll-append, WritesAll-front}
+use Rattle.fuse_wire.proofs.Devices.{PutsBytes-then}
+use Rattle.fuse_wire.proofs.StreamLaws.{WritesAll-append, WritesAll-front}
 use Rattle.fuse_tree.specs.Generated.{stream, init, destroy, requests, request_at, request_of, x_after}
 
 -- x begins as the seed
@@ -82,7 +83,7 @@ pub request-written : (seed place : ℕ) (bytes : List ℕ) (before middle after
 request-written seed place bytes before middle after' put is more =
     subst (λ (put : List ℕ). PutsBytes put before after')
     (ap (λ (last : List ℕ). concat (front seed place) ++ last) is ∙ sym (front-next seed place))
-    (PutsBytes-append (concat (front seed place)) bytes before middle after' put more)
+    (PutsBytes-then (concat (front seed place)) bytes before middle after' put more)
 
 -- a request was not written whole
 pub request-lost : (seed count place : ℕ) (request : List ℕ) (before middle after : ByteSinkState) → place < count

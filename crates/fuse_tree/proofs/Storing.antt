@@ -10,7 +10,7 @@ use Rattle.fuse_wire.specs.Numbers.{number}
 use Rattle.fuse_wire.specs.Sink.{Note, Puts}
 use Rattle.fuse_wire.specs.declared.sink.Sending.TheVariants.{Sent}
 use Rattle.fuse_wire.proofs.Frames.{frames-concat}
-use Rattle.fuse_wire.proofs.NumberLaws.{number-append}
+use Rattle.fuse_wire.proofs.NumberFront.{number-append}
 use Rattle.fuse_reply.specs.Frame.{is_set_aside}
 use Rattle.fuse_loop.specs.Progress.{replies}
 use Rattle.fuse_tree.specs.Store.{IsStored, SendsStored, Stored, is_error, stored_told}

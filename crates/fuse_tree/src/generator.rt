@@ -13,7 +13,7 @@ use fuse_request::opcode::{
 use fuse_wire::consts::{
     BUFFER_SIZE, FUSE_KERNEL_MINOR_VERSION, FUSE_KERNEL_VERSION, REQUEST_HEADER_SIZE,
 };
-use fuse_wire::{ByteSink, ByteWrite};
+use fuse_wire::{ByteSink, write_all};
 use std::alloc::{AllocError, Global};
 use std::marker::Model;
 
@@ -99,20 +99,6 @@ fn put_at(array: &mut [u8; LONGEST], at: usize, bytes: &[u8])
     ensures { take (at + length bytes.now) array.new ≡ take at array.old ++ bytes.now }
 {
     array[at..at + bytes.len()].copy_from_slice(bytes);
-}
-
-/// Writes the whole piece, or says that a write failed.
-pub fn write_all<O: ByteSink>(output: &mut O, piece: &[u8]) -> bool
-    ensures { WritesAll result piece.now (O.told output.old) (O.told output.new) }
-{
-    let mut count = 0;
-    while count < piece.len() {
-        match output.write(&piece[count..]) {
-            ByteWrite::Wrote(more) => count += more,
-            ByteWrite::Failed => return false,
-        }
-    }
-    true
 }
 
 #[tactic(auto, unfolding(crate::specs::Generated::init_body))]

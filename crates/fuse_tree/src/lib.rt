@@ -10,7 +10,7 @@ mod stored_messages;
 mod summary;
 
 pub use frame_store::FrameStore;
-pub use generator::{write_all, write_stream};
+pub use generator::write_stream;
 pub use hello::Hello;
 pub use stored_messages::StoredMessages;
 pub use summary::Summary;

@@ -7,7 +7,7 @@ use Rattle.std.proofs.lemmas.Bool.{le-leb, lt-leb, and_from, and_left, and_right
 use Rattle.fuse_wire.specs.Numbers.{number}
 use Rattle.fuse_wire.specs.Frames.{IsFrame, frames, frames_in, frame_length, has_frame}
 use Rattle.fuse_wire.specs.StreamSink.{IsTorn}
-use Rattle.fuse_wire.proofs.NumberLaws.{number-append}
+use Rattle.fuse_wire.proofs.NumberFront.{number-append}
 
 -- fewer bytes than a header have no whole frame in front
 pub has_frame-short : (bytes : List ℕ) → length bytes < 16 → has_frame bytes ≡ false

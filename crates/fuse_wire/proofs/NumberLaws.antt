@@ -1,18 +1,9 @@
--- Numbers in messages: which bytes a number looks at, what it is at most, and how it reads back what was written.
+-- Numbers in messages: what a number is after a list, what it is at most, and how it reads back what was written.
 use Rattle.std.proofs.Common.{◌≡◌, ℕ, zero, suc, ◌+◌, ◌*◌, ◌^◌, ◌<◌, ◌≤◌, ◌/◌, ◌%◌, List, [], ◌∷◌, ◌++◌, length, get_or, refl, ap, sym, ◌∙◌, subst, arith}
 use Rattle.std.specs.Int.{Width, w32, w64, byte_len, byte_at, bytes_low_first, to_le_bytes}
 use Rattle.std.proofs.Math.Nat.{pow-succ', mul_assoc, div-add-mod, pow-suc, div-div-eq-div-mul, div-one}
-use Rattle.std.proofs.lemmas.List.{get_or_append_left, get_or-append-add}
+use Rattle.std.proofs.lemmas.List.{get_or-append-add}
 use Rattle.fuse_wire.specs.Numbers.{number}
-
--- it looks only at the bytes that it names
-pub number-append : (xs ys : List ℕ) (at width : ℕ) → at + width ≤ length xs → number (xs ++ ys) at width ≡ number xs at width
-unfolding number
-number-append xs ys at zero fits = refl
-number-append xs ys at (suc width) fits =
-    let here : get_or (xs ++ ys) at 0 ≡ get_or xs at 0 = get_or_append_left xs ys 0 at (omega arith) in
-    let rest : number (xs ++ ys) (suc at) width ≡ number xs (suc at) width = number-append xs ys (suc at) width (omega arith) in
-    cc
 
 -- after a list, it is the number of what stands there
 pub number-append_right : (xs ys : List ℕ) (at width : ℕ) → number (xs ++ ys) (length xs + at) width ≡ number ys at width

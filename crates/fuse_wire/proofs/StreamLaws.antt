@@ -1,6 +1,6 @@
 -- How the stream below a sink stands, at the start, after a frame and after a write that failed.
 use Rattle.std.proofs.Common.{◌≡◌, ℕ, ◌+◌, ◌<◌, ◌≤◌, Bool, true, false, Option, None, Some, List, [], ◌∷◌, ◌++◌, length, take}
-use Rattle.std.proofs.Common.{drop, refl, ap, sym, ◌∙◌, subst, arith, append_assoc, length-append}
+use Rattle.std.proofs.Common.{drop, refl, ap, sym, ◌∙◌, subst, arith, length-append}
 use Rattle.std.specs.Prelude.{option_map}
 use Rattle.std.specs.List.{concat, AllByRecursion}
 use Rattle.std.proofs.lemmas.List.{drop_at, append-nil, length-take-le, take-append-le}
@@ -14,28 +14,10 @@ use Rattle.fuse_wire.specs.Sink.{Appends, Puts, Refuses, IsTornFrom, Tears}
 use Rattle.fuse_wire.specs.Frames.{IsFrame, frames, frame_length}
 use Rattle.fuse_wire.specs.ByteSink.{ByteSinkState, PutsBytes}
 use Rattle.fuse_wire.specs.StreamSink.{IsTorn, Stands, WritesAll, bytes_since, frames_since, tail_since, tail_of, torn_part, stream_told}
-use Rattle.fuse_wire.proofs.NumberLaws.{number-append}
+use Rattle.fuse_wire.proofs.NumberFront.{number-append}
+use Rattle.fuse_wire.proofs.Options.{option_map-back_none, option_map-back_then}
+use Rattle.fuse_wire.proofs.Devices.{PutsBytes-then}
 use Rattle.fuse_wire.proofs.Frames.{IsTorn-nil, frames-concat_torn}
-
--- appending nothing to what is told
-pub option-append_nil : {A : Type 0} (told : Option (List A)) → told ≡ option_map (λ held. held ++ []) told
-option-append_nil None = refl
-option-append_nil (Some held) = ap Some (sym (append-nil held))
-
--- appending twice to what is told
-pub option-append_twice : {A : Type 0} (before middle after : Option (List A)) (first second : List A) →
-    middle ≡ option_map (λ held. held ++ first) before → after ≡ option_map (λ held. held ++ second) middle →
-    after ≡ option_map (λ held. held ++ (first ++ second)) before
-option-append_twice None middle after first second e f = f ∙ ap (option_map (λ held. held ++ second)) e
-option-append_twice (Some held) middle after first second e f = f ∙ ap (option_map (λ held. held ++ second)) e ∙ ap Some (append_assoc held first second)
-
--- one piece was put after another
-pub PutsBytes-append : (first second : List ℕ) (before middle after : ByteSinkState) → PutsBytes first before middle →
-    PutsBytes second middle after → PutsBytes (first ++ second) before after
-PutsBytes-append first second before middle after p q = record {
-  bytes = option-append_twice before.bytes middle.bytes after.bytes first second p.bytes q.bytes;
-  faults = omega arith;
-}
 
 -- what is told of the bytes that were put
 pub told_since : {A : Type 0} (f : List ℕ → A) (first now : Option (List ℕ)) (put : List ℕ) (told : A) →
@@ -69,7 +51,7 @@ tail_since-concat broken first now sent torn each part e =
 -- how a stream stands to which nothing was written, and of which no send was refused
 pub Stands-new : (stream : ByteSinkState) → Stands (stream_told stream stream false 0) stream false
 Stands-new stream =
-    let bytes : stream.bytes ≡ option_map (λ held. held ++ (concat [] ++ [])) stream.bytes = option-append_nil stream.bytes in
+    let bytes : stream.bytes ≡ option_map (λ held. held ++ (concat [] ++ [])) stream.bytes = option_map-back_none stream.bytes in
     record {
       sent = [];
       torn = [];
@@ -87,12 +69,12 @@ Stands-new stream =
 -- a piece is written after one that was
 pub WritesAll-append : (done : Bool) (first second : List ℕ) (before middle after : ByteSinkState) →
     PutsBytes first before middle → WritesAll done second middle after → WritesAll done (first ++ second) before after
-WritesAll-append true first second before middle after p q = PutsBytes-append first second before middle after p q
+WritesAll-append true first second before middle after p q = PutsBytes-then first second before middle after p q
 WritesAll-append false first second before middle after p q =
     let within : q.0 < length second = q.1 in
     let grown : before.faults ≤ middle.faults = p.faults in
     let rose : Rose middle.faults after.faults = q.3 in
-    let put : PutsBytes (first ++ take q.0 second) before after = PutsBytes-append first (take q.0 second) before middle after p q.2 in (
+    let put : PutsBytes (first ++ take q.0 second) before after = PutsBytes-then first (take q.0 second) before middle after p q.2 in (
       length first + q.0,
       omega (arith, length-append first second, within),
       subst (λ piece. PutsBytes piece before after) (sym (take-append-add first second q.0)) put,
@@ -126,9 +108,9 @@ pub bytes_after : (first before after : Option (List ℕ)) (sent : List (List �
     before ≡ option_map (λ held. held ++ (concat sent ++ torn)) first → after ≡ option_map (λ held. held ++ more) before →
     after ≡ option_map (λ held. held ++ (concat sent ++ more)) first
 bytes_after first before after sent torn more none e f =
-    option-append_twice first before after (concat sent) more
-    (e ∙ ap (λ rest. option_map (λ held. held ++ rest) first) (ap (λ rest. concat sent ++ rest) none ∙ append-nil (concat sent)))
-    f
+    let whole : before ≡ option_map (λ held. held ++ concat sent) first =
+    e ∙ ap (λ rest. option_map (λ held. held ++ rest) first) (ap (λ rest. concat sent ++ rest) none ∙ append-nil (concat sent)) in
+    f ∙ ap (option_map (λ held. held ++ more)) whole ∙ option_map-back_then (concat sent) more first
 
 -- how the stream stands after one more frame
 pub Stands-more : (frame : List ℕ) (origin before after : ByteSinkState) (refused : ℕ) → IsFrame frame →
@@ -222,7 +204,7 @@ pub framed_torn : (frame : List ℕ) (origin before after : ByteSinkState) (refu
     frames_since origin.bytes after.bytes ≡ option_map (λ held. held ++ []) (frames_since origin.bytes before.bytes)
 unfolding Stands-torn
 framed_torn frame origin before after refused is_frame wrote s =
-    (Stands-torn frame origin before after refused is_frame wrote s).told ∙ sym s.told ∙ option-append_nil (frames_since origin.bytes before.bytes)
+    (Stands-torn frame origin before after refused is_frame wrote s).told ∙ sym s.told ∙ option_map-back_none (frames_since origin.bytes before.bytes)
 
 -- header and payload are one frame
 pub IsFrame-joined : (header payload : List ℕ) → length header ≡ 16 → number header 0 4 ≡ 16 + length payload → IsFrame (header ++ payload)
@@ -327,4 +309,4 @@ pub PutsBytes-take : (piece rest : List ℕ) (count more : ℕ) (before middle a
 PutsBytes-take piece rest count more before middle after left p q =
     let parts : take count piece ++ take more rest ≡ take (count + more) piece =
     ap (λ behind. take count piece ++ take more behind) left ∙ sym (take-add count more piece) in
-    subst (λ put. PutsBytes put before after) parts (PutsBytes-append (take count piece) (take more rest) before middle after p q)
+    subst (λ put. PutsBytes put before after) parts (PutsBytes-then (take count piece) (take more rest) before middle after p q)

@@ -1,6 +1,7 @@
 //! A stream of bytes to write.
 ghost use Rattle.std.specs.Prelude.{◌<◌, length};
 ghost use Rattle.fuse_wire.specs.ByteSink.{ByteSinkState, Writes};
+ghost use Rattle.fuse_wire.specs.StreamSink.{WritesAll};
 
 /// What one write did.
 #[derive(Clone, Copy, Debug, PartialEq, Eq)]
@@ -20,4 +21,18 @@ pub trait ByteSink {
     fn write(&mut self, piece: &[u8]) -> ByteWrite
         requires { 0 < length piece.now }
         ensures { Writes result piece.now (told self.old) (told self.new) };
+}
+
+/// Writes the whole piece. False says that a write failed: then a front of it may have been written.
+pub fn write_all<O: ByteSink>(output: &mut O, piece: &[u8]) -> bool
+    ensures { WritesAll result piece.now (O.told output.old) (O.told output.new) }
+{
+    let mut count = 0;
+    while count < piece.len() {
+        match output.write(&piece[count..]) {
+            ByteWrite::Wrote(more) => count += more,
+            ByteWrite::Failed => return false,
+        }
+    }
+    true
 }

@@ -37,7 +37,7 @@ mod time;
 pub use access_flags::AccessFlags;
 pub use bsd_file_flags::BsdFileFlags;
 pub use buffer::receive_buffer;
-pub use byte_sink::{ByteSink, ByteWrite};
+pub use byte_sink::{ByteSink, ByteWrite, write_all};
 pub use byte_source::{ByteRead, ByteSource};
 pub use duration::Duration;
 pub use errno::Errno;

@@ -4,7 +4,7 @@ ghost use Rattle.fuse_wire.specs.Numbers.{number};
 ghost use Rattle.fuse_wire.specs.Sink.{Notes, Sends};
 ghost use Rattle.fuse_wire.specs.StreamSink.{Stands, WritesAll, stream_told};
 
-use crate::{ByteSink, ByteWrite, Noting, RequestId, Sending, Sink};
+use crate::{ByteSink, Noting, RequestId, Sending, Sink, write_all};
 use std::fmt;
 use std::snapshot::Snapshot;
 
@@ -64,21 +64,7 @@ impl<O: ByteSink> StreamSink<O> {
     }
 }
 
-/// Writes the whole piece, or says that a write failed.
-fn write_all<O: ByteSink>(inner: &mut O, piece: &[u8]) -> bool
-    ensures { WritesAll result piece.now (O.told inner.old) (O.told inner.new) }
-{
-    let mut count = 0;
-    while count < piece.len() {
-        match inner.write(&piece[count..]) {
-            ByteWrite::Wrote(more) => count += more,
-            ByteWrite::Failed => return false,
-        }
-    }
-    true
-}
-
-/// Writes the header and then the payload, or says that a write failed.
+/// Writes the header and then the payload, or answers false where a write failed.
 fn write_frame<O: ByteSink>(inner: &mut O, header: &[u8; 16], payload: &[u8]) -> bool
     ensures { WritesAll result (header.now ++ payload.now) (O.told inner.old) (O.told inner.new) }
 {

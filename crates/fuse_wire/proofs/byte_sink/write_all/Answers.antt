@@ -2,7 +2,7 @@
 use Rattle.std.proofs.Common.{◌≡◌, ◌-◌, ◌≤◌, ap, ◌∙◌, arith, length-drop, length, take, drop}
 use Rattle.std.proofs.lemmas.List.{take_rest}
 use Rattle.fuse_wire.proofs.StreamLaws.{PutsBytes-take}
-use Rattle.fuse_tree.proofs.generator.write_all.Goals as goal
+use Rattle.fuse_wire.proofs.byte_sink.write_all.Goals as goal
 
 pub loop-count-preserved : goal.loop-count-preserved
 loop-count-preserved g c =

@@ -1,6 +1,6 @@
 use Rattle.std.proofs.Common.{length, take, ◌-◌, ◌≤◌}
 use Rattle.fuse_wire.specs.ByteSink.{PutsBytes}
-use Rattle.fuse_tree.proofs.generator.write_all.Given as goal
+use Rattle.fuse_wire.proofs.byte_sink.write_all.Given as goal
 
 abbrev pub invariant-loop-count : goal.invariant-loop-count
 invariant-loop-count g l = record {
