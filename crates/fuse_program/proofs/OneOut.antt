@@ -22,7 +22,7 @@ use Rattle.fuse_header.specs.declared.request.Request.{Request}
 use Rattle.fuse_reply.specs.Answer.{Answer, IsLong}
 use Rattle.fuse_reply.specs.Answer.Answer.{Empty, Error, Directory}
 use Rattle.fuse_reply.specs.Frame.{reply}
-use Rattle.fuse_reply.specs.Listing.{DirEntry}
+use Rattle.fuse_reply.specs.Listing.{DirEntry, fitting}
 use Rattle.fuse_reply.specs.Reply.{RepliesWith}
 use Rattle.fuse_reply.specs.Sizes.{inline_size}
 use Rattle.fuse_reply.specs.declared.out.Out.{Out}
@@ -33,7 +33,7 @@ use Rattle.fuse_dispatch.specs.Owed.{IsPoll, Owed, OwedBy, OwedCall}
 use Rattle.fuse_dispatch.specs.Verdict.{Verdict, admitted, admitted_operation, asking, fixed_error, fixed_or, is_forget, serving, verdict, verdict_by}
 use Rattle.fuse_dispatch.specs.Verdict.Verdict.{Broken, Ends, Fixed, Forgets, Calls}
 use Rattle.fuse_tree.specs.Generated.{destroy, message, name_body, read_body, request, request_at, requests, write_body, x_after}
-use Rattle.fuse_tree.specs.Tree.{attributes, bytes, contents, entry, fitting, members, named, node_attr, tree_answer, tree_mark, tree_promise}
+use Rattle.fuse_tree.specs.Tree.{attributes, bytes, contents, entry, members, named, node_attr, tree_answer, tree_mark, tree_promise}
 use Rattle.fuse_tree.specs.declared.hello.Hello.{Hello}
 use Rattle.fuse_program.proofs.Messages.{All-map, good_message, opcode_field, size_field, read_length, write_length}
 

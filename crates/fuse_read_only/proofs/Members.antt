@@ -1,6 +1,6 @@
 -- The entries of a directory: one after another is added, up to the first that does not fit.
 use Rattle.std.proofs.Common.{◌≡◌, ◌⊎◌, inl, inr, ◌+◌, ◌<◌, ◌≤◌, ◌++◌, ℕ, suc, Bool, List, [], ◌∷◌, ◌∙◌, None, Some, ap, sym, refl, arith, subst}
-use Rattle.std.proofs.Common.{length, length-append, append_assoc, drop, min, get_or}
+use Rattle.std.proofs.Common.{length, length-append, append_assoc, drop, get_or}
 use Rattle.std.specs.Prelude.{if◌then◌else◌, Result, Ok, Err, IfErr}
 use Rattle.std.specs.List.{AllByRecursion, slice_get}
 use Rattle.std.proofs.lemmas.Bool.{le-ltb, lt-ltb}
@@ -10,10 +10,10 @@ use Rattle.std.proofs.lemmas.Grind.{flat_map-append}
 use Rattle.std.proofs.Math.Seq.{drop-cons}
 use Rattle.std.proofs.Math.ListN.{drop_of_length-le}
 use Rattle.fuse_reply.specs.Adding.{Listing}
-use Rattle.fuse_reply.specs.Listing.{DirEntry, Fits, dirent, listing}
+use Rattle.fuse_reply.specs.Listing.{DirEntry, Fits, dirent, fitting, listing}
 use Rattle.fuse_reply.specs.Answer.{IsDirEntry}
-use Rattle.fuse_reply.specs.Sizes.{max_payload}
-use Rattle.fuse_read_only.specs.Tree.{Member, fitting, followed_by, last_offset, numbered}
+use Rattle.fuse_reply.proofs.ListingLaws.{fitting-next, fitting-none}
+use Rattle.fuse_read_only.specs.Tree.{Member, followed_by, last_offset, numbered}
 
 -- what stands at a place is the first of what stands there and later
 numbered-from : (members : List Member) (place : ℕ) (m : Member) → slice_get members place ≡ Some m → place < last_offset
@@ -45,20 +45,6 @@ pub numbered-last : (members : List Member) (place : ℕ) → last_offset ≤ pl
 numbered-last [] place last = refl
 numbered-last (m ∷ members) place last =
     ap (λ (counts : Bool). if counts then followed_by (place + 1) m ∷ numbered (place + 1) members else []) (le-ltb place last_offset last)
-
--- an entry that fits is taken
-fitting-next : (size held : ℕ) (e : DirEntry) (entries : List DirEntry) → Fits size held (length (dirent e))
-    → fitting size held (e ∷ entries) ≡ e ∷ fitting size (held + length (dirent e)) entries
-fitting-next size held e entries fits =
-    ap (λ (full : Bool). if full then [] else e ∷ fitting size (held + length (dirent e)) entries)
-    (le-ltb (min size max_payload) (held + length (dirent e)) fits)
-
--- at one that does not fit the listing ends
-fitting-none : (size held : ℕ) (e : DirEntry) (entries : List DirEntry) → (Fits size held (length (dirent e)) → ⊥)
-    → fitting size held (e ∷ entries) ≡ []
-fitting-none size held e entries none =
-    ap (λ (full : Bool). if full then [] else e ∷ fitting size (held + length (dirent e)) entries)
-    (lt-ltb (min size max_payload) (held + length (dirent e)) (omega (arith, none)))
 
 -- an entry behind others, as bytes
 pub listing-add : (taken : List DirEntry) (e : DirEntry) → listing (taken ++ e ∷ []) ≡ listing taken ++ dirent e

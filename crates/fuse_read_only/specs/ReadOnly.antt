@@ -1,6 +1,6 @@
 -- What each call to a tree that is only looked at is answered, and the promise of that.
 use Rattle.std.specs.Prelude.{◌≡◌, ◌⊎◌, ◌<◌, ℕ, List, Option, None, Some, Ok, take, drop, length, min, false}
-use Rattle.fuse_wire.specs.ErrorNumbers.{ENOENT, ENOMEM}
+use Rattle.fuse_wire.specs.ErrorNumbers.{ENOENT, ENOMEM, EROFS}
 use Rattle.fuse_wire.specs.OpenMode.{acc_mode}
 use Rattle.fuse_wire.specs.declared.file_attr.FileAttr.{FileAttr}
 use Rattle.fuse_wire.specs.declared.open_flags.OpenAccMode.{OpenAccMode}
@@ -10,15 +10,11 @@ use Rattle.fuse_operations.specs.Call.Call.{Lookup, Forget, GetAttr, SetAttr, Sy
 use Rattle.fuse_operations.specs.Call.Call.{Read, Write, SetXAttr, RemoveXAttr, ReadDir, Create, BatchForget, FAllocate, CopyFileRange}
 use Rattle.fuse_reply.specs.Answer.{Answer}
 use Rattle.fuse_reply.specs.Answer.Answer.{Error, Data, Entry, Attr, Open as Opened, Directory}
-use Rattle.fuse_reply.specs.Listing.{DirEntry, listing}
+use Rattle.fuse_reply.specs.Listing.{DirEntry, fitting, listing}
 use Rattle.fuse_reply.specs.Sizes.{inline_size, max_payload}
 use Rattle.fuse_dispatch.specs.Defaults.{default_answer}
 use Rattle.fuse_dispatch.specs.Promise.{Promise}
-use Rattle.fuse_read_only.specs.Tree.{Tree, fitting, numbered}
-
--- nothing here can be changed (`asm-generic/errno-base.h`)
-abbrev pub EROFS : ℕ
-EROFS = 30
+use Rattle.fuse_read_only.specs.Tree.{Tree, numbered}
 
 -- an entry and its attributes hold for so long, and their generation is 0; without one the answer is ENOENT
 abbrev pub entry : (ttl : ℕ) → Option FileAttr → Answer

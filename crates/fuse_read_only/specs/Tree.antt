@@ -1,9 +1,8 @@
 -- A tree of files that is only looked at.
-use Rattle.std.specs.Prelude.{ℕ, ◌+◌, ◌-◌, ◌/◌, ◌%◌, ◌^◌, List, [], ◌∷◌, Option, pos, length, min, nat_lt, if◌then◌else◌}
+use Rattle.std.specs.Prelude.{ℕ, ◌+◌, ◌-◌, ◌/◌, ◌%◌, ◌^◌, List, [], ◌∷◌, Option, pos, min, nat_lt, if◌then◌else◌}
 use Rattle.fuse_wire.specs.declared.file_attr.FileAttr.{FileAttr}
 use Rattle.fuse_wire.specs.declared.file_attr.FileType.{FileType}
-use Rattle.fuse_reply.specs.Listing.{DirEntry, dirent}
-use Rattle.fuse_reply.specs.Sizes.{max_payload}
+use Rattle.fuse_reply.specs.Listing.{DirEntry}
 use Rattle.fuse_read_only.specs.declared.files.Entry.{Entry}
 
 -- what stands in a directory: a node, its kind, and its name there
@@ -40,12 +39,6 @@ last_offset = 2 ^ 64 - 1
 abbrev pub numbered : (place : ℕ) → List Member → List DirEntry
 numbered place [] = []
 numbered place (m ∷ members) = if nat_lt place last_offset then followed_by (place + 1) m ∷ numbered (place + 1) members else []
-
--- those of these entries that fit behind so many bytes, up to the first that does not
-abbrev pub fitting : (size held : ℕ) → List DirEntry → List DirEntry
-fitting size held [] = []
-fitting size held (e ∷ entries) =
-    if nat_lt (min size max_payload) (held + length (dirent e)) then [] else e ∷ fitting size (held + length (dirent e)) entries
 
 -- attributes of a node that belongs to root, whose times are 0, and whose contents take blocks of 512 bytes
 abbrev pub root_attr : (ino : ℕ) → FileType → (perm nlink size : ℕ) → FileAttr

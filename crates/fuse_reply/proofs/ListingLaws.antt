@@ -1,4 +1,4 @@
--- Entries of a directory: how long they are, and one more behind the others.
+-- Entries of a directory: how long they are, one more behind the others, and which of them fit.
 use Rattle.std.proofs.Common.{◌≡◌, ℕ, ◌+◌, ◌≤◌, List, [], ◌∷◌, ◌++◌, length, take, replicate, refl, ap, sym, ◌∙◌, arith}
 use Rattle.std.proofs.Common.{length-append, append_assoc, flat_map}
 use Rattle.std.proofs.Common.{Bool, true, false, Result, Ok, Err, OnErr, min, subst}
@@ -6,10 +6,12 @@ use Rattle.std.specs.List.{AllByRecursion}
 use Rattle.smallvec.specs.SmallVec.{SmallVec}
 use Rattle.fuse_wire.specs.declared.no_memory.NoMemory.{NoMemory}
 use Rattle.fuse_reply.specs.Sizes.{max_payload}
+use Rattle.std.specs.Prelude.{if◌then◌else◌}
+use Rattle.std.proofs.lemmas.Bool.{le-ltb, lt-ltb}
 use Rattle.std.proofs.lemmas.List.{append-nil, length-replicate, take-replicate}
 use Rattle.std.proofs.lemmas.Grind.{flat_map-append}
 use Rattle.fuse_reply.specs.Answer.{AreEntries}
-use Rattle.fuse_reply.specs.Listing.{DirEntry, PlusEntry, Fits, dirent, dirent_head, direntplus, padding, entry_type, without_lookup}
+use Rattle.fuse_reply.specs.Listing.{DirEntry, PlusEntry, Fits, dirent, dirent_head, direntplus, fitting, padding, entry_type, without_lookup}
 use Rattle.fuse_reply.specs.Attributes.{entry_payload}
 use Rattle.fuse_reply.proofs.PayloadLength.{length-entry_payload}
 
@@ -85,3 +87,17 @@ length-direntplus e =
       length-entry_payload e.valid e.valid e.generation e.attr,
       length-dirent (without_lookup e),
     )
+
+-- an entry that fits is listed
+pub fitting-next : (size held : ℕ) (e : DirEntry) (entries : List DirEntry) → Fits size held (length (dirent e))
+    → fitting size held (e ∷ entries) ≡ e ∷ fitting size (held + length (dirent e)) entries
+fitting-next size held e entries fits =
+    ap (λ (full : Bool). if full then [] else e ∷ fitting size (held + length (dirent e)) entries)
+    (le-ltb (min size max_payload) (held + length (dirent e)) fits)
+
+-- at one that does not fit the listing ends
+pub fitting-none : (size held : ℕ) (e : DirEntry) (entries : List DirEntry) → (Fits size held (length (dirent e)) → ⊥)
+    → fitting size held (e ∷ entries) ≡ []
+fitting-none size held e entries none =
+    ap (λ (full : Bool). if full then [] else e ∷ fitting size (held + length (dirent e)) entries)
+    (lt-ltb (min size max_payload) (held + length (dirent e)) (omega (arith, none)))

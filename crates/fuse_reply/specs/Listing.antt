@@ -1,5 +1,5 @@
 -- Entries of a directory, as READDIR and READDIRPLUS list them (`struct fuse_dirent` and `struct fuse_direntplus` of `fuse.h`).
-use Rattle.std.specs.Prelude.{ℕ, ◌+◌, ◌-◌, ◌/◌, ◌%◌, ◌≤◌, ◌^◌, ◌++◌, List, [], ◌∷◌, length, replicate, flat_map, min}
+use Rattle.std.specs.Prelude.{ℕ, ◌+◌, ◌-◌, ◌/◌, ◌%◌, ◌≤◌, ◌^◌, ◌++◌, List, [], ◌∷◌, length, replicate, flat_map, min, nat_lt, if◌then◌else◌}
 use Rattle.std.specs.Int.{w32, w64, to_le_bytes}
 use Rattle.fuse_wire.specs.declared.file_attr.FileAttr.{FileAttr}
 use Rattle.fuse_wire.specs.declared.file_attr.FileType.{FileType}
@@ -62,3 +62,9 @@ abbrev pub EachFits : {E : Type 0} → (E → List ℕ) → (size held : ℕ) �
 EachFits spelling size held [] = Unit {0}
 EachFits spelling size held (e ∷ entries) =
     Fits size held (length (spelling e)) × EachFits spelling size (held + length (spelling e)) entries
+
+-- those of these entries that fit behind so many bytes, up to the first that does not
+abbrev pub fitting : (size held : ℕ) → List DirEntry → List DirEntry
+fitting size held [] = []
+fitting size held (e ∷ entries) =
+    if nat_lt (min size max_payload) (held + length (dirent e)) then [] else e ∷ fitting size (held + length (dirent e)) entries

@@ -3,31 +3,17 @@ use Rattle.std.proofs.Common.{◌≡◌, ◌+◌, ◌≤◌, ◌++◌, ℕ, zero
 use Rattle.std.proofs.Common.{length, length-append, append_assoc, append-nil, drop, min}
 use Rattle.std.specs.Prelude.{if◌then◌else◌, codes, nat_lt, ◌&&◌}
 use Rattle.std.specs.List.{AllByRecursion}
-use Rattle.std.proofs.lemmas.Bool.{le-ltb, lt-ltb, ltb-true}
+use Rattle.std.proofs.lemmas.Bool.{ltb-true}
 use Rattle.fuse_reply.specs.Answer.{AreBytes, IsDirEntry}
 use Rattle.std.specs.List.{slice_get}
 use Rattle.std.proofs.lemmas.Option.{slice_get_within, get_or_from_slice_get}
 use Rattle.std.proofs.Math.Seq.{drop-cons}
 use Rattle.std.proofs.Math.ListN.{drop_of_length-le}
 use Rattle.fuse_wire.specs.declared.file_attr.FileType.TheVariants.{Directory, RegularFile}
-use Rattle.fuse_reply.specs.Listing.{DirEntry, Fits, dirent, listing}
+use Rattle.fuse_reply.specs.Listing.{DirEntry, Fits, dirent, fitting, listing}
 use Rattle.fuse_reply.specs.Sizes.{max_payload}
-use Rattle.fuse_reply.proofs.ListingLaws.{length-dirent}
-use Rattle.fuse_tree.specs.Tree.{fitting, member, members}
-
--- an entry that fits is added
-fitting-next : (size held : ℕ) (e : DirEntry) (entries : List DirEntry) → Fits size held (length (dirent e))
-    → fitting size held (e ∷ entries) ≡ e ∷ fitting size (held + length (dirent e)) entries
-fitting-next size held e entries fits =
-    ap (λ (full : Bool). if full then [] else e ∷ fitting size (held + length (dirent e)) entries)
-    (le-ltb (min size max_payload) (held + length (dirent e)) fits)
-
--- at one that does not fit the listing ends
-fitting-none : (size held : ℕ) (e : DirEntry) (entries : List DirEntry) → (Fits size held (length (dirent e)) → ⊥)
-    → fitting size held (e ∷ entries) ≡ []
-fitting-none size held e entries none =
-    ap (λ (full : Bool). if full then [] else e ∷ fitting size (held + length (dirent e)) entries)
-    (lt-ltb (min size max_payload) (held + length (dirent e)) (omega (arith, none)))
+use Rattle.fuse_reply.proofs.ListingLaws.{fitting-next, fitting-none, length-dirent}
+use Rattle.fuse_tree.specs.Tree.{member, members}
 
 -- the entry at a place is the first of those from there on
 pub members-from : (place : ℕ) (e : DirEntry) → slice_get members place ≡ Some e → drop place members ≡ e ∷ drop (place + 1) members

@@ -1,8 +1,9 @@
 -- The tree that the program serves: a directory with two files in it, and what each call to it gives.
-use Rattle.std.specs.Prelude.{◌≡◌, ◌+◌, ℕ, ◌==◌, List, [], ◌∷◌, Option, None, Some, Ok, pos, codes, take, drop, length, min, nat_lt, false, if◌then◌else◌}
+use Rattle.std.specs.Prelude.{◌≡◌, ℕ, ◌==◌, List, [], ◌∷◌, Option, None, Some, Ok, pos, codes, take, drop, length, false, if◌then◌else◌}
 use Rattle.std.specs.List.{range_with_len}
 use Rattle.std.specs.Str.{bytes_eq}
 use Rattle.fuse_wire.specs.ErrorNumbers.{ENOENT}
+use Rattle.fuse_wire.specs.Times.{nanos_per_second}
 use Rattle.fuse_wire.specs.declared.file_attr.FileAttr.{FileAttr}
 use Rattle.fuse_wire.specs.declared.file_attr.FileType.{FileType}
 use Rattle.fuse_wire.specs.declared.file_attr.FileType.TheVariants.{Directory, RegularFile}
@@ -10,8 +11,7 @@ use Rattle.fuse_operations.specs.Call.{Call}
 use Rattle.fuse_operations.specs.Call.Call.{Lookup, Forget, GetAttr, Read, ReadDir, BatchForget}
 use Rattle.fuse_reply.specs.Answer.{Answer}
 use Rattle.fuse_reply.specs.Answer.Answer.{Error, Data, Entry, Attr, Directory as Entries}
-use Rattle.fuse_reply.specs.Listing.{DirEntry, dirent}
-use Rattle.fuse_reply.specs.Sizes.{max_payload}
+use Rattle.fuse_reply.specs.Listing.{DirEntry, fitting}
 use Rattle.fuse_dispatch.specs.Defaults.{default_answer}
 use Rattle.fuse_dispatch.specs.Promise.{Promise, MayInit, MayAnswer, MayNote, MayDestroy}
 use Rattle.fuse_tree.specs.declared.hello.Hello.{Hello}
@@ -60,12 +60,6 @@ members =
     member 1 1 Directory (codes ".") ∷ member 1 2 Directory (codes "..") ∷ member 2 3 RegularFile (codes "hello.txt")
     ∷ member 3 4 RegularFile (codes "big") ∷ []
 
--- those of these entries that fit behind so many bytes, up to the first that does not
-abbrev pub fitting : (size held : ℕ) → List DirEntry → List DirEntry
-fitting size held [] = []
-fitting size held (e ∷ entries) =
-    if nat_lt (min size max_payload) (held + length (dirent e)) then [] else e ∷ fitting size (held + length (dirent e)) entries
-
 -- what the files hold: a greeting, and the numbers from 0 to 199
 abbrev pub contents : ℕ → Option (List ℕ)
 contents ino =
@@ -76,11 +70,11 @@ contents ino =
 -- an entry and its attributes hold for a second, and their generation is 0; without one the answer is ENOENT
 abbrev pub entry : Option FileAttr → Answer
 entry None = Error ENOENT
-entry (Some found) = Entry 1000000000 1000000000 0 found
+entry (Some found) = Entry nanos_per_second nanos_per_second 0 found
 
 abbrev pub attributes : Option FileAttr → Answer
 attributes None = Error ENOENT
-attributes (Some found) = Attr 1000000000 found
+attributes (Some found) = Attr nanos_per_second found
 
 -- the bytes from the offset on, at most so many
 abbrev pub bytes : (offset size : ℕ) → Option (List ℕ) → Answer

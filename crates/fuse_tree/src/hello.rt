@@ -1,7 +1,8 @@
 // The tree that the program serves.
 ghost use Rattle.std.specs.Prelude.{◌≡◌, ◌<◌, ◌+◌, [], Some, false, refl, take, drop, option_map, slice_get};
-ghost use Rattle.fuse_reply.specs.Listing.{listing};
-ghost use Rattle.fuse_tree.specs.Tree.{attr, contents, fitting, member, members, named, node_attr, tree_promise};
+ghost use Rattle.fuse_wire.specs.Times.{nanos_per_second};
+ghost use Rattle.fuse_reply.specs.Listing.{fitting, listing};
+ghost use Rattle.fuse_tree.specs.Tree.{attr, contents, member, members, named, node_attr, tree_promise};
 
 use fuse_config::KernelConfig;
 use fuse_dispatch::{Filesystem, defaults};
@@ -144,7 +145,7 @@ fn part(all: &[u8], offset: u64, size: u32) -> &[u8]
 
 /// How long entries and attributes hold.
 fn a_second() -> Duration
-    ensures { result ≡ 1000000000 }
+    ensures { result ≡ nanos_per_second }
 {
     Duration::new(1, 0)
 }

@@ -1,8 +1,8 @@
 use Rattle.std.proofs.Common.{◌≡◌, ◌++◌, List, length, drop}
 use Rattle.std.specs.List.{AllByRecursion}
 use Rattle.fuse_reply.specs.Answer.{IsDirEntry}
-use Rattle.fuse_reply.specs.Listing.{DirEntry, listing}
-use Rattle.fuse_read_only.specs.Tree.{fitting, numbered}
+use Rattle.fuse_reply.specs.Listing.{DirEntry, fitting, listing}
+use Rattle.fuse_read_only.specs.Tree.{numbered}
 use Rattle.fuse_read_only.specs.ReadOnly.{listing_of}
 use Rattle.fuse_read_only.proofs.listing.add_entries.Given as goal
 

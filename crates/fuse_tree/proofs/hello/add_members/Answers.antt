@@ -1,8 +1,8 @@
 use Rattle.std.proofs.Common.{◌≡◌, ◌+◌, ◌≤◌, ◌++◌, ◌∙◌, ℕ, Bool, true, false, List, Ok, ap, sym, subst, refl, arith, length, drop}
 use Rattle.fuse_wire.specs.declared.no_memory.NoMemory.{NoMemory}
 use Rattle.fuse_reply.specs.Adding.{Adds, Listing}
-use Rattle.fuse_reply.specs.Listing.{Fits, dirent, listing}
-use Rattle.fuse_tree.specs.Tree.{fitting, member, members}
+use Rattle.fuse_reply.specs.Listing.{Fits, dirent, fitting, listing}
+use Rattle.fuse_tree.specs.Tree.{member, members}
 use Rattle.fuse_tree.proofs.Members.{joined-full, joined-next, joined-start, short-from, short-next}
 use Rattle.fuse_tree.proofs.hello.add_members.Goals as goal
 

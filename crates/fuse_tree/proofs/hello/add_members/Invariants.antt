@@ -1,6 +1,6 @@
 use Rattle.std.proofs.Common.{◌≡◌, ◌+◌, ◌≤◌, ◌++◌, drop, length}
-use Rattle.fuse_reply.specs.Listing.{listing}
-use Rattle.fuse_tree.specs.Tree.{fitting, members}
+use Rattle.fuse_reply.specs.Listing.{fitting, listing}
+use Rattle.fuse_tree.specs.Tree.{members}
 use Rattle.fuse_tree.proofs.hello.add_members.Given as goal
 
 -- what is held, joined with what of the rest will fit, is the whole; and all of the rest would be held without memory

@@ -4,10 +4,10 @@ use Rattle.fuse_wire.specs.ErrorNumbers.{ENOENT}
 use Rattle.fuse_reply.specs.Answer.Answer.{Directory, Error}
 use Rattle.fuse_reply.specs.Frame.{reply}
 use Rattle.fuse_reply.specs.Adding.{Listing}
-use Rattle.fuse_reply.specs.Listing.{DirEntry, listing}
+use Rattle.fuse_reply.specs.Listing.{DirEntry, fitting, listing}
 use Rattle.fuse_reply.specs.declared.out.Out.TheVariants.{Frame}
 use Rattle.fuse_dispatch.proofs.Answering.{Answered-frame}
-use Rattle.fuse_tree.specs.Tree.{fitting, members}
+use Rattle.fuse_tree.specs.Tree.{members}
 use Rattle.fuse_tree.proofs.Members.{in_range-listed}
 use Rattle.fuse_tree.proofs.hello.HelloFilesystem.readdir.Goals as goal
 
