@@ -9,25 +9,25 @@ use Rattle.atomic_table.specs.Table.Act.{keeps}
 use Rattle.atomic_table.proofs.Lists.{at_set, at_snoc, set_again}
 use Rattle.fuse_reply.specs.declared.sight.Sight.{Sight}
 use Rattle.fuse_reply.specs.declared.sight.Sight.TheVariants.{Storing, Reading}
-use Rattle.fuse_reply.specs.SetOnce.{told, Fits, IsSetOnce, known_of, HasRead}
+use Rattle.fuse_reply.specs.SetOnce.{told, Agrees, IsSetOnce, known_of, HasRead}
 use Rattle.fuse_reply.specs.SetOnceLaws.{OneNumber, SetNumber, TwoCases, IsUnset, IsSetTo}
 
 abbrev Each : (seal word : ℕ) → List Sight → Type 0
-Each seal word views = (place : ℕ) (v : Sight) → get_elem? views place ≡ some v → Fits seal word place v
+Each seal word views = (place : ℕ) (v : Sight) → get_elem? views place ≡ some v → Agrees seal word place v
 
 -- what one seat knows changes
 each_set : (seal word : ℕ) (views : List Sight) (id : ℕ) (w : Sight)
-    → ((place : ℕ) (v : Sight) → place ≢ id → get_elem? views place ≡ some v → Fits seal word place v)
-    → Fits seal word id w → Each seal word (set views id w)
+    → ((place : ℕ) (v : Sight) → place ≢ id → get_elem? views place ≡ some v → Agrees seal word place v)
+    → Agrees seal word id w → Each seal word (set views id w)
 each_set seal word views id w others mine place v e =
     ⊎_elim
-    (λ (x : (place ≡ id) × (w ≡ v)). subst (λ (y : ℕ × Sight). Fits seal word y.0 y.1) (λ i. (sym x.0 i, x.1 i)) mine)
+    (λ (x : (place ≡ id) × (w ≡ v)). subst (λ (y : ℕ × Sight). Agrees seal word y.0 y.1) (λ i. (sym x.0 i, x.1 i)) mine)
     (λ (x : (place ≢ id) × (get_elem? views place ≡ some v)). others place v x.0 x.1)
     (at_set views id place w v e)
 
 -- a word that was 0 may become any number, where no other seat may store
 fresh : (seal word new place id : ℕ) (v : Sight)
-    → id ≡ seal → None ≡ told word → place ≢ id → Fits seal word place v → Fits seal new place v
+    → id ≡ seal → None ≡ told word → place ≢ id → Agrees seal word place v → Agrees seal new place v
 fresh seal word new place id (Storing known) here unset apart h = absurd (apart (h.0 ∙ sym here))
 fresh seal word new place id (Reading known) here unset apart h = inl (⊎_elim (λ e. e) (λ e. e ∙ sym unset) h)
 
@@ -35,7 +35,7 @@ fresh seal word new place id (Reading known) here unset apart h = inl (⊎_elim 
 pub stores : (slots id new : ℕ) (me : Me (Unit {0}) Sight)
     → me ≡ (Storing None, []) → Allows IsSetOnce slots id me 0 (λ _. new) (λ _ after. after ≡ (Storing (told new), []))
 stores slots id new me is s h homes at small =
-    let mine : Fits h.seal h.word id (Storing None) =
+    let mine : Agrees h.seal h.word id (Storing None) =
     h.each id (Storing None) (at ∙ ap (λ (m : Me (Unit {0}) Sight). some m.0) is) in (
       Storing (told new),
       keeps,
@@ -55,7 +55,7 @@ pub loads : (slots id : ℕ) (me : Me (Unit {0}) Sight)
     → me ≡ (Reading (known_of me.0), []) → Allows IsSetOnce slots id me 0 (λ n. n) (λ n after. HasRead me n after)
 loads slots id me is s h homes at small =
     let found : slice_index s.words 0 ≡ h.word = ap (λ l. slice_index l 0) h.words in
-    let mine : Fits h.seal h.word id (Reading (known_of me.0)) =
+    let mine : Agrees h.seal h.word id (Reading (known_of me.0)) =
     h.each id (Reading (known_of me.0)) (at ∙ ap (λ (m : Me (Unit {0}) Sight). some m.0) is) in
     let w = Reading (told (slice_index s.words 0)) in (
       w,
@@ -72,7 +72,7 @@ loads slots id me is s h homes at small =
 
 -- a seat that knows v splits off one that knows r
 splits : (id : ℕ) (v r : Sight)
-    → ((seal word place : ℕ) → Fits seal word id v → Fits seal word place r) → Splits IsSetOnce id v v r
+    → ((seal word place : ℕ) → Agrees seal word id v → Agrees seal word place r) → Splits IsSetOnce id v v r
 splits id v r may s h at =
     record {
       word = h.word;
@@ -80,7 +80,7 @@ splits id v r may s h at =
       seal = h.seal;
       each = λ place u e. ⊎_elim
           (λ was. h.each place u (subst (λ l. get_elem? l place ≡ some u) (set_again s.views id v at) was))
-          (λ (same : r ≡ u). subst (Fits h.seal h.word place) same (may h.seal h.word place (h.each id v at)))
+          (λ (same : r ≡ u). subst (Agrees h.seal h.word place) same (may h.seal h.word place (h.each id v at)))
           (at_snoc (set s.views id v) r u place e);
     }
 

@@ -12,16 +12,16 @@ told zero = None
 told (suc n) = Some n
 
 -- the Seal stands at its own place and knows what the word tells; a reading seat knows nothing, or that
-abbrev pub Fits : (seal word place : ℕ) → Sight → Type 0
-Fits seal word place (Storing known) = (place ≡ seal) × (known ≡ told word)
-Fits seal word place (Reading known) = (known ≡ None) ⊎ (known ≡ told word)
+abbrev pub Agrees : (seal word place : ℕ) → Sight → Type 0
+Agrees seal word place (Storing known) = (place ≡ seal) × (known ≡ told word)
+Agrees seal word place (Reading known) = (known ≡ None) ⊎ (known ≡ told word)
 
 -- there is one word, and what each seat knows fits it
 pub record IsSetOnce (s : State (Unit {0}) Sight) : Type 0 where
   pub word : ℕ
   pub words : s.words ≡ word ∷ []
   pub seal : ℕ
-  pub each : (place : ℕ) (v : Sight) → get_elem? s.views place ≡ some v → Fits seal word place v
+  pub each : (place : ℕ) (v : Sight) → get_elem? s.views place ≡ some v → Agrees seal word place v
 
 -- the number that a seat knows
 abbrev pub known_of : Sight → Option ℕ

@@ -48,7 +48,8 @@ pub fn put_entry(
     Ok(false)
 }
 
-/// Makes room for so many more bytes. What is held grows to twice its room, but not past the limit.
+/// Makes room for so many more bytes. Where there is not enough, the room grows to twice what it was, or to what is
+/// wanted if that is more, but not past the limit.
 fn make_room(
     held: &mut SmallVec<u8, INLINE_SIZE>,
     more: usize,
@@ -58,7 +59,8 @@ fn make_room(
     ensures room { OnOk result (HasRoomFor held.new more) }
     ensures same { held.new.items ≡ held.old.items }
     ensures doubles { held.old.capacity < held.new.capacity → min (2 * held.old.capacity) limit ≤ held.new.capacity }
-    ensures within { held.new.capacity ≤ max held.old.capacity limit }
+    ensures within { held.new.capacity ≤ max held.old.capacity
+        (min limit (max (2 * held.old.capacity) (small_vec_len held.old + more))) }
     ensures err { OnErr result (held.new ≡ held.old) }
     ensures inline { small_vec_len held.old + more ≤ inline_size → IsOk result }
 {

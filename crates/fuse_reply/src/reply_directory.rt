@@ -5,7 +5,7 @@ ghost use Rattle.fuse_reply.specs.Sizes.{inline_size};
 ghost use Rattle.fuse_reply.specs.Frame.{reply};
 ghost use Rattle.fuse_reply.specs.Adding.{Adds};
 ghost use Rattle.fuse_reply.specs.Listing.{DirEntry, dirent, listing};
-ghost use Rattle.fuse_reply.specs.Answer.{IsAnswer, IsDirEntry};
+ghost use Rattle.fuse_reply.specs.Answer.{IsAnswer, IsDirEntry, IsListing};
 ghost use Rattle.fuse_reply.specs.Answer.Answer.{Directory};
 ghost use Rattle.fuse_reply.specs.declared.out.Out.{Out};
 
@@ -63,6 +63,7 @@ impl ReplyListing<DirEntries> {
             → result ≡ Out.Frame (reply self.id (Directory entries)) }
         ensures answer { (entries : List DirEntry) → AllByRecursion IsDirEntry entries → self.held ≡ listing entries
             → IsAnswer (Directory entries) }
+        ensures entries { IsListing self.held }
         ensures within { length self.held ≤ self.size }
     {
         let ReplyListing {

@@ -5,7 +5,7 @@ ghost use Rattle.fuse_reply.specs.Sizes.{inline_size};
 ghost use Rattle.fuse_reply.specs.Frame.{reply};
 ghost use Rattle.fuse_reply.specs.Adding.{Adds};
 ghost use Rattle.fuse_reply.specs.Listing.{PlusEntry, direntplus, plus_listing};
-ghost use Rattle.fuse_reply.specs.Answer.{IsAnswer, IsPlusEntry};
+ghost use Rattle.fuse_reply.specs.Answer.{IsAnswer, IsPlusEntry, IsPlusListing};
 ghost use Rattle.fuse_reply.specs.Answer.Answer.{DirectoryPlus};
 ghost use Rattle.fuse_reply.specs.declared.out.Out.{Out};
 
@@ -83,6 +83,7 @@ impl ReplyListing<PlusEntries> {
             → result ≡ Out.Frame (reply self.id (DirectoryPlus entries)) }
         ensures answer { (entries : List PlusEntry) → AllByRecursion IsPlusEntry entries
             → self.held ≡ plus_listing entries → IsAnswer (DirectoryPlus entries) }
+        ensures entries { IsPlusListing self.held }
         ensures within { length self.held ≤ self.size }
     {
         let ReplyListing {
