@@ -5,7 +5,8 @@ ghost use Rattle.fuse_reply.specs.Frame.{reply};
 ghost use Rattle.fuse_reply.specs.declared.out.Out.{Out};
 
 use crate::error_reply::refusal;
-use fuse_reply::{Out, ReplyEmpty};
+use fuse_loop::destroy_reply;
+use fuse_reply::Out;
 use fuse_request::Request;
 use fuse_wire::{Errno, INodeNo, RequestId};
 use std::alloc::Global;
@@ -29,9 +30,9 @@ impl Asked {
 
     /// The reply to DESTROY.
     #[inline(always)]
-    pub(crate) fn destroyed(&self) -> Out
+    pub(crate) fn destroy_reply(&self) -> Out
         ensures { result ≡ Out.Frame (reply self.now.id.0 Empty) }
     {
-        ReplyEmpty::new(self.alloc, self.id).ok().into_out()
+        destroy_reply(self.alloc, self.id)
     }
 }

@@ -87,7 +87,7 @@ impl<H: Handler> Service<H> {
             Operation::BMap(operation) => self.handler.bmap(asked, giving, operation),
             Operation::Destroy(_) => {
                 giving.unused();
-                asked.destroyed()
+                asked.destroy_reply()
             }
             Operation::IoCtl(operation) => self.handler.ioctl(asked, giving, operation),
             Operation::Poll(operation) => self.handler.poll(asked, giving, notifier, operation),

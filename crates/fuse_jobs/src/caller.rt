@@ -14,7 +14,7 @@ ghost use Rattle.fuse_jobs.specs.Answered.{IsCaller};
 
 use crate::worker::answer_job;
 use fuse_line::{Line, Pass};
-use fuse_loop::{Answerer, Incoming, Intake, RequestJob, Taken, Work, destroyed};
+use fuse_loop::{Answerer, Incoming, Intake, RequestJob, Taken, Work, destroy_reply};
 use fuse_reply::Parcel;
 use fuse_sender::Stopped;
 use fuse_wire::{NoMemory, Source};
@@ -215,7 +215,7 @@ pub fn answer_last<R: Wait + AllocGlobal, W: Work>(
         caller.new.jobs.hand caller.new.frames.hand }
 {
     if let Stopped::Destroy(seq, id) = stopped {
-        let out = destroyed(rt.alloc(), id);
+        let out = destroy_reply(rt.alloc(), id);
         frames.push_waiting(rt, &mut caller.frames, Parcel::Prompt(seq, out));
     }
 }

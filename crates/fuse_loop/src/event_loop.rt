@@ -5,7 +5,7 @@ ghost use Rattle.fuse_reply.specs.Frame.{reply};
 ghost use Rattle.fuse_loop.specs.EventLoop.{OneTurn, Run};
 ghost use Rattle.fuse_loop.specs.Lines.{IsOn, IsUnused, notices_in, unasked_of};
 ghost use Rattle.fuse_core.specs.OneEach.{InOrder};
-ghost use Rattle.fuse_loop.specs.Progress.{PassesOnAll, Quiet, beside, nothing_yet, progress};
+ghost use Rattle.fuse_loop.specs.Progress.{NoticesAlone, PassesOnAll, Progress, Quiet, beside, nothing_yet, progress};
 
 use crate::run_line::RunLine;
 use crate::{Buffers, Channel, End, Incoming, Lines, RunEnd, Taken, Work};
@@ -17,7 +17,7 @@ use std::sync::Wait;
 
 /// The reply to DESTROY, which is given by the run itself.
 #[inline(always)]
-pub fn destroyed(alloc: Global, id: RequestId) -> Out
+pub fn destroy_reply(alloc: Global, id: RequestId) -> Out
     ensures { result ≡ Out.Frame (reply id.0 Empty) }
 {
     ReplyEmpty::new(alloc, id).ok().into_out()
@@ -46,7 +46,7 @@ fn take_turn<R: Wait + AllocGlobal, W: Work, S: Source, K: Sink>(
     match Incoming::of(message) {
         Incoming::Broken(error) => Some(End::Broken(error)),
         Incoming::Destroy(id) => {
-            channel.deliver(destroyed(rt.alloc(), id));
+            channel.deliver(destroy_reply(rt.alloc(), id));
             Some(End::Destroyed)
         }
         Incoming::Request => {
@@ -57,7 +57,30 @@ fn take_turn<R: Wait + AllocGlobal, W: Work, S: Source, K: Sink>(
     }
 }
 
-/// Answers messages until the source has none left, or one ends the run. After each the notices that wait are sent.
+/// A turn of the loop: takes the message of this number and answers it, and then sends the notices that wait. None is
+/// that the run goes on.
+#[inline(always)]
+fn next_turn<R: Wait + AllocGlobal, W: Work, S: Source, K: Sink>(
+    rt: &R,
+    work: &W,
+    notifier: &mut Notifier,
+    seq: u64,
+    channel: &mut Channel<S, K>,
+    frames: &mut RunLine<Parcel>,
+) -> Option<End>
+    requires { W.DEFERS ≡ false }
+    ensures turn { (between : Progress) × (between.unasked ≡ notices_in frames.old.hand.taken)
+        × OneTurn (W.owed work.now) seq result
+        (beside channel.old.progress (notices_in frames.old.hand.taken)) between
+        × NoticesAlone between (beside channel.new.progress (notices_in frames.new.hand.taken)) }
+    ensures lines { (frames.new.line ≡ frames.old.line) × (notifier.new.line ≡ notifier.old.line) }
+{
+    let ended = take_turn(rt, work, notifier, seq, channel);
+    channel.pass_on_notices(rt, frames);
+    ended
+}
+
+/// Answers messages until the source has none left, or one ends the run.
 #[inline(always)]
 fn answer_in_turn<R: Wait + AllocGlobal, W: Work, S: Source, K: Sink>(
     rt: &R,
@@ -74,9 +97,7 @@ fn answer_in_turn<R: Wait + AllocGlobal, W: Work, S: Source, K: Sink>(
 {
     let mut seq: u64 = 0;
     for _ in rt.forever() {
-        let ended = take_turn(rt, work, notifier, seq, channel);
-        channel.pass_on_notices(rt, frames);
-        match ended {
+        match next_turn(rt, work, notifier, seq, channel, frames) {
             Some(end) => return end,
             None => seq = seq.saturating_add(1),
         }

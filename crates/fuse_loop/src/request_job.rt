@@ -10,7 +10,7 @@ use std::alloc::Global;
 use std::marker::Model;
 
 /// Messages of up to so many bytes are copied into their place on the line itself.
-const INLINE_MESSAGE: usize = 128;
+pub(crate) const INLINE_MESSAGE: usize = 128;
 
 /// A job on its way to a worker. A contract sees it as a job, whose message is a request, always.
 #[derive(Drop)]

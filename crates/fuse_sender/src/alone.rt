@@ -14,7 +14,7 @@ use crate::relay::Relay;
 use crate::sender::send_rest;
 use crate::stopped::Stopped;
 use fuse_line::{Line, Pass};
-use fuse_loop::{Answerer, Incoming, Intake, Taken, Work, destroyed};
+use fuse_loop::{Answerer, Incoming, Intake, Taken, Work, destroy_reply};
 use fuse_reply::Parcel;
 use fuse_wire::{Sink, Source};
 use std::alloc::AllocGlobal;
@@ -43,7 +43,7 @@ fn answer_next<R: Wait + AllocGlobal, W: Work, S: Source, K: Sink>(
     match Incoming::of(message) {
         Incoming::Broken(error) => Some(Stopped::Broken(error)),
         Incoming::Destroy(id) => {
-            relay.deliver(destroyed(rt.alloc(), id));
+            relay.deliver(destroy_reply(rt.alloc(), id));
             Some(Stopped::Destroy(seq, id))
         }
         Incoming::Request => {

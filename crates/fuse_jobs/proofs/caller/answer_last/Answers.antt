@@ -33,9 +33,9 @@ returns-in-Destroy-clause-caller g c ms before after hears caller =
     let pays : owed (number_of (length ms)) m frame =
     (law c.args.work.now (number_of (length ms)) m stops.2, (λ no. tt), destroy-not-broken m stops.2) in
     let answered = Caller-answered owed ms j f m frame caller pays in
-    let is : frame ≡ c.destroyed-out.result = ap (λ (id : ℕ). Frame (reply id Empty)) (sym stops.3) ∙ sym c.destroyed-out.ensures in
+    let is : frame ≡ c.destroy_reply-out.result = ap (λ (id : ℕ). Frame (reply id Empty)) (sym stops.3) ∙ sym c.destroy_reply-out.ensures in
     let numbered = subst (λ (n : ℕ). IsCaller owed (ms ++ m ∷ []) j (with_put f (Prompt n frame))) (sym stops.4) answered in
     let sent = subst (λ (out : Out). IsCaller owed (ms ++ m ∷ []) j (with_put f (Prompt c.in-Destroy.seq out))) is numbered in
     subst (λ (s : Stopped). IsCaller owed (ms ++ answered_last s hears.last) j c.push_waiting.new.pass.hand) (sym c.in-Destroy.is)
     (subst (λ (v : Hand Parcel). IsCaller owed (ms ++ hears.last) j v) (sym c.push_waiting.ensures.hand)
-    (subst (λ (l : List (List ℕ)). IsCaller owed (ms ++ l) j (with_put f (Prompt c.in-Destroy.seq c.destroyed-out.result))) (sym stops.1) sent))
+    (subst (λ (l : List (List ℕ)). IsCaller owed (ms ++ l) j (with_put f (Prompt c.in-Destroy.seq c.destroy_reply-out.result))) (sym stops.1) sent))

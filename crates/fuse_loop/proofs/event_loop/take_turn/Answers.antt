@@ -34,7 +34,7 @@ returns-in-Destroy-clause-turn g c = λ place number.
     (Frame (reply (id_of m) Empty)) c.in-Message.ensures number arrives.0
     ((g.met.W.Work g.world.𝓛 g.world.𝓜 g.world.𝓡 ((λ s x. x), (λ x. x), (λ x. x), λ x. x)).owed_to_destroy c.args.work.now c.args.seq m arrives.0) tt
     (subst (λ (id : ℕ). DeliversOnce (Frame (reply id Empty)) c.take_message.new.self c.deliver.new.self) arrives.1
-    (subst (λ (out : Out). DeliversOnce out c.take_message.new.self c.deliver.new.self) c.destroyed.ensures c.deliver.ensures))
+    (subst (λ (out : Out). DeliversOnce out c.take_message.new.self c.deliver.new.self) c.destroy_reply.ensures c.deliver.ensures))
 
 pub returns-in-Request-clause-turn : goal.returns-in-Request-clause-turn
 returns-in-Request-clause-turn g c = λ place number.

@@ -38,9 +38,9 @@ returns-in-Destroy-clause-turn g c =
     let hears = HearsLast-destroy c.args.seq c.in-Message.count c.in-Destroy.id _ _ c.in-Message.ensures arrives.0 arrives.1 in
     let stops = hears.stops in
     let m = stops.0 in
-    let out = c.destroyed.result in
+    let out = c.destroy_reply.result in
     let law = (g.met.W.Work g.world.𝓛 g.world.𝓜 g.world.𝓡 ((λ s x. x), (λ x. x), (λ x. x), λ x. x)).owed_to_destroy in
-    let is : Frame (reply (id_of m) Empty) ≡ out = ap (λ (id : ℕ). Frame (reply id Empty)) (sym stops.3) ∙ sym c.destroyed.ensures in
+    let is : Frame (reply (id_of m) Empty) ≡ out = ap (λ (id : ℕ). Frame (reply id Empty)) (sym stops.3) ∙ sym c.destroy_reply.ensures in
     let pays : owed c.args.seq m out =
     subst (λ (o : Out). owed c.args.seq m o) is (law c.args.work.now c.args.seq m stops.2, (λ _. tt), destroy-not-broken m stops.2) in (
       hears,
