@@ -2,6 +2,7 @@
 use Rattle.std.proofs.Common.{◌≡◌, ◌⊎◌, ◌∙◌, ◌++◌, ◌+◌, ◌∷◌, [], ℕ, suc, Bool, true, false, List, ap, append-nil, arith, inl, inr}
 use Rattle.std.proofs.Common.{length, map, min, refl, subst, sym}
 use Rattle.std.specs.Prelude.{remove}
+use Rattle.std.specs.List.{All, Contains}
 use Rattle.fuse_wire.specs.Faults.{last_count}
 use Rattle.fuse_wire.specs.Source.{SourceState, NothingLeft, Failed as SourceFailed}
 use Rattle.fuse_wire.specs.Sink.{SinkState, Note}
@@ -29,7 +30,7 @@ use Rattle.fuse_sender.specs.declared.stopped.Stopped.TheVariants.{Gone, Destroy
 use Rattle.fuse_core.specs.declared.state.Job.{Job}
 use Rattle.fuse_loop.specs.declared.transcript.Transcript.{Transcript}
 use Rattle.fuse_book.proofs.Bookkeeping.{IsBookOf-matches}
-use Rattle.fuse_workers.proofs.LateReplies.{each-let_go, gone-matched, none-gone, none-unused, replies-gone}
+use Rattle.fuse_workers.proofs.LateReplies.{each-arrived, each-let_go, gone-matched, none-arrived, none-gone, none-unused, replies-gone}
 use Rattle.fuse_sender.proofs.Pairing.{OneEach-parts, Pairs-all, Parts-prompt}
 use Rattle.fuse_loop.proofs.Quieting.{LeavesOut-none}
 use Rattle.fuse_workers.proofs.Splitting.{Split, bytes_of, frames_gone, split}
@@ -190,11 +191,20 @@ module _ (owed : Owing) (defers : Bool) where
     let-go-by came same (inr never) =
         subst (λ (marks : List Note). EachLetGo marks came (frames_gone relays.gone)) (sym (unmarked never)) (none-unused came (frames_gone relays.gone))
 
+    arrived-by : (came : List LateSeen) → lates_in parcels ≡ came → (b'.book.unrecorded ≡ 0) ⊎ (defers ≡ false)
+        → All (Contains came) (frames_gone relays.gone)
+    arrived-by came same (inl whole) =
+        each-arrived b'.book relays.marks came relays.gone
+        (subst (λ (l : List LateSeen). IsBookOf b'.book relays.marks (map with_tag l) relays.gone) same book) (relays.own fresh).1 whole
+    arrived-by came same (inr never) =
+        subst (λ (gone : List (Tag × LateSeen)). All (Contains came) (frames_gone gone)) (sym (none-late never)) (none-arrived came)
+
     pub NoneHeldBack-kept : (came : List LateSeen) (recorded : Type 0) → lates_in parcels ≡ came
         → (recorded → (b'.book.unrecorded ≡ 0) ⊎ (defers ≡ false)) → NoneHeldBack owed IsBroken came recorded ms relays.sent relays.notes relays.lost
     unfolding OneEachLater-kept
     NoneHeldBack-kept came recorded same kept = record {
       one_each = OneEachLater-kept;
+      arrived = λ r. arrived-by came same (kept r);
       let_go = λ r. let-go-by came same (kept r);
     }
 

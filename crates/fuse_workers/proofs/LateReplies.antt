@@ -10,7 +10,7 @@ use Rattle.fuse_book.specs.Matched.{HasUnused, Matched, Tag}
 use Rattle.fuse_workers.specs.OneEachLater.{EachLetGo}
 use Rattle.fuse_sender.specs.Relays.{IsLateReply, is_own, with_tag}
 use Rattle.fuse_book.specs.declared.book.Book.{Book}
-use Rattle.fuse_book.proofs.Bookkeeping.{IsBookOf-matches, IsBookOf-sent, first_or_later, Contains-first, Contains-later}
+use Rattle.fuse_book.proofs.Bookkeeping.{IsBookOf-came, IsBookOf-matches, IsBookOf-sent, first_or_later, Contains-first, Contains-later}
 use Rattle.fuse_book.proofs.Matching.{same_is}
 use Rattle.fuse_workers.proofs.Splitting.{frames_gone}
 
@@ -45,6 +45,10 @@ pub none-gone : (gone : List (Tag × LateSeen)) → Matched [] (tags_of gone) �
 none-gone [] matched = refl
 none-gone (g ∷ gone) matched = absurd (none-some _ matched.1)
 
+-- none of none
+pub none-arrived : (came : List LateSeen) → All (Contains came) []
+none-arrived came = λ place default within. absurd (omega (arith, within))
+
 pub none-unused : (came gone : List LateSeen) → EachLetGo [] came gone
 none-unused came gone = λ place default within. inr (λ unused. omega (arith, unused))
 
@@ -71,6 +75,14 @@ module _ (book : Book LateSeen) (marks : List Tag) (came : List LateSeen) (gone 
 
   all : gone ≡ map with_tag (frames_gone gone)
   all = their-own book marks (map with_tag came) gone is own
+
+  -- each that was let go had come
+  pub each-arrived : All (Contains came) (frames_gone gone)
+  each-arrived =
+      All-weaker (λ l. Contains (map with_tag came) (with_tag l)) (λ l. Contains came l) (λ l. contains-frame l came) (frames_gone gone)
+      (all-under (λ l. Contains (map with_tag came) l) (frames_gone gone)
+      (subst (λ (x : List (Tag × LateSeen)). All (Contains (map with_tag came)) x) all
+      (IsBookOf-came book marks (map with_tag came) gone is whole)))
 
   -- each that came was let go, or has no unused mark
   pub each-let_go : EachLetGo marks came (frames_gone gone)

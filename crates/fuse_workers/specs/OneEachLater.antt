@@ -31,8 +31,10 @@ pub record OneEachLater (owed : Owing) (broken : List ℕ → Type 0) (messages 
 abbrev pub EachLetGo : (marks : List Noted) → (came gone : List LateSeen) → Type 0
 EachLetGo marks came gone = All (λ l. Contains gone l ⊎ ¬ (HasUnused marks (map late_tag gone) (late_tag l))) came
 
--- The same; and where all could be recorded, none of the late frames that came was held back whose mark came.
+-- The same; and where all could be recorded, each late frame that was let go had come, and none that came was held back whose mark
+-- came.
 pub record NoneHeldBack (owed : Owing) (broken : List ℕ → Type 0) (came : List LateSeen) (recorded : Type 0)
     (messages frames : List (List ℕ)) (notes : List Noted) (lost : List Out) : Type 0 where
   pub one_each : OneEachLater owed broken messages frames notes lost
+  pub arrived : recorded → All (Contains came) one_each.gone
   pub let_go : recorded → EachLetGo one_each.marks came one_each.gone

@@ -5,6 +5,7 @@
 //! note each.
 #![tactic(auto)]
 
+mod closing;
 pub mod laws;
 mod lent;
 mod threads;

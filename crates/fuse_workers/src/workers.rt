@@ -24,6 +24,7 @@ ghost use Rattle.fuse_loop.specs.Progress.{PassesOnAll, Quiet, nothing_yet, prog
 ghost use Rattle.fuse_jobs.specs.Answered.{IsCaller};
 ghost use Rattle.fuse_loop.specs.Answering.{answering};
 
+use crate::closing::{Closed, mark_end, send_last};
 use crate::lent::{LentEnds, take_back};
 use crate::threads::{MOST_WORKERS, Worker, join_workers, start_sender, start_workers};
 use fuse_book::Book;
@@ -90,7 +91,7 @@ fn answer_all<'s, E, W: Work, S: Source, R: Threads + Wait + AllocGlobal + Sync>
     raise(flags);
     jobs.wake();
     join_workers(rt, work, jobs, frames, caller, workers);
-    ending.set(intake.received);
+    mark_end(caller, ending, intake.received);
     answer_rest(rt, work, jobs, frames, caller);
     answer_last(rt, work, stopped, frames, caller);
     stopped
@@ -105,9 +106,10 @@ fn answer_alone<W: Work, S: Source, K: Sink, R: Wait + AllocGlobal>(
     relay: &mut Relay<K>,
     caller: &mut Caller,
     ending: &mut Ending,
-) -> Stopped
+) -> (Stopped, Closed)
     requires line { caller.old.frames.line ≡ frames.now }
     requires hand { caller.old.frames.hand ≡ hand First 0 [] caller.old.frames.hand.taken }
+    requires no_worker { caller.old.jobs.hand.others ≡ 0 }
     requires unmarked { ending.old.set ≡ None }
     ensures line { caller.new.frames.line ≡ frames.now }
     ensures same { (caller.new.jobs ≡ caller.old.jobs)
@@ -115,7 +117,7 @@ fn answer_alone<W: Work, S: Source, K: Sink, R: Wait + AllocGlobal>(
     ensures marked { ending.new ≡ ended_by ending.old intake.new.received }
     ensures alone { (more : List Goes)
         × (caller.new.frames.hand ≡ hand First 0 [] (caller.old.frames.hand.taken ++ more))
-        × ServesAlone (answering (W.owed work.now) W.DEFERS) result more intake.old intake.new
+        × ServesAlone (answering (W.owed work.now) W.DEFERS) result.0 more intake.old intake.new
         (relay_of relay.old.outlet relay.old.book) (relay_of relay.new.outlet relay.new.book) }
     ensures settled { IsSettled is_prompt caller.new.frames.hand }
 {
@@ -129,9 +131,9 @@ fn answer_alone<W: Work, S: Source, K: Sink, R: Wait + AllocGlobal>(
         &mut caller.frames,
         relay,
     );
-    ending.set(intake.received);
-    send_rest(rt, frames, &mut caller.frames, relay);
-    stopped
+    mark_end(caller, ending, intake.received);
+    let closed = send_last(rt, frames, &mut caller.frames, relay, ending);
+    (stopped, closed)
 }
 
 /// Conducts a run in a scope whose threads it starts: one that sends, and workers up to the number of flags. Where
@@ -154,7 +156,7 @@ fn conduct<
     no_more: &'s AtomicBool,
     lent: LentEnds<'a, S, K>,
     workers: Vec<Worker<W>>,
-) -> (Stopped, LentEnds<'a, S, K>)
+) -> (Stopped, LentEnds<'a, S, K>, Closed)
     requires lines { CallerOn jobs.now frames.now lent.caller }
     requires hands { (lent.caller.jobs.hand ≡ hand First 0 [] []) × (lent.caller.frames.hand ≡ hand First 0 [] []) }
     requires workers { (workers.items ≡ []) × (length flags.now ≤ vec_capacity workers) }
@@ -181,14 +183,22 @@ fn conduct<
         Err(back) => {
             let LentRelay { relay, pass } = back;
             frames.join(&mut caller.frames, pass);
-            let stopped = answer_alone(rt, work, frames, intake, relay, &mut caller, &mut ending);
+            let (stopped, closed) = answer_alone(
+                rt,
+                work,
+                frames,
+                intake,
+                relay,
+                &mut caller,
+                &mut ending,
+            );
             let lent = LentEnds {
                 intake,
                 relay,
                 caller,
                 ending,
             };
-            return (stopped, lent);
+            return (stopped, lent, closed);
         }
     };
     let stopped = answer_all(
@@ -207,14 +217,14 @@ fn conduct<
     frames.wake();
     let LentRelay { relay, pass } = sender.join(rt);
     frames.join(&mut caller.frames, pass);
-    send_rest(rt, frames, &mut caller.frames, relay);
+    let closed = send_last(rt, frames, &mut caller.frames, relay, &ending);
     let lent = LentEnds {
         intake,
         relay,
         caller,
         ending,
     };
-    (stopped, lent)
+    (stopped, lent, closed)
 }
 
 /// Conducts a run in a scope of its own, at whose end no thread is left.
@@ -226,7 +236,7 @@ fn run_in_scope<'a, W: Work, S: Source, K: Sink + Send, R: Threads + Wait + Allo
     flags: &[AtomicBool],
     lent: LentEnds<'a, S, K>,
     workers: Vec<Worker<W>>,
-) -> (Stopped, LentEnds<'a, S, K>)
+) -> (Stopped, LentEnds<'a, S, K>, Closed)
     requires lines { CallerOn jobs.now frames.now lent.caller }
     requires hands { (lent.caller.jobs.hand ≡ hand First 0 [] []) × (lent.caller.frames.hand ≡ hand First 0 [] []) }
     requires workers { (workers.items ≡ []) × (length flags.now ≤ vec_capacity workers) }
@@ -246,7 +256,7 @@ fn run_in_scope<'a, W: Work, S: Source, K: Sink + Send, R: Threads + Wait + Allo
     thread::scope(
         thread::scope_env(),
         rt,
-        |scope| -> (Stopped, LentEnds<S, K>)
+        |scope| -> (Stopped, LentEnds<S, K>, Closed)
             requires lines { CallerOn jobs.now frames.now lent.caller }
             requires hands { (lent.caller.jobs.hand ≡ hand First 0 [] [])
                 × (lent.caller.frames.hand ≡ hand First 0 [] []) }
@@ -327,7 +337,15 @@ fn run_with<S: Source, K: Sink + Send, W: Work, R: Threads + Wait + AllocGlobal 
         caller,
         ending,
     };
-    let (stopped, back) = run_in_scope(rt, work, jobs, frames, flags.as_slice(), lent, workers);
+    let (stopped, back, _closed) = run_in_scope(
+        rt,
+        work,
+        jobs,
+        frames,
+        flags.as_slice(),
+        lent,
+        workers,
+    );
     let LentEnds {
         intake: taken,
         relay: sent,

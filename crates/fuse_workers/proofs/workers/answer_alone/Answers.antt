@@ -21,10 +21,10 @@ returns-clause-alone g c =
     let alone = c.answer_in_turn_alone-stopped.ensures.hand in
     let mid = c.answer_in_turn_alone-stopped.new.pass.hand in
     let mid_hand = alone-taken taken first.0 alone.0 c.send_rest.new.pass.hand mid first_hand alone.1 in
-    let last = c.send_rest-2.ensures.more in
-    let last_is = alone-hand mid c.send_rest-2.new.pass.hand last.0 (alone-itself mid _ mid_hand) last.1 in
-    let last_hand = alone-taken taken (first.0 ++ alone.0) last.0 mid c.send_rest-2.new.pass.hand mid_hand last_is in
-    let last_outs = alone-unprompted c.send_rest-2.new.pass.hand _ last_is c.send_rest-2.ensures.settled in (
+    let last = c.send_last-closed.ensures.more in
+    let last_is = alone-hand mid c.send_last-closed.new.pass.hand last.0 (alone-itself mid _ mid_hand) last.1 in
+    let last_hand = alone-taken taken (first.0 ++ alone.0) last.0 mid c.send_last-closed.new.pass.hand mid_hand last_is in
+    let last_outs = alone-unprompted c.send_last-closed.new.pass.hand _ last_is c.send_last-closed.ensures.settled in (
       first.0 ++ (alone.0 ++ last.0),
       last_hand ∙ ap (λ (l : List Parcel). hand First 0 [] (taken ++ l)) (append_assoc first.0 alone.0 last.0),
       ServesAlone-after (answering (g.W.Work.owed c.args.work.now) g.W.Work.DEFERS) _ first.0 alone.0 last.0 _ _ _ _ _ _ first.2

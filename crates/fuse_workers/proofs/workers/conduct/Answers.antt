@@ -24,7 +24,7 @@ returns-in-Err-clause-conducts g c =
     let whole = ap (λ (h : Hand Parcel). joined h v) split ∙ joined-sender (hand First 1 [] []) v relayed.no_put refl refl relayed.kind refl in
     let there = c.join.ensures.hand ∙ whole in
     let alone = c.answer_alone-stopped.ensures.alone in
-    Conducts-alone (answering (g.W.Work.owed c.args.work.now) g.W.Work.DEFERS) c.answer_alone-stopped.result c.args.lent.intake.now
+    Conducts-alone (answering (g.W.Work.owed c.args.work.now) g.W.Work.DEFERS) c.answer_alone-stopped.result.0 c.args.lent.intake.now
     c.answer_alone-stopped.new.intake (relay_of c.args.lent.relay.now.outlet c.args.lent.relay.now.book)
     (relay_of c.in-Err.back.relay.now.outlet c.in-Err.back.relay.now.book)
     (relay_of c.answer_alone-stopped.new.relay.outlet c.answer_alone-stopped.new.relay.book)
@@ -35,13 +35,13 @@ returns-in-Err-clause-conducts g c =
 pub returns-clause-conducts : goal.returns-clause-conducts
 returns-clause-conducts g c =
     let answered = c.answer_all-stopped.ensures.answered in
-    let rest = c.send_rest.ensures.more in
+    let rest = c.send_last-closed.ensures.more in
     let back = c.join-relay.result in
     let relayed : IsRelayed back.pass.hand (relay_of c.args.lent.relay.now.outlet c.args.lent.relay.now.book)
     (relay_of back.relay.now.outlet back.relay.now.book) = search rules in
     Conducts-answered (answering (g.W.Work.owed c.args.work.now) g.W.Work.DEFERS) c.answer_all-stopped.result c.args.lent.intake.now
     c.answer_all-stopped.new.intake (relay_of c.args.lent.relay.now.outlet c.args.lent.relay.now.book) (relay_of back.relay.now.outlet back.relay.now.book)
-    (relay_of c.send_rest.new.relay.outlet c.send_rest.new.relay.book) c.answer_all-stopped.new.caller.jobs.hand
-    c.answer_all-stopped.new.caller.frames.hand back.pass.hand c.send_rest.new.pass.hand rest.0 answered.0 answered.1 answered.2
+    (relay_of c.send_last-closed.new.relay.outlet c.send_last-closed.new.relay.book) c.answer_all-stopped.new.caller.jobs.hand
+    c.answer_all-stopped.new.caller.frames.hand back.pass.hand c.send_last-closed.new.pass.hand rest.0 answered.0 answered.1 answered.2
     c.answer_all-stopped.ensures.others.0 c.answer_all-stopped.ensures.others.1 c.answer_all-stopped.ensures.settled relayed (search rules) rest.2
-    c.send_rest.ensures.settled
+    c.send_last-closed.ensures.settled
