@@ -3,9 +3,10 @@ ghost use Rattle.std.specs.Prelude.{◌≡◌, ℕ, List, [], Some};
 ghost use Rattle.fuse_run.specs.Accounted.{Accounted, NeverLater};
 ghost use Rattle.fuse_dispatch.specs.Owed.{Owed};
 ghost use Rattle.fuse_run.specs.Ran.{Ends, Ran};
+ghost use Rattle.fuse_run.specs.SessionEnd.{run_outcome};
 ghost use Rattle.fuse_loop.specs.EventLoop.{Run};
 ghost use Rattle.fuse_loop.specs.Lines.{IsUnused, unasked_of};
-ghost use Rattle.fuse_loop.specs.Progress.{nothing_yet, progress};
+ghost use Rattle.fuse_loop.specs.Progress.{added, nothing_yet, progress};
 
 use crate::ended::{destroyed, run_outcome};
 use crate::options::several;
@@ -80,6 +81,28 @@ fn answer_all<R: Threads + Wait + AllocGlobal + Sync, FS: Filesystem, S: Source,
     }
 }
 
+/// What is left of a run, after a handshake with these counts. Its memory is let go.
+fn conclude<S: Source, K: Sink>(shaken: Transcript, run: RunEnd<S, K>) -> Served<S, K>
+    ensures outcome { result.outcome ≡ run_outcome run.end }
+    ensures transcript { result.transcript ≡ added shaken run.transcript }
+    ensures devices { (result.source ≡ run.source) × (result.sink ≡ run.sink) }
+{
+    let RunEnd {
+        end,
+        transcript,
+        source,
+        sink,
+        buffers,
+    } = run;
+    drop(buffers);
+    Served {
+        outcome: run_outcome(end),
+        transcript: shaken.and(transcript),
+        source,
+        sink,
+    }
+}
+
 /// Serves a session that was opened, after a handshake with these counts. No thread is to serve where their number is 0.
 fn serve<R: Threads + Wait + AllocGlobal + Sync, FS: Filesystem, S: Source, K: Sink + Send>(
     rt: &R,
@@ -107,20 +130,8 @@ fn serve<R: Threads + Wait + AllocGlobal + Sync, FS: Filesystem, S: Source, K: S
             sink,
         };
     }
-    let RunEnd {
-        end,
-        transcript,
-        source,
-        sink,
-        buffers,
-    } = answer_all(rt, shared, n_threads, source, sink, buffers);
-    drop(buffers);
-    Served {
-        outcome: run_outcome(end),
-        transcript: shaken.and(transcript),
-        source,
-        sink,
-    }
+    let run = answer_all(rt, shared, n_threads, source, sink, buffers);
+    conclude(shaken, run)
 }
 
 impl<FS: Filesystem, S: Source, K: Sink + Send> Runnable<FS, S, K> {
