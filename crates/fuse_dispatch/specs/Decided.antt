@@ -24,10 +24,10 @@ abbrev pub IsAskedBy : Header → List ℕ → Operation → Type 0
 IsAskedBy h rest op = Is (Ok op) (operation h.opcode rest) × Keeps (Ok op) h.nodeid
 
 -- the operation of a forget or a call is what the message asks, whole
-abbrev pub Carries : Verdict → List ℕ → Type 0
-Carries (Forget op) m = IsAskedBy (header_fields m) (body m) op
-Carries (Call op) m = IsAskedBy (header_fields m) (body m) op
-Carries v m = ⊤
+abbrev pub AsksFor : Verdict → List ℕ → Type 0
+AsksFor (Forget op) m = IsAskedBy (header_fields m) (body m) op
+AsksFor (Call op) m = IsAskedBy (header_fields m) (body m) op
+AsksFor v m = ⊤
 
 -- the operation of a forget or a call is this one
 abbrev pub IsOf : Verdict → Operation → Type 0

@@ -1,4 +1,4 @@
--- What the product itself fixes about a message after the handshake, before any filesystem is asked.
+-- What the library itself fixes about a message after the handshake, before any filesystem is asked.
 use Rattle.std.specs.Prelude.{◌==◌, ◌||◌, ℕ, Bool, true, false, List, [], ◌∷◌, Option, None, Some, Result, Ok, Err, if◌then◌else◌}
 use Rattle.fuse_wire.specs.ErrorNumbers.{EIO, EACCES, ENOSYS}
 use Rattle.fuse_config.specs.declared.session_acl.SessionACL.{SessionACL}

@@ -43,11 +43,11 @@ pub trait Filesystem: Send + Sync {
 
     /// LOOKUP: which inode the name means in the directory `parent`. The kernel asks before it does anything else with
     /// a name for which it has no answer that still holds. The answer is the inode with its attributes, and how long
-    /// the kernel may rely on both. The error for a name that is not there is ENOENT, which the kernel does not keep;
-    /// an entry whose inode is 0 says the same, and is kept as long as the entry says. Each other entry counts as one
-    /// lookup of its inode, until `forget` gives it back. For an entry that is the root (inode 1), or whose attributes
-    /// have a size above `i64::MAX`, the caller gets EIO. The names `.` and `..` come only where `FUSE_EXPORT_SUPPORT`
-    /// was granted. `defaults::lookup` answers ENOSYS, which the caller gets.
+    /// the kernel may rely on both: for every user, whoever asked. The error for a name that is not there is ENOENT,
+    /// which the kernel does not keep; an entry whose inode is 0 says the same, and is kept as long as the entry says.
+    /// Each other entry counts as one lookup of its inode, until `forget` gives it back. For an entry that is the root
+    /// (inode 1), or whose attributes have a size above `i64::MAX`, the caller gets EIO. The names `.` and `..` come
+    /// only where `FUSE_EXPORT_SUPPORT` was granted. `defaults::lookup` answers ENOSYS, which the caller gets.
     fn lookup(&self, request: &Request, parent: INodeNo, name: &[u8], reply: ReplyEntry) -> Replied
         ensures { Answers promise.may_answer self.now request.now
             (Call.Lookup parent.0 name.now) reply.id reply.door result };
@@ -77,10 +77,10 @@ pub trait Filesystem: Send + Sync {
 
     /// SETATTR: sets those attributes of this inode that are Some. The answer is all of them as they are then, as for
     /// `getattr`. `mode` is a whole `st_mode`, of which the kind does not change. `size` is in bytes: a file is cut
-    /// there, or made longer by zero bytes. `atime` and `mtime` are a time, or the present. `ctime` comes only where
-    /// `FUSE_WRITEBACK_CACHE` was granted. `fh` is the open file by which it is done, as by `ftruncate(2)`, if it is
-    /// done by one. `crtime`, `chgtime`, `bkuptime` and `flags` belong to other systems, and are None on Linux.
-    /// `defaults::setattr` answers ENOSYS, which the caller gets.
+    /// there, or made longer by zero bytes. `atime` and `mtime` are a time, or the present, by a clock of this
+    /// filesystem. `ctime` comes only where `FUSE_WRITEBACK_CACHE` was granted. `fh` is the open file by which it is
+    /// done, as by `ftruncate(2)`, if it is done by one. `crtime`, `chgtime`, `bkuptime` and `flags` belong to other
+    /// systems, and are None on Linux. `defaults::setattr` answers ENOSYS, which the caller gets.
     fn setattr(
         &self,
         request: &Request,
@@ -128,9 +128,10 @@ pub trait Filesystem: Send + Sync {
     /// MKNOD: makes a file under a name, for `mknod(2)` and the like, and for each new regular file once `create` has
     /// answered ENOSYS. `mode` is its kind and its permissions, as in `st_mode`. The bits of `umask` are taken away from
     /// it already, unless `FUSE_DONT_MASK` was granted, where that is for this method to do. `rdev` is the number of the
-    /// device, coded as in the attributes, and 0 for a file that is none. The user and group that make it are those of
-    /// `request`. The answer is as for `lookup`; unless its kind is that of `mode` and its inode neither 0 nor 1 the
-    /// caller gets EIO. `defaults::mknod` answers ENOSYS, which the caller gets.
+    /// device, as the attributes have it: the minor number in the bits 0 to 7 and 20 to 31, the major number in those
+    /// between (the kernel's `new_encode_dev`). It is 0 for a file that is no device. The user and group that make it
+    /// are those of `request`. The answer is as for `lookup`; unless its kind is that of `mode` and its inode neither 0
+    /// nor 1 the caller gets EIO. `defaults::mknod` answers ENOSYS, which the caller gets.
     fn mknod(
         &self,
         request: &Request,

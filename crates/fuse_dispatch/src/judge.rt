@@ -2,7 +2,7 @@
 ghost use Rattle.std.specs.Prelude.{◌≡◌, ℕ};
 ghost use Rattle.fuse_header.specs.Header.{header_fields};
 ghost use Rattle.fuse_operations.specs.Operation.{plain};
-ghost use Rattle.fuse_dispatch.specs.Decided.{Carries, Decides, IsOf};
+ghost use Rattle.fuse_dispatch.specs.Decided.{AsksFor, Decides, IsOf};
 ghost use Rattle.fuse_dispatch.specs.Verdict.{fixed_error, is_forget, served, verdict};
 
 use crate::Verdict;
@@ -69,7 +69,7 @@ fn judge(operation: Operation<'_>) -> Verdict<'_>
 /// - all else: `Call`.
 pub fn verdict(acl: SessionACL, owner: u32, message: &[u8]) -> Verdict<'_>
     ensures decides { Decides (header_fields message.now).nodeid.0 result (verdict acl owner message.now) }
-    ensures operation { Carries result message.now }
+    ensures operation { AsksFor result message.now }
 {
     match Incoming::of(message) {
         Incoming::Broken(error) => return Verdict::Broken(error),

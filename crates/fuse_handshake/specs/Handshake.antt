@@ -56,7 +56,7 @@ abbrev pub greeting_by_header : Result Header RequestError → (rest : List ℕ)
 greeting_by_header (Err e) rest = Silent (invalid.Header e)
 greeting_by_header (Ok h) rest = greeting_by_operation h (operation h.opcode rest)
 
--- What the product makes of a message in the handshake: it is no good message; it is no INIT; or it is an INIT whose version is too
+-- What the library makes of a message in the handshake: it is no good message; it is no INIT; or it is an INIT whose version is too
 -- old, of a later major version, or one that the filesystem is asked about.
 abbrev pub greeting : List ℕ → Greeting
 greeting m = greeting_by_header (header m) (body m)
