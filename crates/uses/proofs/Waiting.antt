@@ -10,7 +10,8 @@ use Rattle.fuse_dispatch.specs.Kind.{IsOfKind}
 use Rattle.fuse_dispatch.specs.Owed.{Answers}
 use Rattle.fuse_dispatch.specs.Promise.{MayAnswer}
 use Rattle.fuse_dispatch.proofs.Answering.{Answered-error, Answered-frame}
-use Rattle.uses.specs.OneLock.{ComesOfWaiting, EDEADLK, ENOLCK}
+use Rattle.fuse_wire.specs.ErrorNumbers.{EDEADLK, ENOLCK}
+use Rattle.uses.specs.OneLock.{ComesOfWaiting}
 
 -- where the promise allows the call to be done, or to fail by either error
 pub Answers-waiting : {F : Type 0} {may_answer : MayAnswer F} {fs : F} {request : Request} {c : Call} {id : ℕ}
@@ -19,6 +20,6 @@ pub Answers-waiting : {F : Type 0} {may_answer : MayAnswer F} {fs : F} {request 
     → may_answer fs request c (Error EDEADLK) → may_answer fs request c (Error ENOLCK)
     → ComesOfWaiting id door out → Answers may_answer fs request c id door out
 Answers-waiting kind done alone full (inl is) = Answered-frame Empty kind tt done is
-Answers-waiting kind done alone full (inr (inl is)) = Answered-error EDEADLK (omega arith) (omega arith) alone is
-Answers-waiting kind done alone full (inr (inr (inl is))) = Answered-error ENOLCK (omega arith) (omega arith) full is
+Answers-waiting kind done alone full (inr (inl shut)) = Answered-error EDEADLK (omega arith) (omega arith) alone shut.1
+Answers-waiting kind done alone full (inr (inr (inl starved))) = Answered-error ENOLCK (omega arith) (omega arith) full starved.1
 Answers-waiting kind done alone full (inr (inr (inr put_off))) = inr put_off

@@ -1,5 +1,7 @@
 -- A filesystem with one lock, for which its callers wait.
-use Rattle.std.specs.Prelude.{◌≡◌, ◌⊎◌, ℕ, Bool, true, false, Result, Ok}
+use Rattle.std.specs.Prelude.{◌≡◌, ◌⊎◌, ℕ, Bool, true, false, Result, Ok, Err}
+use Rattle.fuse_wire.specs.ErrorNumbers.{EAGAIN, EDEADLK, ENOLCK}
+use Rattle.fuse_wire.specs.Flags.{FUSE_POSIX_LOCKS}
 use Rattle.fuse_wire.specs.declared.flags.init_flags.InitFlags.{InitFlags}
 use Rattle.fuse_config.specs.Setters.{add_capabilities}
 use Rattle.fuse_operations.specs.Call.{Call}
@@ -9,29 +11,19 @@ use Rattle.fuse_reply.specs.Answer.Answer.{Empty, Error}
 use Rattle.fuse_reply.specs.Door.{DoorSeen}
 use Rattle.fuse_reply.specs.Frame.{reply}
 use Rattle.fuse_reply.specs.declared.door.NoDoor.{NoDoor}
+use Rattle.fuse_reply.specs.declared.door.NoDoor.TheVariants.{Shut, Starved}
 use Rattle.fuse_reply.specs.declared.out.Out.{Out}
 use Rattle.fuse_reply.specs.declared.out.Out.TheVariants.{Frame}
 use Rattle.fuse_dispatch.specs.Defaults.{default_answer, default_mark}
 use Rattle.fuse_dispatch.specs.Owed.{IsPutOff}
 use Rattle.fuse_dispatch.specs.Promise.{Promise}
 
--- the kernel sends the calls for locks, in place of keeping them itself (`linux/fuse.h`)
-abbrev pub FUSE_POSIX_LOCKS : InitFlags
-FUSE_POSIX_LOCKS = record { 0 = 2 }
+-- the kernel sends the calls for locks, in place of keeping them itself
+abbrev pub posix_locks : InitFlags
+posix_locks = record { 0 = FUSE_POSIX_LOCKS }
 
--- it would have to wait (`asm-generic/errno-base.h`, `asm-generic/errno.h`)
-abbrev pub EAGAIN : ℕ
-EAGAIN = 11
-
--- nobody could give the lock up while it waits
-abbrev pub EDEADLK : ℕ
-EDEADLK = 35
-
--- no more can wait
-abbrev pub ENOLCK : ℕ
-ENOLCK = 37
-
--- how a call for the lock fails: it does not wait for one that is held; or it would, and can't
+-- how a call for the lock fails: it does not wait for one that is held; or it would, and nobody could give the lock up
+-- meanwhile, or no more can wait
 abbrev pub MayFail : (sleep : Bool) → Answer → Type 0
 MayFail false a = a ≡ Error EAGAIN
 MayFail true a = (a ≡ Error EDEADLK) ⊎ (a ≡ Error ENOLCK)
@@ -47,15 +39,18 @@ MayHave c a = default_answer c ≡ a
 abbrev pub promise : {F : Type 0} → Promise F
 promise = record {
   may_init = λ old request before result new after.
-      (result ≡ Ok tt) × (after ≡ (add_capabilities FUSE_POSIX_LOCKS before).0) × (new ≡ old);
+      (result ≡ Ok tt) × (after ≡ (add_capabilities posix_locks before).0) × (new ≡ old);
   may_answer = λ fs request call a. MayHave call a;
   may_note = λ fs request call mark. mark ≡ default_mark;
   may_destroy = λ old new. new ≡ old;
   defers = true;
 }
 
--- what comes of waiting for the lock: it is held from now on, or can't be waited for, or the reply is put off
+-- what comes of waiting for the lock: it is held from now on; the reply has no door, since nobody else is served meanwhile or for want
+-- of memory; or the reply is put off
 abbrev pub ComesOfWaiting : (id : ℕ) → Result DoorSeen NoDoor → Out → Type 0
 ComesOfWaiting id door out =
-    (out ≡ Frame (reply id Empty)) ⊎ (out ≡ Frame (reply id (Error EDEADLK))) ⊎ (out ≡ Frame (reply id (Error ENOLCK)))
+    (out ≡ Frame (reply id Empty))
+    ⊎ ((door ≡ Err Shut) × (out ≡ Frame (reply id (Error EDEADLK))))
+    ⊎ ((door ≡ Err Starved) × (out ≡ Frame (reply id (Error ENOLCK))))
     ⊎ IsPutOff door id out

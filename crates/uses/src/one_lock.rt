@@ -5,7 +5,8 @@ ghost use Rattle.fuse_reply.specs.Answer.Answer.{Empty, Error};
 ghost use Rattle.fuse_reply.specs.Frame.{reply};
 ghost use Rattle.fuse_reply.specs.Late.{IsFrameFor};
 ghost use Rattle.fuse_reply.specs.declared.out.Out.TheVariants.{Frame};
-ghost use Rattle.uses.specs.OneLock.{ComesOfWaiting, ENOLCK, promise};
+ghost use Rattle.fuse_wire.specs.ErrorNumbers.{ENOLCK};
+ghost use Rattle.uses.specs.OneLock.{ComesOfWaiting, promise};
 
 use fuse_config::KernelConfig;
 use fuse_notify::PollNotifier;
@@ -77,15 +78,20 @@ impl Desk {
         holder == owner
     }
 
-    /// Lets one more wait for the lock, which somebody holds, behind all others. Without memory for it, it comes back.
-    fn shelve(&mut self, waiter: Waiter) -> Result<(), AllocFailed<Waiter>>
+    /// Lets one more wait for the lock, which somebody holds, behind all others. Without memory for it the answer that says
+    /// so comes back, and the token to send it by.
+    fn shelve(&mut self, waiter: Waiter) -> Result<(), (Replied, Later<()>)>
         requires held { IsSome self.old.holder }
         ensures holder { self.new.holder ≡ self.old.holder }
         ensures waiting { self.new.waiting.items
             ≡ (if is_ok result then self.old.waiting.items ++ waiter ∷ [] else self.old.waiting.items) }
-        ensures refused { IfErr result (λ back. back.value ≡ waiter) }
+        ensures refused { IfErr result (λ r. (r.0 ≡ Frame (reply waiter.later.id.0 (Error ENOLCK)))
+            × (r.1.id ≡ waiter.later.id) × IsFrameFor r.1.id.0 r.0) }
     {
-        self.waiting.push_back(waiter)
+        match self.waiting.push_back(waiter) {
+            Ok(()) => Ok(()),
+            Err(AllocFailed { value: waiter }) => Err(refuse(waiter)),
+        }
     }
 
     /// Takes the lock from this owner, where it holds it, and gives it to the one that waits longest. Where none waits it
@@ -156,8 +162,7 @@ impl<R: Wait> OneLock<R> {
         match reply.defer() {
             Ok((replied, later)) => {
                 let waiter = Waiter { owner, later };
-                if let Err(AllocFailed { value: waiter }) = desk.shelve(waiter) {
-                    let (refused, token) = refuse(waiter);
+                if let Err((refused, token)) = desk.shelve(waiter) {
                     token.send_or_retire(&self.rt, refused);
                 }
                 replied

@@ -1,10 +1,10 @@
 -- What the reply was spent into is the frame of its token.
 use Rattle.std.proofs.Common.{◌∙◌, ap, ℕ}
+use Rattle.fuse_wire.specs.ErrorNumbers.{ENOLCK}
 use Rattle.fuse_reply.specs.Answer.Answer.{Error}
 use Rattle.fuse_reply.specs.Frame.{reply}
 use Rattle.fuse_reply.specs.declared.out.Out.TheVariants.{Frame}
 use Rattle.fuse_reply.proofs.LateReplies.{frame_for}
-use Rattle.uses.specs.OneLock.{ENOLCK}
 use Rattle.uses.proofs.one_lock.refuse.Goals as goal
 
 pub returns-clause-frame : goal.returns-clause-frame

@@ -2,7 +2,8 @@
 use Rattle.std.proofs.Common.{refl, inl, inr, sym, subst, Bool, arith}
 use Rattle.fuse_reply.specs.Answer.Answer.{Empty, Error}
 use Rattle.fuse_dispatch.proofs.Answering.{Answered-error, Answered-frame}
-use Rattle.uses.specs.OneLock.{MayFail, EAGAIN, EDEADLK, ENOLCK}
+use Rattle.fuse_wire.specs.ErrorNumbers.{EAGAIN, EDEADLK, ENOLCK}
+use Rattle.uses.specs.OneLock.{MayFail}
 use Rattle.uses.proofs.Waiting.{Answers-waiting}
 use Rattle.uses.proofs.one_lock.OneLockFilesystem.setlk.Goals as goal
 
