@@ -329,7 +329,8 @@ static FILES: [Row; 33] = [
     Row {
         opcode: FUSE_SETLKW,
         length: 48,
-        changes: &[],
+        // a type below 0, which no kernel sends
+        changes: &[(35, 0xff)],
         tail: b"",
         calls: &[(
             "setlk",
@@ -339,7 +340,7 @@ static FILES: [Row; 33] = [
                 Number(0x100f_0e0d_0c0b_0a09),
                 Number(0x1817_1615_1413_1211),
                 Number(0x201f_1e1d_1c1b_1a19),
-                Number(0x2423_2221),
+                Number(-0xdc_dddf),
                 Number(0x2827_2625),
                 Flag(true),
             ],

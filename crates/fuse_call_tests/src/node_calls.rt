@@ -449,14 +449,14 @@ static NODES: [Row; 29] = [
         )],
         reply: Error(ENOSYS),
     },
-    // two rows, and no row
+    // three rows, and no row
     Row {
         opcode: FUSE_BATCH_FORGET,
-        length: 40,
-        changes: &[(0, 2), (1, 0), (2, 0), (3, 0)],
+        length: 56,
+        changes: &[(0, 3), (1, 0), (2, 0), (3, 0)],
         tail: b"",
         calls: &[
-            ("batch_forget", &[Number(2)], b""),
+            ("batch_forget", &[Number(3)], b""),
             (
                 "forget",
                 &[Number(0x100f_0e0d_0c0b_0a09), Number(0x1817_1615_1413_1211)],
@@ -465,6 +465,11 @@ static NODES: [Row; 29] = [
             (
                 "forget",
                 &[Number(0x201f_1e1d_1c1b_1a19), Number(0x2827_2625_2423_2221)],
+                b"",
+            ),
+            (
+                "forget",
+                &[Number(0x302f_2e2d_2c2b_2a29), Number(0x3837_3635_3433_3231)],
                 b"",
             ),
         ],

@@ -4,6 +4,7 @@ ghost use Rattle.fuse_dispatch.specs.Defaults.{default_answer};
 
 use fuse_probing::{Argument, Probe};
 use fuse_request::Request;
+use fuse_wire::Errno;
 use std::alloc::{AllocError, Global};
 use std::sync::{Mutex, Wait};
 
@@ -88,8 +89,9 @@ impl<R: Wait> Probe for Recording<R> {
 
     ghost DEFERS = { false };
 
-    fn started(&mut self, request: &Request) {
+    fn started(&mut self, request: &Request) -> Result<(), Errno> {
         let _ = self.record(request, "init", &[], &[]);
+        Ok(())
     }
 
     fn called(

@@ -256,7 +256,9 @@ impl<R: Wait> Probe for Deferring<R> {
 
     ghost DEFERS = { true };
 
-    fn started(&mut self, _request: &Request) {}
+    fn started(&mut self, _request: &Request) -> Result<(), Errno> {
+        Ok(())
+    }
 
     fn called(
         &self,

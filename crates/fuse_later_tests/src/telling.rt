@@ -135,7 +135,9 @@ impl<R: Wait + AllocGlobal> Probe for Telling<R> {
 
     ghost DEFERS = { false };
 
-    fn started(&mut self, _request: &Request) {}
+    fn started(&mut self, _request: &Request) -> Result<(), Errno> {
+        Ok(())
+    }
 
     fn called(
         &self,

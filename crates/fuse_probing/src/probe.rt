@@ -9,7 +9,7 @@ use fuse_dispatch::defaults;
 use fuse_notify::PollNotifier;
 use fuse_reply::{Replied, ReplyAttr, ReplyData, ReplyEntry, ReplyPoll};
 use fuse_request::Request;
-use fuse_wire::{FileHandle, INodeNo, LockOwner, OpenFlags, PollEvents, PollFlags};
+use fuse_wire::{Errno, FileHandle, INodeNo, LockOwner, OpenFlags, PollEvents, PollFlags};
 
 /// What a filesystem of a test does of its own. It is told of each call before it answers any.
 pub trait Probe {
@@ -22,8 +22,8 @@ pub trait Probe {
     /// That constant, as a contract names it.
     ghost DEFERS: { Bool };
 
-    /// A kernel opens the connection, and is accepted.
-    fn started(&mut self, request: &Request);
+    /// A kernel opens the connection: what `init` of the filesystem answers.
+    fn started(&mut self, request: &Request) -> Result<(), Errno>;
 
     /// A method was called, with these arguments: names and data last, the others as they stand in its signature.
     fn called(

@@ -20,7 +20,7 @@ use fuse_wire::{
     LockOwner, OpenFlags, PollEvents, PollFlags, RenameFlags, SystemTime, TimeOrNow, WriteFlags,
 };
 
-/// A filesystem that does this of its own. All else it answers by default, and it accepts every kernel.
+/// A filesystem that does this of its own. All else it answers by default.
 #[derive(Drop)]
 pub struct Probing<P> {
     /// What it does of its own.
@@ -41,8 +41,7 @@ impl<P: Probe + Send + Sync> Filesystem for Probing<P> {
     ghost DEFERS = { P.DEFERS };
 
     fn init(&mut self, request: &Request, _config: &mut KernelConfig) -> Result<(), Errno> {
-        self.probe.started(request);
-        defaults::init()
+        self.probe.started(request)
     }
 
     fn lookup(

@@ -194,16 +194,6 @@ pub fn error_reply(id: u8, errno: u8) -> [u8; 16] {
     ]
 }
 
-/// The first place at which the frames that were sent are not these. None: they are these, and no other.
-pub fn differ_at(sent: &[Items<u8>], frames: &[&[u8]]) -> Option<usize> {
-    if sent.len() != frames.len() {
-        return Some(sent.len().min(frames.len()));
-    }
-    sent.iter()
-        .zip(frames)
-        .position(|(one, frame)| one.as_slice() != *frame)
-}
-
 /// The turn that gives this message.
 pub fn turn(alloc: Global, message: &[u8]) -> Result<Turn, AllocError> {
     Ok(Turn::Message(Items::from_vec(message.to_vec(alloc)?)))
@@ -216,28 +206,4 @@ pub fn source_of(alloc: Global, messages: &[&[u8]]) -> Result<MemorySource, Allo
         turns.push(turn(alloc, message)?)?;
     }
     Ok(MemorySource::new(turns))
-}
-
-/// What a source gives next.
-#[derive(Clone, Copy)]
-pub enum Next<'a> {
-    /// This message.
-    Bytes(&'a [u8]),
-    /// A turn with nothing.
-    Nothing,
-    /// A fault.
-    Fault,
-}
-
-/// A source of these turns.
-pub fn turns_of(alloc: Global, turns: &[Next<'_>]) -> Result<MemorySource, AllocError> {
-    let mut given = Vec::new(alloc);
-    for next in turns {
-        given.push(match next {
-            Next::Bytes(bytes) => turn(alloc, bytes)?,
-            Next::Nothing => Turn::Retry,
-            Next::Fault => Turn::Fail,
-        })?;
-    }
-    Ok(MemorySource::new(given))
 }

@@ -45,11 +45,13 @@ impl Gate {
 
 /// A filesystem that counts its calls, each row of a batch of forgets as one too, and how often it was destroyed. It
 /// knows no name and no attributes, and reads the same contents from every offset. Where it has a gate, it counts its
-/// calls there too, and a lookup for which that does not open in time is answered EIO.
+/// calls there too, and a lookup for which that does not open in time is answered EIO. Where it has a refusal, no kernel
+/// is accepted.
 #[derive(Drop)]
 pub(crate) struct Counting {
     contents: Option<Vec<u8>>,
     gate: Option<Gate>,
+    refusal: Option<Errno>,
     calls: AtomicU64,
     destroyed: u64,
 }
@@ -123,6 +125,7 @@ impl Counting {
         Counting {
             contents,
             gate: None,
+            refusal: None,
             calls: AtomicU64::new(0),
             destroyed: 0,
         }
@@ -133,13 +136,25 @@ impl Counting {
         Counting {
             contents: None,
             gate: Some(Gate { count, awaited }),
+            refusal: None,
+            calls: AtomicU64::new(0),
+            destroyed: 0,
+        }
+    }
+
+    /// It refuses every kernel by this error.
+    pub(crate) fn refusing(error: Errno) -> Counting {
+        Counting {
+            contents: None,
+            gate: None,
+            refusal: Some(error),
             calls: AtomicU64::new(0),
             destroyed: 0,
         }
     }
 
     /// What a lookup fails by, once it goes on.
-    fn refusal(&self) -> Errno {
+    fn lookup_error(&self) -> Errno {
         match &self.gate {
             Some(gate) if !gate.opens() => Errno::EIO,
             _ => Errno::ENOENT,
@@ -164,7 +179,12 @@ impl Probe for Counting {
 
     ghost DEFERS = { false };
 
-    fn started(&mut self, _request: &Request) {}
+    fn started(&mut self, _request: &Request) -> Result<(), Errno> {
+        match self.refusal {
+            Some(error) => Err(error),
+            None => Ok(()),
+        }
+    }
 
     fn called(
         &self,
@@ -186,7 +206,7 @@ impl Probe for Counting {
         _name: &[u8],
         reply: ReplyEntry,
     ) -> Replied {
-        reply.error(self.refusal())
+        reply.error(self.lookup_error())
     }
 
     fn forget(&self, ino: INodeNo, nlookup: u64) -> u64 {

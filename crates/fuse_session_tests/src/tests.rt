@@ -2,7 +2,7 @@
 ghost use Rattle.std.specs.Prelude.{◌<◌};
 
 use crate::asserts::expect_same;
-use crate::counting::Counting;
+use crate::counting::{Counting, Course, went};
 use crate::ends::End;
 use crate::messages::{Frame, Given, Request, copied};
 use crate::refusals::REFUSALS;
@@ -13,7 +13,8 @@ use fuse_probing::test_messages::{
 };
 use fuse_request::RequestError;
 use fuse_request::opcode::{FUSE_DESTROY, FUSE_LOOKUP};
-use fuse_wire::{Items, RequestId};
+use fuse_session::{SessionError, Transcript};
+use fuse_wire::{Errno, Items, RequestId};
 use std::process::Abort;
 use std::sync::Wait;
 use std::thread::Threads;
@@ -149,6 +150,19 @@ const VERSIONS: &[Row] = &[
         lost: 0,
         calls: 0,
         end: End::Unsupported(7, 5),
+    },
+    Row {
+        what: "the version 6.40",
+        acl: SessionACL::Owner,
+        threads: ONE_AND_TWO,
+        devices: Devices::Plain,
+        given: &[Given::Init(6, 40)],
+        frames: &[Frame::Error(1, EPROTO)],
+        notes: &[],
+        received: 1,
+        lost: 0,
+        calls: 0,
+        end: End::Unsupported(6, 40),
     },
 ];
 
@@ -505,4 +519,34 @@ fn reads_whole<R: Threads + Wait + AllocGlobal + Abort + Sync>(
 fn reads_two_mebibytes_whole(rt: HostRuntime) {
     let header = [16, 0, 0x20, 0, 0, 0, 0, 0, 2, 0, 0, 0, 0, 0, 0, 0];
     reads_whole(&rt, 0x20_0000, &header);
+}
+
+/// The reply to INIT of version 7.8 by EACCES.
+const DENIED: &[u8] = &[
+    0x10, 0, 0, 0, 0xf3, 0xff, 0xff, 0xff, 0x0d, 0xf0, 0xad, 0xba, 0xef, 0xbe, 0xad, 0xde,
+];
+
+#[test]
+fn a_kernel_that_is_refused_is_told_why(rt: HostRuntime) {
+    let given = [Given::Opening, Given::Asked(Request::Lookup(2, 0))];
+    let refusing = Counting::refusing(Errno::EACCES);
+    let config = Config::new(rt.alloc());
+    let (course, sink) = serve(&rt, refusing, &given, 0, 4096, &config);
+    drop(config);
+    let expected = Course {
+        outcome: Err(SessionError::Init(Errno::EACCES)),
+        transcript: Transcript {
+            received: 1,
+            frames: 1,
+            notes: 0,
+            lost: 0,
+            unrecorded: 0,
+        },
+        calls: 0,
+        destroyed: 1,
+    };
+    went(&rt, "a kernel that is refused", &course, &expected);
+    let sent = sink.frames().first().expect(&rt, "a frame").as_slice();
+    expect_same(&rt, &(sink.frames().len(), sent), &(1, DENIED));
+    drop(sink);
 }

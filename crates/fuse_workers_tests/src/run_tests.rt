@@ -674,8 +674,9 @@ fn most_at_once<R: Threads + Wait + AllocGlobal + Abort + Sync>(
 }
 
 /// Of so many workers and calls, and turns that each call takes, how many calls are under way at once at most. Where the
-/// line of jobs is full the caller answers one too.
+/// line of jobs is full the caller answers one too, and where there is no worker it answers all.
 const MOST_AT_ONCE: &[(usize, u64, u64, u64)] = &[
+    (0, 256, 1000, 1),
     (1, 16, 10_000, 1),
     (2, 16, 10_000, 2),
     (3, 16, 10_000, 3),

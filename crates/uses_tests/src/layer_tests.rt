@@ -1,10 +1,21 @@
 // Sessions of the one file below a layer that lets its keeper alone take names away or change them.
+ghost use Rattle.std.specs.Prelude.{false};
+
+use crate::asserts::expect_same;
 use crate::rows::{ENOENT, EROFS, LOOKUP, MKDIR, NOTHING, OPENING, Row};
-use crate::serving::{expect_served, serve};
+use crate::serving::{ended_well, expect_served, serve};
+use fuse_probing::{Argument, Probe, Probing};
 use fuse_read_only::ReadOnly;
+use fuse_request::Request;
+use fuse_wire::{Errno, RequestId};
+use std::sync::atomic::{AtomicU64, Ordering};
 use uses::{KeeperOnly, OneFile};
 
 // Linux's numbers: `include/uapi/linux/fuse.h` and `errno-base.h`.
+const FORGET: u8 = 2;
+
+const BATCH_FORGET: u8 = 42;
+
 const UNLINK: u8 = 10;
 
 const RMDIR: u8 = 11;
@@ -12,6 +23,8 @@ const RMDIR: u8 = 11;
 const RENAME: u8 = 12;
 
 const EACCES: u8 = 13;
+
+const ENOSYS: u8 = 38;
 
 /// What root gets where somebody else is the keeper. `struct fuse_rename_in` has the new directory.
 const OTHERS: &[Row] = &[
@@ -45,4 +58,70 @@ fn only_the_keeper_changes_names(rt: HostRuntime) {
         let (_, rest) = serve(&rt, KeeperOnly { below, keeper }, None, rows);
         expect_served(&rt, &rest, rows);
     }
+}
+
+/// What a filesystem of a test has of its own: it counts its calls, each row of a batch of forgets as one too.
+#[derive(Drop)]
+struct Calls {
+    count: AtomicU64,
+}
+
+impl Probe for Calls {
+    ghost own = { λ call answer. Unit {0} };
+
+    const DEFERS: bool = false;
+
+    ghost DEFERS = { false };
+
+    fn started(&mut self, _request: &Request) -> Result<(), Errno> {
+        Ok(())
+    }
+
+    fn called(
+        &self,
+        _request: &Request,
+        _method: &'static str,
+        _arguments: &[Argument],
+        _texts: &[&[u8]],
+    ) {
+        self.count.fetch_add(1, Ordering::SeqCst);
+    }
+
+    fn destroyed(&mut self) {}
+
+    ghost allows_default = { λ call. tt };
+}
+
+/// A forget, a batch of one forget, and two calls, of which the first is denied.
+const COUNTED: &[Row] = &[
+    OPENING,
+    (FORGET, 2, 2, (8, &[(0, 1)], b""), 0, NOTHING),
+    (
+        BATCH_FORGET,
+        3,
+        0,
+        (24, &[(0, 1), (8, 2), (16, 1)], b""),
+        0,
+        NOTHING,
+    ),
+    (UNLINK, 4, 1, (0, &[], b"note\0"), EACCES, NOTHING),
+    (LOOKUP, 5, 1, (0, &[], b"none\0"), ENOSYS, NOTHING),
+];
+
+/// The filesystem below is asked once for what is handed on, and not at all for what is denied.
+#[test]
+fn what_is_handed_on_is_asked_once(rt: HostRuntime) {
+    let calls = Calls {
+        count: AtomicU64::new(0),
+    };
+    let layer = KeeperOnly {
+        below: Probing { probe: calls },
+        keeper: 5,
+    };
+    let (layer, rest) = serve(&rt, layer, None, COUNTED);
+    ended_well(&rt, &rest, 5, 3, &[(RequestId(2), 0), (RequestId(3), 0)]);
+    let asked = layer.below.probe.count.load(Ordering::SeqCst);
+    expect_same(&rt, &asked, &4);
+    drop(rest);
+    drop(layer);
 }

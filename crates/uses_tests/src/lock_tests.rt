@@ -46,7 +46,7 @@ const ONE_CLOSES: Bytes = (24, &[(16, 0x71), (23, 0x11)], b"");
 
 const OTHER_CLOSES: Bytes = (24, &[(16, 0x71), (23, 0x12)], b"");
 
-/// F_UNLCK gives the lock up by SETLKW too, and a lock to read is the one lock. INIT offers `FUSE_POSIX_LOCKS`, the bit 1
+/// Its holder need not wait for it. F_UNLCK gives the lock up by SETLKW too, and a lock to read is the one lock. INIT offers `FUSE_POSIX_LOCKS`, the bit 1
 /// of `flags` in `struct fuse_init_in`, and its reply grants it, in `flags` of `struct fuse_init_out`.
 const NOBODY_WAITS: &[Row] = &[
     (
@@ -74,9 +74,10 @@ const NOBODY_WAITS: &[Row] = &[
     (SETLKW, 4, 1, OTHER_WRITES, EDEADLK, NOTHING),
     (SETLK, 5, 1, ONE_UNLOCKS, 0, NOTHING),
     (SETLKW, 6, 1, OTHER_WRITES, 0, NOTHING),
-    (SETLKW, 7, 1, OTHER_UNLOCKS, 0, NOTHING),
-    (SETLK, 8, 1, ONE_READS, 0, NOTHING),
-    (SETLK, 9, 1, THIRD_READS, EAGAIN, NOTHING),
+    (SETLKW, 7, 1, OTHER_WRITES, 0, NOTHING),
+    (SETLKW, 8, 1, OTHER_UNLOCKS, 0, NOTHING),
+    (SETLK, 9, 1, ONE_READS, 0, NOTHING),
+    (SETLK, 10, 1, THIRD_READS, EAGAIN, NOTHING),
 ];
 
 /// F_UNLCK and FLUSH of the other are done, and change nothing; FLUSH of the one that holds the lock frees it.
@@ -127,7 +128,10 @@ const OTHER_WAITS: Row = (SETLKW, 2, 1, OTHER_WRITES, 0, NOTHING);
 
 const THIRD_WAITS: Row = (SETLKW, 3, 1, THIRD_WRITES, 0, NOTHING);
 
+/// The one gives it up, or closes the file.
 const GIVEN_UP: Row = (SETLK, 4, 1, ONE_UNLOCKS, 0, NOTHING);
+
+const CLOSED: Row = (FLUSH, 4, 1, ONE_CLOSES, 0, NOTHING);
 
 /// The other has the lock, or else the third.
 const OTHER_HAS_IT: &[Row] = &[
@@ -157,7 +161,7 @@ fn times_sent<R: AllocGlobal + Abort>(rt: &R, sent: &[Items<u8>], row: &Row) -> 
 }
 
 /// The lock was given up, and one of the two that waited was told that it has it. Whether that was the other.
-fn other_was_told<R: AllocGlobal + Abort>(rt: &R, rest: &Rest) -> bool {
+fn other_was_told<R: AllocGlobal + Abort>(rt: &R, rest: &Rest, given_up: &Row) -> bool {
     ended_well(rt, rest, 4, 3, &[]);
     let sent = rest.sink.frames();
     expect_frames(rt, sent.get(..1).unwrap_or(&[]), &[OPENING]);
@@ -165,7 +169,7 @@ fn other_was_told<R: AllocGlobal + Abort>(rt: &R, rest: &Rest) -> bool {
     let others = (
         sent.len(),
         times_sent(rt, sent, &THIRD_WAITS),
-        times_sent(rt, sent, &GIVEN_UP),
+        times_sent(rt, sent, given_up),
     );
     expect_same(rt, &others, &(3, 1usize.saturating_sub(to_other), 1));
     to_other == 1
@@ -173,15 +177,23 @@ fn other_was_told<R: AllocGlobal + Abort>(rt: &R, rest: &Rest) -> bool {
 
 /// Before one of the two workers comes to the third message it has served one of the two calls that wait, so at least one
 /// waits when that message gives the lock up. One of the two has it then, and is told so; the other gets no reply.
-#[test]
-fn one_of_two_that_wait_gets_it(rt: HostRuntime) {
+fn one_of_two_gets_it<R: Threads + Wait + AllocGlobal + Abort + Copy + Sync + Send>(
+    rt: R,
+    given_up: Row,
+) {
     let lock = serves_from_free(rt, TAKEN);
-    let calls = [OPENING, OTHER_WAITS, THIRD_WAITS, GIVEN_UP];
+    let calls = [OPENING, OTHER_WAITS, THIRD_WAITS, given_up];
     let (lock, rest) = serve(&rt, lock, Some(2), &calls);
-    let rows = if other_was_told(&rt, &rest) {
+    let rows = if other_was_told(&rt, &rest, &given_up) {
         OTHER_HAS_IT
     } else {
         THIRD_HAS_IT
     };
     serves_alone(&rt, lock, rows).close();
+}
+
+#[test]
+fn one_of_two_that_wait_gets_it(rt: HostRuntime) {
+    one_of_two_gets_it(rt, GIVEN_UP);
+    one_of_two_gets_it(rt, CLOSED);
 }
