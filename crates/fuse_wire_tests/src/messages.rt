@@ -142,23 +142,33 @@ fn three_answers<S: Source>(source: &mut S, buffer: &mut [u8]) -> [Received; 3]
     ]
 }
 
-/// A stream of one message of 48 bytes gives these answers, where this read fails.
-fn expect_failing(
-    rt: &impl Abort,
-    alloc: Global,
-    buffer: &mut [u8],
-    call: u64,
-    answers: &[Received],
-)
+/// The length field that a stream begins with, how many bytes it has, which read fails, counted from 1, and what it
+/// gives. Each read gives all that is asked for.
+type Stream = (u32, usize, u64, &'static [Received]);
+
+/// So many bytes: a length field, and zero bytes behind it.
+fn plain(rt: &impl Abort, alloc: Global, field: u32, size: usize) -> Vec<u8> {
+    let mut bytes = Vec::from_slice(alloc, &field.to_le_bytes()).expect(rt, "there is memory");
+    bytes.resize(size, 0).expect(rt, "there is memory");
+    bytes
+}
+
+/// A stream that stands so gives these answers.
+fn expect_read(rt: &impl Abort, alloc: Global, buffer: &mut [u8], stream: &Stream)
     requires { length buffer.old ≡ BUFFER_SIZE }
     ensures { length buffer.new ≡ BUFFER_SIZE }
 {
-    let faults = Vec::from_slice(alloc, &[call]).expect(rt, "there is memory");
-    let stream = MemoryBytes::new(message(rt, alloc, 48, 48), 1000, faults);
-    let mut source = StreamSource::new(stream);
+    let (field, size, call, answers) = stream;
+    let faults = Vec::from_slice(alloc, &[*call]).expect(rt, "there is memory");
+    let bytes = plain(rt, alloc, *field, *size);
+    let mut source = StreamSource::new(MemoryBytes::new(bytes, usize::MAX, faults));
     let found = three_answers(&mut source, buffer);
     drop(source.into_inner());
-    expect_same(rt, &(call, found.as_slice()), &(call, answers));
+    expect_same(
+        rt,
+        &(*field, *call, found.as_slice()),
+        &(*field, *call, *answers),
+    );
 }
 
 /// What a source gives.
@@ -168,8 +178,8 @@ enum Case {
     /// These answers, of a source in memory. A Retry before a message changes nothing, and a Fail takes no message.
     /// After the last turn there is no more.
     Turns(&'static [Answer]),
-    /// These answers, of a stream of one message of 48 bytes, where it is read in three calls and this one fails.
-    Failing(u64, &'static [Received]),
+    /// Three answers, of a stream that stands so.
+    Reads(Stream),
 }
 
 const CASES: &[Case] = &[
@@ -211,10 +221,35 @@ const CASES: &[Case] = &[
         (0, Gone),
     ]),
     Case::Turns(&[(0, Gone), (0, Gone)]),
-    Case::Failing(1, &[Failed, Message(48), Gone]),
-    Case::Failing(2, &[Failed, Message(8), Gone]),
-    Case::Failing(3, &[Message(48), Failed, Gone]),
-    Case::Failing(4, &[Message(48), Gone, Failed]),
+    Case::Reads((48, 48, 1, &[Failed, Message(48), Gone])),
+    Case::Reads((48, 48, 2, &[Failed, Message(8), Gone])),
+    Case::Reads((48, 48, 3, &[Message(48), Failed, Gone])),
+    Case::Reads((48, 48, 4, &[Message(48), Gone, Failed])),
+    // What the buffer can't hold is cut off, and stands on the stream as what comes next.
+    Case::Reads((
+        16_781_311,
+        16_781_313,
+        0,
+        &[Message(16_781_311), Message(2), Gone],
+    )),
+    Case::Reads((
+        16_781_312,
+        16_781_313,
+        0,
+        &[Message(16_781_312), Message(1), Gone],
+    )),
+    Case::Reads((
+        16_781_313,
+        16_781_313,
+        0,
+        &[Message(16_781_312), Message(1), Gone],
+    )),
+    Case::Reads((
+        u32::MAX,
+        16_781_313,
+        0,
+        &[Message(16_781_312), Message(1), Gone],
+    )),
 ];
 
 /// The source gives what the case says.
@@ -225,7 +260,7 @@ fn expect_case(rt: &impl Abort, alloc: Global, buffer: &mut [u8], case: &Case)
     match case {
         Case::Cut(step) => expect_cut(rt, alloc, *step, buffer),
         Case::Turns(answers) => expect_turns(rt, alloc, buffer, answers),
-        Case::Failing(call, answers) => expect_failing(rt, alloc, buffer, *call, answers),
+        Case::Reads(stream) => expect_read(rt, alloc, buffer, stream),
     }
 }
 
