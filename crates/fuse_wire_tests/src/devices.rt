@@ -1,4 +1,5 @@
 //! Devices in memory, and frames on a stream.
+ghost use Rattle.std.specs.Prelude.{◌≡◌, length};
 ghost use Rattle.fuse_wire.specs.MemorySink.{EachFails, NumbersDiffer};
 
 use crate::asserts::expect_same;
@@ -372,4 +373,25 @@ fn a_long_piece_is_read_and_written_at_once(rt: HostRuntime) {
     let found = (read, wrote, out.bytes().len(), out.starved());
     let expected = (ByteRead::Got(MANY), ByteWrite::Wrote(MANY), MANY, 0);
     expect_same(&rt, &found, &expected);
+}
+
+/// Sends a frame of this payload twice.
+#[tactic(auto, unfolding(fuse_wire::specs::Numbers::number))]
+fn long_frame_twice(sink: &mut StreamSink<MemoryOut>, payload: &[u8]) -> [Sending; 2]
+    requires { length payload.now ≡ 100_000 }
+{
+    let header = [0xb0, 0x86, 1, 0, 1, 1, 1, 1, 1, 1, 1, 1, 1, 1, 1, 1];
+    [sink.send(&header, payload), sink.send(&header, payload)]
+}
+
+#[test]
+fn a_long_frame_is_two_writes(rt: HostRuntime) {
+    let alloc = rt.alloc();
+    let payload = vec![in alloc; 7; MANY].expect(&rt, "there is memory");
+    let faults = Vec::from_slice(alloc, &[3]).expect(&rt, "there is memory");
+    let mut sink = StreamSink::new(MemoryOut::new(alloc, usize::MAX, faults));
+    let answers = long_frame_twice(&mut sink, &payload);
+    let out = sink.into_inner();
+    let found = (answers, out.bytes().len());
+    expect_same(&rt, &found, &([Sending::Sent, Sending::Failed], 100_016));
 }

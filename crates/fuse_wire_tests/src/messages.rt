@@ -225,6 +225,8 @@ const CASES: &[Case] = &[
     Case::Reads((48, 48, 2, &[Failed, Message(8), Gone])),
     Case::Reads((48, 48, 3, &[Message(48), Failed, Gone])),
     Case::Reads((48, 48, 4, &[Message(48), Gone, Failed])),
+    // A message is two reads, however long it is.
+    Case::Reads((100_000, 100_000, 3, &[Message(100_000), Failed, Gone])),
     // What the buffer can't hold is cut off, and stands on the stream as what comes next.
     Case::Reads((
         16_781_311,
