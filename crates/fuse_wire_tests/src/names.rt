@@ -1,9 +1,13 @@
-//! Errors and flags: the names and values of `errno.h`, `fuse.h`, `poll(2)`, `renameat2(2)` and `access(2)`.
+//! Errors, flags and constants: the names and values of `errno.h`, `fuse.h`, `poll(2)`, `renameat2(2)` and `access(2)`.
 use crate::asserts::{expect_same, expect_text};
 use bitflags::{Flag, Flags};
+use fuse_wire::consts::{
+    BUFFER_SIZE, FUSE_IOCTL_MAX_IOV, FUSE_KERNEL_MINOR_VERSION, FUSE_KERNEL_VERSION, FUSE_LK_FLOCK,
+    FUSE_MIN_READ_BUFFER, MAX_WRITE_SIZE, REQUEST_HEADER_SIZE,
+};
 use fuse_wire::{
     AccessFlags, BsdFileFlags, CopyFileRangeFlags, CuseInitFlags, Errno, FattrFlags, FopenFlags,
-    FsyncFlags, GetattrFlags, InitFlags, IoctlFlags, PollEvents, PollFlags, ReadFlags,
+    FsyncFlags, GetattrFlags, INodeNo, InitFlags, IoctlFlags, PollEvents, PollFlags, ReadFlags,
     ReleaseFlags, RenameFlags, WriteFlags,
 };
 use std::alloc::Global;
@@ -378,6 +382,23 @@ fn flags_have_their_names_and_bits(rt: HostRuntime) {
     expect_names(&rt, init_flags());
     expect_names::<BsdFileFlags>(&rt, &[]);
     expect_names::<CopyFileRangeFlags>(&rt, &[]);
+}
+
+#[test]
+fn constants_have_their_numbers(rt: HostRuntime) {
+    let version = (FUSE_KERNEL_VERSION, FUSE_KERNEL_MINOR_VERSION);
+    let kernel = (FUSE_LK_FLOCK, FUSE_IOCTL_MAX_IOV, INodeNo::ROOT.0);
+    let sizes = [
+        FUSE_MIN_READ_BUFFER,
+        REQUEST_HEADER_SIZE,
+        MAX_WRITE_SIZE,
+        BUFFER_SIZE,
+    ];
+    expect_same(
+        &rt,
+        &(version, kernel, sizes),
+        &((7, 40), (1, 256, 1), [8192, 40, 16_777_216, 16_781_312]),
+    );
 }
 
 const ACCESS_FLAGS: &[(AccessFlags, i32)] = &[
