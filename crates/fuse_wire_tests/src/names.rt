@@ -442,6 +442,29 @@ fn texts_are_decimal(rt: HostRuntime) {
     }
 }
 
+/// The flags of ACCESS with this value, and each set of flags that prints, padded to a width.
+fn padded(rt: &impl Abort, alloc: Global, bits: u32, mask: i32) -> String {
+    format!(in alloc;
+        "{:>4},{:>4},{:>4},{:>4},{:>4},{:>4},{:>4},{:>4}",
+        AccessFlags::from_bits_retain(mask),
+        PollEvents::from_bits_retain(bits),
+        RenameFlags::from_bits_retain(bits),
+        CuseInitFlags::from_bits_retain(bits),
+        FsyncFlags::from_bits_retain(bits),
+        IoctlFlags::from_bits_retain(bits),
+        PollFlags::from_bits_retain(bits),
+        ReleaseFlags::from_bits_retain(bits),
+    )
+    .expect(rt, "there is memory")
+}
+
+#[test]
+fn texts_are_padded(rt: HostRuntime) {
+    let text = padded(&rt, rt.alloc(), 7, -2);
+    let expected = "  -2,   7,   7,   7,   7,   7,   7,   7";
+    expect_same(&rt, &text.as_str(), &expected);
+}
+
 /// A bit without a name, and that of the size.
 fn odd() -> FattrFlags {
     FattrFlags::from_bits_retain(0x1008)

@@ -223,8 +223,16 @@ fn numbers_have_their_texts_and_orders(rt: HostRuntime) {
     expect_cases(&rt, ITEMS);
 }
 
+/// Numbers are padded to a width. A version has one text for each width.
 #[test]
-fn a_version_has_one_text_for_each_width(rt: HostRuntime) {
-    let text = format!(in rt.alloc(); "{:>8}", Version(7, 40)).expect(&rt, "there is memory");
-    expect_same(&rt, &text.as_str(), &"7.40");
+fn numbers_are_padded_and_a_version_is_not(rt: HostRuntime) {
+    let text = format!(in rt.alloc();
+        "{:>4},{:<3},{:04},{:>8}",
+        INodeNo(7),
+        FileHandle(7),
+        LockOwner(7),
+        Version(7, 40)
+    )
+    .expect(&rt, "there is memory");
+    expect_same(&rt, &text.as_str(), &"   7,7  ,0007,7.40");
 }
