@@ -384,6 +384,11 @@ fn long_frame_twice(sink: &mut StreamSink<MemoryOut>, payload: &[u8]) -> [Sendin
     [sink.send(&header, payload), sink.send(&header, payload)]
 }
 
+/// What `Debug` prints of a sink.
+fn shown(rt: &impl Abort, alloc: Global, sink: &StreamSink<MemoryOut>) -> String {
+    format!(in alloc; "{sink:?}").expect(rt, "there is memory")
+}
+
 #[test]
 fn a_long_frame_is_two_writes(rt: HostRuntime) {
     let alloc = rt.alloc();
@@ -394,4 +399,24 @@ fn a_long_frame_is_two_writes(rt: HostRuntime) {
     let out = sink.into_inner();
     let found = (answers, out.bytes().len());
     expect_same(&rt, &found, &([Sending::Sent, Sending::Failed], 100_016));
+}
+
+/// It shows nothing of its stream.
+#[test]
+fn a_stream_sink_shows_how_it_stands(rt: HostRuntime) {
+    let alloc = rt.alloc();
+    let faults = Vec::from_slice(alloc, &[1]).expect(&rt, "there is memory");
+    let mut sink = StreamSink::new(MemoryOut::new(alloc, 7, faults));
+    let before = shown(&rt, alloc, &sink);
+    two_frames(&mut sink);
+    let after = shown(&rt, alloc, &sink);
+    drop(sink.into_inner());
+    expect_same(
+        &rt,
+        &[before.as_str(), after.as_str()],
+        &[
+            "StreamSink { broken: false, .. }",
+            "StreamSink { broken: true, .. }",
+        ],
+    );
 }
