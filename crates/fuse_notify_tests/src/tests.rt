@@ -34,8 +34,8 @@ const OFFSET: u64 = 0xb1b2_b3b4_b5b6_b7b8;
 enum News {
     /// That a file has news.
     Poll,
-    /// That a range of a file is to be dropped.
-    InvalInode,
+    /// That a range of a file is to be dropped, from this offset on and of this length.
+    InvalInode(i64, i64),
     /// That this name is.
     InvalEntry(&'static [u8]),
     /// That these bytes are to be kept.
@@ -44,10 +44,11 @@ enum News {
     Delete(&'static [u8]),
 }
 
-/// The five, in the order of their codes, and what comes of each at a sink that is absent.
+/// The five, in the order of their codes, that of a range twice, and what comes of each at a sink that is absent.
 const EACH: &[(News, Result<(), Undelivered>)] = &[
     (News::Poll, Err(Undelivered::Absent)),
-    (News::InvalInode, Ok(())),
+    (News::InvalInode(FROM, LENGTH), Ok(())),
+    (News::InvalInode(-1, -2), Ok(())),
     (News::InvalEntry(b"abc"), Ok(())),
     (News::Store(&[0xde, 0xad, 0xbe, 0xef]), Ok(())),
     (News::Delete(b"abc"), Ok(())),
@@ -63,6 +64,13 @@ const INVAL_INODE: &[u8] = &[
     0x88, 0x87, 0x86, 0x85, 0x84, 0x83, 0x82, 0x91, // ino
     0xf8, 0xf7, 0xf6, 0xf5, 0xf4, 0xf3, 0xf2, 0xf1, // off
     0x78, 0x77, 0x76, 0x75, 0x74, 0x73, 0x72, 0x71, // len
+];
+
+const NEGATIVE_RANGE: &[u8] = &[
+    0x28, 0, 0, 0, 2, 0, 0, 0, 0, 0, 0, 0, 0, 0, 0, 0, // header
+    0x88, 0x87, 0x86, 0x85, 0x84, 0x83, 0x82, 0x91, // ino
+    0xff, 0xff, 0xff, 0xff, 0xff, 0xff, 0xff, 0xff, // off
+    0xfe, 0xff, 0xff, 0xff, 0xff, 0xff, 0xff, 0xff, // len
 ];
 
 const INVAL_ENTRY: &[u8] = &[
@@ -95,6 +103,7 @@ type Frames = &'static [(usize, &'static [u8])];
 const FRAMES: Frames = &[
     (24, POLL),
     (40, INVAL_INODE),
+    (40, NEGATIVE_RANGE),
     (36, INVAL_ENTRY),
     (44, STORE),
     (44, DELETE),
@@ -104,7 +113,7 @@ const FRAMES: Frames = &[
 fn notice(alloc: Global, news: &News) -> Result<Notice, NoticeError> {
     match news {
         News::Poll => Ok(Notice::poll(alloc, HANDLE)),
-        News::InvalInode => Ok(Notice::inval_inode(alloc, INODE, FROM, LENGTH)),
+        News::InvalInode(from, length) => Ok(Notice::inval_inode(alloc, INODE, *from, *length)),
         News::InvalEntry(name) => Notice::inval_entry(alloc, INODE, name),
         News::Store(bytes) => Notice::store(alloc, INODE, OFFSET, bytes),
         News::Delete(name) => Notice::delete(alloc, INODE, CHILD, name),
@@ -231,7 +240,7 @@ fn notify<R: Wait + AllocGlobal>(
 ) -> Result<(), NotifyError> {
     match news {
         News::Poll => notifier.poll(rt, HANDLE),
-        News::InvalInode => notifier.inval_inode(rt, INODE, FROM, LENGTH),
+        News::InvalInode(from, length) => notifier.inval_inode(rt, INODE, *from, *length),
         News::InvalEntry(name) => notifier.inval_entry(rt, INODE, name),
         News::Store(bytes) => notifier.store(rt, INODE, OFFSET, bytes),
         News::Delete(name) => notifier.delete(rt, INODE, CHILD, name),
@@ -355,7 +364,8 @@ fn take_all<R: Wait + Abort + AllocGlobal>(rt: &R, places: usize, steps: &[Step]
 /// Each notice is queued as it is made.
 const QUEUED: &[Step] = &[
     Step::Notify(News::Poll, Ok(())),
-    Step::Notify(News::InvalInode, Ok(())),
+    Step::Notify(News::InvalInode(FROM, LENGTH), Ok(())),
+    Step::Notify(News::InvalInode(-1, -2), Ok(())),
     Step::Notify(News::InvalEntry(b"abc"), Ok(())),
     Step::Notify(News::Store(&[0xde, 0xad, 0xbe, 0xef]), Ok(())),
     Step::Notify(News::Delete(b"abc"), Ok(())),
@@ -366,12 +376,12 @@ const QUEUED: &[Step] = &[
 const REFUSED: &[Step] = &[
     Step::Notify(News::InvalEntry(b"abc"), Ok(())),
     Step::Notify(News::Poll, Err(NotifyError::Full)),
-    Step::Notify(News::InvalInode, Err(NotifyError::Full)),
+    Step::Notify(News::InvalInode(FROM, LENGTH), Err(NotifyError::Full)),
     Step::Notify(News::InvalEntry(b"abc"), Err(NotifyError::Full)),
     Step::Notify(News::Store(&[0xde]), Err(NotifyError::Full)),
     Step::Notify(News::Delete(b"abc"), Err(NotifyError::Full)),
     Step::Drain(&[(36, INVAL_ENTRY)]),
-    Step::Notify(News::InvalInode, Ok(())),
+    Step::Notify(News::InvalInode(FROM, LENGTH), Ok(())),
     Step::Drain(&[(40, INVAL_INODE)]),
 ];
 
