@@ -312,6 +312,35 @@ fn changes_nothing(rt: HostRuntime) {
     serves_each(&rt, REFUSED);
 }
 
+/// Each other call that is answered by default, by the number of its opcode, with a body that is zero but for a name
+/// or a size.
+const BY_DEFAULT: &[Row] = &[
+    LONG_OPENING,
+    // no blocks and no inodes: `struct fuse_kstatfs`, whose `bsize` is 512 and whose `namelen` is 255
+    (17, 2, 1, NOTHING, 0, (80, &[(41, 2), (44, 255)], b"")),
+    (18, 2, 2, (24, &[], b""), 0, NOTHING),
+    (20, 2, 2, (16, &[], b""), ENOSYS, NOTHING),
+    (22, 2, 2, (8, &[], b"a.b\0"), ENOSYS, NOTHING),
+    (23, 2, 2, (8, &[], b""), ENOSYS, NOTHING),
+    (25, 2, 2, (24, &[], b""), ENOSYS, NOTHING),
+    (29, 2, 1, (24, &[], b""), 0, NOTHING),
+    (30, 2, 1, (16, &[], b""), ENOSYS, NOTHING),
+    (31, 2, 2, (48, &[], b""), ENOSYS, NOTHING),
+    (32, 2, 2, (48, &[], b""), ENOSYS, NOTHING),
+    (33, 2, 2, (48, &[], b""), ENOSYS, NOTHING),
+    (34, 2, 2, (8, &[], b""), ENOSYS, NOTHING),
+    (37, 2, 2, (16, &[], b""), ENOSYS, NOTHING),
+    (39, 2, 2, (32, &[], b""), ENOSYS, NOTHING),
+    (40, 2, 2, (24, &[], b""), ENOSYS, NOTHING),
+    (44, 2, 1, (40, &[(16, 255)], b""), ENOSYS, NOTHING),
+    (46, 2, 2, (24, &[], b""), ENOSYS, NOTHING),
+];
+
+#[test]
+fn answers_by_default(rt: HostRuntime) {
+    serves_each(&rt, BY_DEFAULT);
+}
+
 /// FORGET of nine, and BATCH_FORGET of two rows. No frame comes of either.
 const FORGOTTEN: &[Row] = &[
     LONG_OPENING,
