@@ -1,5 +1,5 @@
-//! The tests of `uses` and of `fuse_read_only`: sessions of the one file, of the one lock, of a layer and of a small
-//! tree, from memory to memory.
+//! The tests of `uses` and of `fuse_read_only`: sessions of the one file, of the one lock, of a layer, of a small
+//! tree and of a wide one, from memory to memory.
 #![tactic(auto)]
 
 #[cfg(test)]
@@ -18,3 +18,5 @@ mod rows;
 mod serving;
 #[cfg(test)]
 mod tests;
+#[cfg(test)]
+mod wide;

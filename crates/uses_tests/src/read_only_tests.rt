@@ -1,8 +1,11 @@
-// Sessions of a small tree that is only read: each request, and what it gets.
+// Sessions of a small tree and of a wide one, which are only read: each request, and what it gets.
 use crate::asserts::expect_same;
 use crate::pair::{LONG, Pair};
-use crate::rows::{Bytes, ENOENT, EROFS, INIT, LOOKUP, NOTHING, OPEN, OPENDIR, READ, READDIR, Row};
+use crate::rows::{
+    Bytes, ENOENT, EROFS, INIT, LOOKUP, NOTHING, OPEN, OPENDIR, READ, READDIR, Row, bytes_of, frame,
+};
 use crate::serving::{ended_well, expect_frames, serve};
+use crate::wide::Wide;
 use fuse_read_only::ReadOnly;
 use fuse_wire::RequestId;
 use std::process::Abort;
@@ -254,6 +257,125 @@ const LISTED: &[Row] = &[
 #[test]
 fn lists_what_fits(rt: HostRuntime) {
     serves_each(&rt, LISTED);
+}
+
+/// READDIR of 65,536 bytes, and its frame but for the entries 2 to 299: of these 300 each has 32 bytes.
+const MANY: Row = (
+    READDIR,
+    2,
+    1,
+    (40, &[(18, 1)], b""),
+    0,
+    (
+        9600,
+        &[
+            (0, 2),
+            (8, 1),
+            (16, 3),
+            (20, 8),
+            (24, b'0'),
+            (25, b'0'),
+            (26, b'0'),
+            (9568, 2),
+            (9576, 0x2c),
+            (9577, 1),
+            (9584, 3),
+            (9588, 8),
+            (9592, b'2'),
+            (9593, b'9'),
+            (9594, b'9'),
+        ],
+        b"",
+    ),
+);
+
+/// READDIR of 4096 bytes from the entry 151 on, and its frame but for what stands between the first and the last of the
+/// 128 entries that fit.
+const PAGE: Row = (
+    READDIR,
+    3,
+    1,
+    (40, &[(8, 150), (17, 0x10)], b""),
+    0,
+    (
+        4096,
+        &[
+            (0, 2),
+            (8, 151),
+            (16, 3),
+            (20, 8),
+            (24, b'1'),
+            (25, b'5'),
+            (26, b'0'),
+            (4064, 2),
+            (4072, 0x16),
+            (4073, 1),
+            (4080, 3),
+            (4084, 8),
+            (4088, b'2'),
+            (4089, b'7'),
+            (4090, b'7'),
+        ],
+        b"",
+    ),
+);
+
+/// A long file.
+const FILE: Bytes = (100_000, &[(0, b'a'), (99_999, b'z')], b"");
+
+/// What is long: the whole directory, a page of it, and by a READ of 100,000 bytes the whole file.
+const LONG_ONES: &[Row] = &[
+    LONG_OPENING,
+    MANY,
+    PAGE,
+    (
+        READ,
+        4,
+        2,
+        (40, &[(16, 0xa0), (17, 0x86), (18, 1)], b""),
+        0,
+        FILE,
+    ),
+];
+
+/// The file, and the names `000` to `299`.
+fn wide<R: AllocGlobal + Abort>(rt: &R, file: &Bytes) -> Wide {
+    let mut names = Vec::new(rt.alloc());
+    for hundreds in b"012" {
+        for tens in b"0123456789" {
+            for ones in b"0123456789" {
+                names
+                    .push([*hundreds, *tens, *ones])
+                    .expect(rt, "there is memory");
+            }
+        }
+    }
+    let file = bytes_of(rt, rt.alloc(), file);
+    Wide { names, file }
+}
+
+/// The frame is as long as that of the row, and it begins and ends as that does: the header with the 32 bytes behind
+/// it, and the last 32.
+fn expect_ends<R: AllocGlobal + Abort>(rt: &R, found: &[u8], row: &Row) {
+    let expected = frame(rt, rt.alloc(), row);
+    let last = expected.len().saturating_sub(32);
+    let ends = (found.len(), found.get(..48), found.get(last..));
+    let wanted = (expected.len(), expected.get(..48), expected.get(last..));
+    expect_same(rt, &ends, &wanted);
+}
+
+/// While there is memory what takes much of it is given too.
+#[test]
+fn gives_what_is_long(rt: HostRuntime) {
+    let tree = ReadOnly::new(wide(&rt, &FILE));
+    let (filesystem, rest) = serve(&rt, tree, None, LONG_ONES);
+    ended_well(&rt, &rest, 4, 4, &[]);
+    expect_same(&rt, &rest.sink.frames().len(), &4);
+    for (found, row) in rest.sink.frames().iter().zip(LONG_ONES) {
+        expect_ends(&rt, found.as_slice(), row);
+    }
+    drop(rest);
+    drop(filesystem);
 }
 
 /// Each call that would change something, by the number of its opcode, and the file as it is then.
