@@ -1,9 +1,12 @@
 // What directory replies carry, as bytes.
 use crate::asserts::expect_same;
-use crate::frames::{ATTRIBUTES, BLOCK_SIZE, ENTRY_FRONT, ID, Parts, attributes, carries, short};
+use crate::frames::{
+    ATTRIBUTES, BLOCK_SIZE, ENTRY_FRONT, ID, Numbers, Parts, WIDE_ATTRIBUTES, WIDE_ENTRY_FRONT,
+    carries, entry_of, short,
+};
 use fuse_reply::laws::{listings_give_their_entries_back, plus_listings_split_in_one_way};
 use fuse_reply::{ReplyDirectory, ReplyDirectoryPlus};
-use fuse_wire::{Duration, FileType, Generation, INodeNo, NoMemory};
+use fuse_wire::{FileType, INodeNo, NoMemory};
 use std::alloc::{AllocError, Global};
 use std::process::Abort;
 
@@ -301,49 +304,88 @@ fn lists_more_than_is_held_inline_or_leaves_it_out(rt: HostRuntime) {
     carries_numbered(&rt, rt.alloc(), reply, count, length);
 }
 
-/// An entry that a listing with lookups is to take: the offset after it, its name, and whether it does not fit.
-type PlusEntry = (u64, &'static [u8], bool);
+/// An entry that a listing with lookups is to take: its numbers, the offset after it, its name, and whether it does not
+/// fit.
+type PlusEntry = (Numbers, u64, &'static [u8], bool);
 
-/// Three entries, of which the second does not fit behind the first.
-const PLUS_ENTRIES: &[PlusEntry] = &[(1, b"hello", false), (2, b"hello", true), (3, b"", false)];
+/// How many bytes a listing with lookups may have, the entries that it is to take, and its payload then.
+type PlusListing = (usize, &'static [PlusEntry], Parts);
 
-/// What a listing of 319 bytes carries of them.
-const PLUS_LISTING: Parts = &[
-    ENTRY_FRONT,
-    ATTRIBUTES,
-    BLOCK_SIZE,
-    &[
-        0x11, 0, 0, 0, 0, 0, 0, 0, 1, 0, 0, 0, 0, 0, 0, 0, 5, 0, 0, 0, 8, 0, 0, 0, 0x68, 0x65,
-        0x6c, 0x6c, 0x6f, 0, 0, 0,
-    ],
-    ENTRY_FRONT,
-    ATTRIBUTES,
-    BLOCK_SIZE,
-    &[
-        0x11, 0, 0, 0, 0, 0, 0, 0, 3, 0, 0, 0, 0, 0, 0, 0, 0, 0, 0, 0, 8, 0, 0, 0,
-    ],
+/// Listings with lookups: of three entries, of which the second does not fit behind the first, and of one alone, which
+/// does not fit in a byte less.
+const PLUS_LISTINGS: &[PlusListing] = &[
+    (
+        319,
+        &[
+            (Numbers::Small, 1, b"hello", false),
+            (Numbers::Small, 2, b"hello", true),
+            (Numbers::Small, 3, b"", false),
+        ],
+        &[
+            ENTRY_FRONT,
+            ATTRIBUTES,
+            BLOCK_SIZE,
+            &[
+                0x11, 0, 0, 0, 0, 0, 0, 0, 1, 0, 0, 0, 0, 0, 0, 0, 5, 0, 0, 0, 8, 0, 0, 0, 0x68,
+                0x65, 0x6c, 0x6c, 0x6f, 0, 0, 0,
+            ],
+            ENTRY_FRONT,
+            ATTRIBUTES,
+            BLOCK_SIZE,
+            &[
+                0x11, 0, 0, 0, 0, 0, 0, 0, 3, 0, 0, 0, 0, 0, 0, 0, 0, 0, 0, 0, 8, 0, 0, 0,
+            ],
+        ],
+    ),
+    (
+        168,
+        &[(Numbers::Wide, u64::MAX, &[7; 9], false)],
+        &[
+            WIDE_ENTRY_FRONT,
+            WIDE_ATTRIBUTES,
+            &[0x18, 0x17, 0x16, 0x15, 0x14, 0x13, 0x12, 0x11],
+            &[0xff; 8],
+            &[9, 0, 0, 0, 8, 0, 0, 0],
+            &[7; 9],
+            &[0; 7],
+        ],
+    ),
+    (167, &[(Numbers::Wide, u64::MAX, &[7; 9], true)], &[]),
 ];
 
 /// The entry is taken, or does not fit, as its row says.
 fn add_plus(rt: &impl Abort, reply: &mut ReplyDirectoryPlus, entry: &PlusEntry) {
-    let (offset, name, full) = entry;
-    let ttl = Duration::new(0x8765, 0x4321);
+    let (numbers, offset, name, full) = entry;
+    let (ttl, attr, generation) = entry_of(numbers);
     let found = reply.add(
         INodeNo(0x99),
         *offset,
         short(rt, name),
         &ttl,
-        &attributes(),
-        Generation(0xaa),
+        &attr,
+        generation,
     );
     expect_same(rt, &(*name, found), &(*name, Ok(*full)));
 }
 
+/// The listing with lookups of so many bytes that was to take these entries.
+fn listed_plus(
+    rt: &impl Abort,
+    alloc: Global,
+    size: usize,
+    entries: &[PlusEntry],
+) -> ReplyDirectoryPlus {
+    let mut reply = ReplyDirectoryPlus::new(alloc, ID, size);
+    for entry in entries {
+        add_plus(rt, &mut reply, entry);
+    }
+    reply
+}
+
 #[test]
 fn lists_entries_with_what_a_lookup_answers(rt: HostRuntime) {
-    let mut reply = ReplyDirectoryPlus::new(rt.alloc(), ID, 319);
-    for entry in PLUS_ENTRIES {
-        add_plus(&rt, &mut reply, entry);
+    for (size, entries, payload) in PLUS_LISTINGS {
+        let reply = listed_plus(&rt, rt.alloc(), *size, entries);
+        carries(&rt, rt.alloc(), reply.ok(), payload);
     }
-    carries(&rt, rt.alloc(), reply.ok(), PLUS_LISTING);
 }

@@ -2,20 +2,23 @@
 ghost use Rattle.std.specs.Prelude.{◌≡◌, bit_and};
 ghost use Rattle.fuse_wire.specs.Flags.{FOPEN_PASSTHROUGH};
 
-use crate::frames::{ATTRIBUTES, ENTRY_FRONT, ID, Parts, attributes, carries, short};
+use crate::frames::{
+    ATTRIBUTES, ENTRY_FRONT, ID, Numbers, Parts, WIDE_ATTRIBUTES, WIDE_ENTRY_FRONT, carries,
+    entry_of, short,
+};
 use bitflags::Flags;
 use fuse_reply::{
     Replied, ReplyBmap, ReplyCreate, ReplyIoctl, ReplyLock, ReplyLseek, ReplyOpen, ReplyPoll,
     ReplyStatfs, ReplyWrite, ReplyXattr,
 };
-use fuse_wire::{Duration, FileHandle, FopenFlags, Generation, PollEvents};
+use fuse_wire::{FileHandle, FopenFlags, PollEvents};
 use std::alloc::Global;
 use std::process::Abort;
 
 /// What a request is answered by.
 enum Answer {
-    /// A new file of these flags.
-    Created(u32),
+    /// A new file with an entry of these numbers: the size of its blocks, its handle, and its flags.
+    Created(Numbers, u32, u64, u32),
     /// The handle of an open file, and its flags.
     Opened(u64, u32),
     /// How much was written.
@@ -46,20 +49,33 @@ fn open_flags(rt: &impl Abort, bits: u32) -> FopenFlags
     FopenFlags::from_bits_retain(bits)
 }
 
-/// A new file of these flags, whose blocks have 0xdd bytes.
-fn created(alloc: Global, flags: FopenFlags) -> Replied
+/// A new file with an entry of these numbers, whose blocks have so many bytes, open under this handle.
+fn created(
+    alloc: Global,
+    numbers: &Numbers,
+    blksize: u32,
+    fh: FileHandle,
+    flags: FopenFlags,
+) -> Replied
     requires { bit_and flags.0 FOPEN_PASSTHROUGH ≡ 0 }
 {
-    let mut attr = attributes();
-    attr.blksize = 0xdd;
-    let ttl = Duration::new(0x8765, 0x4321);
-    ReplyCreate::new(alloc, ID).created(&ttl, &attr, Generation(0xaa), FileHandle(0xbb), flags)
+    let (ttl, mut attr, generation) = entry_of(numbers);
+    attr.blksize = blksize;
+    ReplyCreate::new(alloc, ID).created(&ttl, &attr, generation, fh, flags)
 }
 
 /// The reply, spent by its own kind.
 fn replied(rt: &impl Abort, alloc: Global, answer: &Answer) -> Replied {
     match answer {
-        Answer::Created(flags) => created(alloc, open_flags(rt, *flags)),
+        Answer::Created(numbers, blksize, fh, flags) => {
+            created(
+                alloc,
+                numbers,
+                *blksize,
+                FileHandle(*fh),
+                open_flags(rt, *flags),
+            )
+        }
         Answer::Opened(fh, flags) => {
             ReplyOpen::new(alloc, ID).opened(FileHandle(*fh), open_flags(rt, *flags))
         }
@@ -86,12 +102,46 @@ fn replied(rt: &impl Abort, alloc: Global, answer: &Answer) -> Replied {
 /// Answers by files, fills and locks, and their payloads.
 const RECORDS: &[(Answer, Parts)] = &[
     (
-        Answer::Created(0x0c),
+        Answer::Created(Numbers::Small, 0xdd, 0xbb, 0x0c),
         &[
             ENTRY_FRONT,
             ATTRIBUTES,
             &[0xdd, 0, 0, 0, 0, 0, 0, 0],
             &[0xbb, 0, 0, 0, 0, 0, 0, 0, 0x0c, 0, 0, 0, 0, 0, 0, 0],
+        ],
+    ),
+    (
+        Answer::Created(
+            Numbers::Wide,
+            0xe1e2_e3e4,
+            0xf1f2_f3f4_f5f6_f7f8,
+            0x5152_5354,
+        ),
+        &[
+            WIDE_ENTRY_FRONT,
+            WIDE_ATTRIBUTES,
+            &[
+                0xf8, 0xf7, 0xf6, 0xf5, 0xf4, 0xf3, 0xf2, 0xf1, 0x54, 0x53, 0x52, 0x51, 0, 0, 0, 0,
+            ],
+        ],
+    ),
+    (
+        Answer::Created(Numbers::Greatest, u32::MAX, u64::MAX, 0xffff_ff7f),
+        &[
+            &[0xff; 32],
+            &[0xff, 0xc9, 0x9a, 0x3b, 0xff, 0xc9, 0x9a, 0x3b],
+            &[0xff; 24],
+            &[0xff, 0xff, 0xff, 0xff, 0xff, 0xff, 0xff, 0x7f],
+            &[0xff, 0xff, 0xff, 0xff, 0xff, 0xff, 0xff, 0x7f],
+            &[0xff, 0xff, 0xff, 0xff, 0xff, 0xff, 0xff, 0x7f],
+            &[
+                0xff, 0xc9, 0x9a, 0x3b, 0xff, 0xc9, 0x9a, 0x3b, 0xff, 0xc9, 0x9a, 0x3b,
+            ],
+            &[0xff, 0xff, 0, 0],
+            &[0xff; 20],
+            &[0; 4],
+            &[0xff; 8],
+            &[0x7f, 0xff, 0xff, 0xff, 0, 0, 0, 0],
         ],
     ),
     (
@@ -134,6 +184,18 @@ const RECORDS: &[(Answer, Parts)] = &[
             &[0xff; 8],
             &[0xfe, 0xff, 0xff, 0xff, 0xff, 0xff, 0xff, 0xff],
         ],
+    ),
+    (
+        Answer::Lock(
+            0x1112_1314_1516_1718,
+            0x2122_2324_2526_2728,
+            0x3132_3334,
+            0x4142_4344,
+        ),
+        &[&[
+            0x18, 0x17, 0x16, 0x15, 0x14, 0x13, 0x12, 0x11, 0x28, 0x27, 0x26, 0x25, 0x24, 0x23,
+            0x22, 0x21, 0x34, 0x33, 0x32, 0x31, 0x44, 0x43, 0x42, 0x41,
+        ]],
     ),
 ];
 

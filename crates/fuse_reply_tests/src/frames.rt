@@ -3,7 +3,9 @@ ghost use Rattle.std.specs.Prelude.{◌≤◌, length};
 
 use crate::asserts::expect_same;
 use fuse_reply::{Out, OutEnd, Replied};
-use fuse_wire::{FileAttr, FileType, INodeNo, MemorySink, RequestId, SystemTime};
+use fuse_wire::{
+    Duration, FileAttr, FileType, Generation, INodeNo, MemorySink, RequestId, SystemTime,
+};
 use std::alloc::{AllocError, Global};
 use std::process::Abort;
 
@@ -140,3 +142,94 @@ pub const ENTRY_FRONT: &[u8] = &[
     0x11, 0, 0, 0, 0, 0, 0, 0, 0xaa, 0, 0, 0, 0, 0, 0, 0, 0x65, 0x87, 0, 0, 0, 0, 0, 0, 0x65, 0x87,
     0, 0, 0, 0, 0, 0, 0x21, 0x43, 0, 0, 0x21, 0x43, 0, 0,
 ];
+
+/// Attributes whose numbers take all their bytes, each another one.
+pub fn wide_attributes() -> FileAttr {
+    FileAttr {
+        ino: INodeNo(0x1112_1314_1516_1718),
+        size: 0x2122_2324_2526_2728,
+        blocks: 0x3132_3334_3536_3738,
+        atime: SystemTime(0x4142_4344_4546_4748 * 1_000_000_000 + 0x0102_0304),
+        mtime: SystemTime(0x5152_5354_5556_5758 * 1_000_000_000 + 0x1112_1314),
+        ctime: SystemTime(0x6162_6364_6566_6768 * 1_000_000_000 + 0x0506_0708),
+        crtime: SystemTime(0x7172_7374_7576_7778 * 1_000_000_000 + 0x090a_0b0c),
+        kind: FileType::RegularFile,
+        perm: 0o644,
+        nlink: 0x7172_7374,
+        uid: 0x8182_8384,
+        gid: 0x9192_9394,
+        rdev: 0xd1d2_d3d4,
+        blksize: 0xe1e2_e3e4,
+        flags: 0xf1f2_f3f4,
+    }
+}
+
+/// Their bytes, all of them.
+pub const WIDE_ATTRIBUTES: &[u8] = &[
+    0x18, 0x17, 0x16, 0x15, 0x14, 0x13, 0x12, 0x11, 0x28, 0x27, 0x26, 0x25, 0x24, 0x23, 0x22, 0x21,
+    0x38, 0x37, 0x36, 0x35, 0x34, 0x33, 0x32, 0x31, 0x48, 0x47, 0x46, 0x45, 0x44, 0x43, 0x42, 0x41,
+    0x58, 0x57, 0x56, 0x55, 0x54, 0x53, 0x52, 0x51, 0x68, 0x67, 0x66, 0x65, 0x64, 0x63, 0x62, 0x61,
+    4, 3, 2, 1, 0x14, 0x13, 0x12, 0x11, 8, 7, 6, 5, 0xa4, 0x81, 0, 0, 0x74, 0x73, 0x72, 0x71, 0x84,
+    0x83, 0x82, 0x81, 0x94, 0x93, 0x92, 0x91, 0xd4, 0xd3, 0xd2, 0xd1, 0xe4, 0xe3, 0xe2, 0xe1, 0, 0,
+    0, 0,
+];
+
+/// What stands in front of them in an entry of such a generation, which is held as long as they are.
+pub const WIDE_ENTRY_FRONT: &[u8] = &[
+    0x18, 0x17, 0x16, 0x15, 0x14, 0x13, 0x12, 0x11, 0xc8, 0xc7, 0xc6, 0xc5, 0xc4, 0xc3, 0xc2, 0xc1,
+    0xb8, 0xb7, 0xb6, 0xb5, 0xb4, 0xb3, 0xb2, 0xb1, 0xb8, 0xb7, 0xb6, 0xb5, 0xb4, 0xb3, 0xb2, 0xb1,
+    0x24, 0x23, 0x22, 0x21, 0x24, 0x23, 0x22, 0x21,
+];
+
+/// Attributes of the greatest numbers.
+fn greatest_attributes() -> FileAttr {
+    let time = SystemTime(9_223_372_036_854_775_807_999_999_999);
+    FileAttr {
+        ino: INodeNo(u64::MAX),
+        size: u64::MAX,
+        blocks: u64::MAX,
+        atime: time,
+        mtime: time,
+        ctime: time,
+        crtime: time,
+        kind: FileType::RegularFile,
+        perm: u16::MAX,
+        nlink: u32::MAX,
+        uid: u32::MAX,
+        gid: u32::MAX,
+        rdev: u32::MAX,
+        blksize: u32::MAX,
+        flags: u32::MAX,
+    }
+}
+
+/// Which numbers an entry has.
+pub enum Numbers {
+    /// Those of `attributes`, with the generation and the time of `ENTRY_FRONT`.
+    Small,
+    /// Those of `wide_attributes`, with the generation and the time of `WIDE_ENTRY_FRONT`.
+    Wide,
+    /// The greatest.
+    Greatest,
+}
+
+/// How long an entry of these numbers is held, its attributes and its generation.
+pub fn entry_of(numbers: &Numbers) -> (Duration, FileAttr, Generation) {
+    match numbers {
+        Numbers::Small => (
+            Duration::new(0x8765, 0x4321),
+            attributes(),
+            Generation(0xaa),
+        ),
+        Numbers::Wide => (
+            Duration::new(0xb1b2_b3b4_b5b6_b7b8, 0x2122_2324),
+            wide_attributes(),
+            Generation(0xc1c2_c3c4_c5c6_c7c8),
+        ),
+        Numbers::Greatest => (
+            Duration::new(u64::MAX, 999_999_999),
+            greatest_attributes(),
+            Generation(u64::MAX),
+        ),
+    }
+}

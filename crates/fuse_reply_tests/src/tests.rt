@@ -4,8 +4,8 @@ ghost use Rattle.fuse_wire.specs.declared.sink.Sending.TheVariants.{Sent};
 
 use crate::asserts::expect_same;
 use crate::frames::{
-    ATTRIBUTES, BLOCK_SIZE, ENTRY_FRONT, ID, Parts, attributes, expect_sent, sends, sends_part,
-    sent, short, told, whole_or_starved,
+    ATTRIBUTES, BLOCK_SIZE, ENTRY_FRONT, ID, Parts, WIDE_ATTRIBUTES, attributes, expect_sent,
+    sends, sends_part, sent, short, told, whole_or_starved, wide_attributes,
 };
 use fuse_reply::{
     Out, OutEnd, Packed, Replied, Reply, ReplyAttr, ReplyData, ReplyDirectory, ReplyDirectoryPlus,
@@ -43,8 +43,12 @@ enum Answer {
     Entry,
     /// An entry whose name is held for another time than its attributes.
     TwoSpans,
+    /// The same, of numbers that take all their bytes.
+    WideEntry,
     /// Attributes.
     Attr,
+    /// The same, of numbers that take all their bytes.
+    WideAttr,
     /// Attributes of this kind of file and these permissions.
     Mode(FileType, u16),
     /// Attributes of these times: of the last access, and of the last changes of the contents and of the inode.
@@ -110,7 +114,17 @@ fn replied(alloc: Global, answer: &Answer) -> Replied {
             &attr,
             Generation(0xaa),
         ),
+        Answer::WideEntry => ReplyEntry::new(alloc, ID).entry_with_ttls(
+            &Duration::new(0xb1b2_b3b4_b5b6_b7b8, 0x2122_2324),
+            &Duration::new(0xa1a2_a3a4_a5a6_a7a8, 0x3132_3334),
+            &wide_attributes(),
+            Generation(0xc1c2_c3c4_c5c6_c7c8),
+        ),
         Answer::Attr => ReplyAttr::new(alloc, ID).attr(&ttl, &attr),
+        Answer::WideAttr => ReplyAttr::new(alloc, ID).attr(
+            &Duration::new(0xb1b2_b3b4_b5b6_b7b8, 0x2122_2324),
+            &wide_attributes(),
+        ),
         Answer::Mode(_, _) | Answer::Times(_) => {
             ReplyAttr::new(alloc, ID).attr(&Duration::new(1, 0), &attr)
         }
@@ -188,6 +202,28 @@ const FRAMES: &[(Answer, Parts)] = &[
             ],
             ATTRIBUTES,
             BLOCK_SIZE,
+        ],
+    ),
+    (
+        Answer::WideEntry,
+        &[
+            &[
+                0x90, 0, 0, 0, 0, 0, 0, 0, 0xef, 0xbe, 0xad, 0xde, 0, 0, 0, 0, 0x18, 0x17, 0x16,
+                0x15, 0x14, 0x13, 0x12, 0x11, 0xc8, 0xc7, 0xc6, 0xc5, 0xc4, 0xc3, 0xc2, 0xc1, 0xa8,
+                0xa7, 0xa6, 0xa5, 0xa4, 0xa3, 0xa2, 0xa1, 0xb8, 0xb7, 0xb6, 0xb5, 0xb4, 0xb3, 0xb2,
+                0xb1, 0x34, 0x33, 0x32, 0x31, 0x24, 0x23, 0x22, 0x21,
+            ],
+            WIDE_ATTRIBUTES,
+        ],
+    ),
+    (
+        Answer::WideAttr,
+        &[
+            &[
+                0x78, 0, 0, 0, 0, 0, 0, 0, 0xef, 0xbe, 0xad, 0xde, 0, 0, 0, 0, 0xb8, 0xb7, 0xb6,
+                0xb5, 0xb4, 0xb3, 0xb2, 0xb1, 0x24, 0x23, 0x22, 0x21, 0, 0, 0, 0,
+            ],
+            WIDE_ATTRIBUTES,
         ],
     ),
 ];
