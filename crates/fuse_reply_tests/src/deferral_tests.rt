@@ -182,7 +182,7 @@ fn parted<K: Held>(
 
 /// What goes out at once for a reply of bytes, which come later.
 fn carry_later<R: Wait + Abort>(rt: &R, reply: ReplyData, bytes: &[u8]) -> Out
-    requires { length bytes.now ≤ 255 }
+    requires { length bytes.now ≤ 1024 }
 {
     let (out, reply, token) = parted(rt, reply.defer());
     token.send_or_retire(rt, reply.data(bytes));

@@ -148,6 +148,26 @@ const PADDED: &[Listing] = &[
         &[(u64::MAX, u64::MAX, FileType::Socket, &[7; 255], true)],
         &[],
     ),
+    (
+        280,
+        &[(u64::MAX, u64::MAX, FileType::Socket, &[7; 256], false)],
+        &[&[0xff; 16], &[0, 1, 0, 0, 12, 0, 0, 0], &[7; 256]],
+    ),
+    (
+        279,
+        &[(u64::MAX, u64::MAX, FileType::Socket, &[7; 256], true)],
+        &[],
+    ),
+    (
+        1048,
+        &[(u64::MAX, u64::MAX, FileType::Socket, &[7; 1024], false)],
+        &[&[0xff; 16], &[0, 4, 0, 0, 12, 0, 0, 0], &[7; 1024]],
+    ),
+    (
+        1047,
+        &[(u64::MAX, u64::MAX, FileType::Socket, &[7; 1024], true)],
+        &[],
+    ),
 ];
 
 /// The entry is taken, or does not fit, as its row says.
@@ -351,6 +371,19 @@ const PLUS_LISTINGS: &[PlusListing] = &[
         ],
     ),
     (167, &[(Numbers::Wide, u64::MAX, &[7; 9], true)], &[]),
+    (
+        1176,
+        &[(Numbers::Wide, u64::MAX, &[7; 1024], false)],
+        &[
+            WIDE_ENTRY_FRONT,
+            WIDE_ATTRIBUTES,
+            &[0x18, 0x17, 0x16, 0x15, 0x14, 0x13, 0x12, 0x11],
+            &[0xff; 8],
+            &[0, 4, 0, 0, 8, 0, 0, 0],
+            &[7; 1024],
+        ],
+    ),
+    (1175, &[(Numbers::Wide, u64::MAX, &[7; 1024], true)], &[]),
 ];
 
 /// The entry is taken, or does not fit, as its row says.

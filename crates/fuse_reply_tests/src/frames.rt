@@ -40,11 +40,11 @@ pub fn told(sink: &MemorySink, end: OutEnd) -> (OutEnd, Option<&[u8]>, usize) {
     (end, frame, sink.notes().len())
 }
 
-/// These bytes, which are no more than 255.
+/// These bytes, which are no more than 1024.
 pub fn short<'a>(rt: &impl Abort, bytes: &'a [u8]) -> &'a [u8]
-    ensures { length result.now ≤ 255 }
+    ensures { length result.now ≤ 1024 }
 {
-    assert!(rt; bytes.len() <= 255);
+    assert!(rt; bytes.len() <= 1024);
     bytes
 }
 

@@ -3,8 +3,8 @@ ghost use Rattle.std.specs.Prelude.{◌≤◌, length};
 
 use crate::asserts::expect_same;
 use crate::frames::{ID, attributes, carries, sends_part, short};
-use fuse_reply::{Replied, ReplyData, ReplyDirectoryPlus, ReplyIoctl, ReplyXattr};
-use fuse_wire::{Duration, Generation, INodeNo, NoMemory};
+use fuse_reply::{Replied, ReplyData, ReplyDirectory, ReplyDirectoryPlus, ReplyIoctl, ReplyXattr};
+use fuse_wire::{Duration, FileType, Generation, INodeNo, NoMemory};
 use std::alloc::{AllocError, Global};
 use std::process::Abort;
 
@@ -15,6 +15,8 @@ enum Kind {
     Xattr,
     /// Of an ioctl whose result is 9.
     Ioctl,
+    /// Of an entry of a directory, whose name is these bytes: 65,536 of them.
+    Name,
 }
 
 /// Kinds of replies, and how many bytes they carry.
@@ -24,6 +26,7 @@ const LONG: &[(Kind, usize)] = &[
     (Kind::Xattr, 65_536),
     (Kind::Ioctl, 4097),
     (Kind::Ioctl, 262_144),
+    (Kind::Name, 65_536),
 ];
 
 /// So many bytes.
@@ -41,12 +44,26 @@ fn within<'a>(rt: &impl Abort, bytes: &'a [u8]) -> &'a [u8]
     bytes
 }
 
+/// The reply of one entry of a directory, which has this name.
+fn named(rt: &impl Abort, alloc: Global, name: &[u8]) -> Replied {
+    let mut reply = ReplyDirectory::new(alloc, ID, usize::MAX);
+    let found = reply.add(
+        INodeNo(u64::MAX),
+        u64::MAX,
+        FileType::Socket,
+        within(rt, name),
+    );
+    expect_same(rt, &found, &Ok(false));
+    reply.ok()
+}
+
 /// The reply that carries these bytes.
 fn replied(rt: &impl Abort, alloc: Global, kind: Kind, bytes: &[u8]) -> Replied {
     match kind {
         Kind::Data => ReplyData::new(alloc, ID).data(within(rt, bytes)),
         Kind::Xattr => ReplyXattr::new(alloc, ID).data(within(rt, bytes)),
         Kind::Ioctl => ReplyIoctl::new(alloc, ID).ioctl(9, within(rt, bytes)),
+        Kind::Name => named(rt, alloc, bytes),
     }
 }
 
@@ -55,6 +72,10 @@ fn front(kind: Kind) -> &'static [u8] {
     match kind {
         Kind::Data | Kind::Xattr => &[],
         Kind::Ioctl => &[9, 0, 0, 0, 0, 0, 0, 0, 1, 0, 0, 0, 1, 0, 0, 0],
+        Kind::Name => &[
+            0xff, 0xff, 0xff, 0xff, 0xff, 0xff, 0xff, 0xff, 0xff, 0xff, 0xff, 0xff, 0xff, 0xff,
+            0xff, 0xff, 0, 0, 1, 0, 12, 0, 0, 0,
+        ],
     }
 }
 
