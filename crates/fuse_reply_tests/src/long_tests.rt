@@ -3,7 +3,9 @@ ghost use Rattle.std.specs.Prelude.{◌≤◌, length};
 
 use crate::asserts::expect_same;
 use crate::frames::{ID, attributes, carries, sends_part, short};
-use fuse_reply::{Replied, ReplyData, ReplyDirectory, ReplyDirectoryPlus, ReplyIoctl, ReplyXattr};
+use fuse_reply::{
+    Packed, Replied, ReplyData, ReplyDirectory, ReplyDirectoryPlus, ReplyIoctl, ReplyXattr,
+};
 use fuse_wire::{Duration, FileType, Generation, INodeNo, NoMemory};
 use std::alloc::{AllocError, Global};
 use std::process::Abort;
@@ -88,25 +90,69 @@ fn replies_of_many_bytes_go_out_whole(rt: HostRuntime) {
     }
 }
 
-/// The headers of frames that carry one byte more than 16 mebibytes.
-const LONGEST: &[(Kind, &[u8])] = &[
+/// What the frames of one byte more than 16 mebibytes have from this byte on: their headers, and their last bytes.
+const LONGEST: &[(Kind, usize, &[u8])] = &[
     (
         Kind::Data,
+        0,
         &[17, 0, 0, 1, 0, 0, 0, 0, 0xef, 0xbe, 0xad, 0xde, 0, 0, 0, 0],
     ),
+    (Kind::Data, 16_777_232, &[7]),
+    (
+        Kind::Xattr,
+        0,
+        &[17, 0, 0, 1, 0, 0, 0, 0, 0xef, 0xbe, 0xad, 0xde, 0, 0, 0, 0],
+    ),
+    (Kind::Xattr, 16_777_232, &[7]),
     (
         Kind::Ioctl,
+        0,
         &[33, 0, 0, 1, 0, 0, 0, 0, 0xef, 0xbe, 0xad, 0xde, 0, 0, 0, 0],
     ),
+    (Kind::Ioctl, 16_777_248, &[7]),
 ];
 
-/// A frame of the longest answers is no error, and its header says how long it is.
+/// A frame of the longest answers is no error, its header says how long it is, and it is as long.
 #[test]
 fn the_longest_replies_find_memory_where_there_is_some(rt: HostRuntime) {
     let bytes = many(rt.alloc(), 16_777_217).expect(&rt, "there is memory");
-    for (kind, header) in LONGEST {
+    for (kind, at, part) in LONGEST {
         let replied = replied(&rt, rt.alloc(), *kind, &bytes);
-        sends_part(&rt, rt.alloc(), replied, 0, header);
+        sends_part(&rt, rt.alloc(), replied, *at, part);
+    }
+}
+
+/// How many bytes frames carry that are held packed, and the headers of these.
+const PACKED: &[(usize, [u8; 16])] = &[
+    (
+        145,
+        [161, 0, 0, 0, 0, 0, 0, 0, 0xef, 0xbe, 0xad, 0xde, 0, 0, 0, 0],
+    ),
+    (
+        65_536,
+        [16, 0, 1, 0, 0, 0, 0, 0, 0xef, 0xbe, 0xad, 0xde, 0, 0, 0, 0],
+    ),
+];
+
+/// What `Debug` prints of a frame of this header that carries these bytes.
+fn packed_text(alloc: Global, header: &[u8; 16], payload: &[u8]) -> Result<String, AllocError> {
+    format!(in alloc; "Packed {{ header: {header:?}, payload: {payload:?} }}")
+}
+
+/// A frame that carries these bytes has this header, and so has a copy of it.
+fn expect_packed(rt: &impl Abort, alloc: Global, header: &[u8; 16], payload: &[u8]) {
+    let packed = Packed::new(alloc, ID, 0, within(rt, payload)).expect(rt, "there is memory");
+    let copy = packed.clone().expect(rt, "there is memory");
+    let found = format!(in alloc; "{copy:?}").expect(rt, "there is memory");
+    let expected = packed_text(alloc, header, payload).expect(rt, "there is memory");
+    expect_same(rt, &found, &expected);
+}
+
+#[test]
+fn packs_and_copies_more_than_is_held_inline(rt: HostRuntime) {
+    for (count, header) in PACKED {
+        let payload = many(rt.alloc(), *count).expect(&rt, "there is memory");
+        expect_packed(&rt, rt.alloc(), header, &payload);
     }
 }
 
@@ -115,24 +161,43 @@ fn the_longest_replies_find_memory_where_there_is_some(rt: HostRuntime) {
 fn fill(rt: &impl Abort, reply: &mut ReplyDirectoryPlus) -> Result<u64, NoMemory> {
     let ttl = Duration::new(0, 0);
     let name = short(rt, b"hello");
-    for place in 0..1000 {
+    for place in 0..7000 {
         if reply.add(INodeNo(2), place, name, &ttl, &attributes(), Generation(0))? {
             return Ok(place);
         }
     }
-    Ok(1000)
+    Ok(7000)
 }
 
-/// The entry at place 408, from its inode on, in a listing of 65,536 bytes: the last of 409.
-const LAST: &[u8] = &[
-    0x11, 0, 0, 0, 0, 0, 0, 0, 0x98, 1, 0, 0, 0, 0, 0, 0, 5, 0, 0, 0, 8, 0, 0, 0, 0x68, 0x65, 0x6c,
-    0x6c, 0x6f, 0, 0, 0,
+/// So many bytes for entries with lookups, how many are taken, where in the frame the last has its inode, behind what the
+/// lookup answers, and its bytes from there on.
+const CUTS: &[(usize, u64, usize, &[u8])] = &[
+    (
+        65_536,
+        409,
+        16 + 408 * 160 + 128,
+        &[
+            0x11, 0, 0, 0, 0, 0, 0, 0, 0x98, 1, 0, 0, 0, 0, 0, 0, 5, 0, 0, 0, 8, 0, 0, 0, 0x68,
+            0x65, 0x6c, 0x6c, 0x6f, 0, 0, 0,
+        ],
+    ),
+    (
+        1_048_576,
+        6553,
+        16 + 6552 * 160 + 128,
+        &[
+            0x11, 0, 0, 0, 0, 0, 0, 0, 0x98, 0x19, 0, 0, 0, 0, 0, 0, 5, 0, 0, 0, 8, 0, 0, 0, 0x68,
+            0x65, 0x6c, 0x6c, 0x6f, 0, 0, 0,
+        ],
+    ),
 ];
 
 #[test]
 fn a_long_directory_with_lookups_is_cut_at_its_size(rt: HostRuntime) {
-    let mut reply = ReplyDirectoryPlus::new(rt.alloc(), ID, 65_536);
-    let taken = fill(&rt, &mut reply);
-    expect_same(&rt, &taken, &Ok(409));
-    sends_part(&rt, rt.alloc(), reply.ok(), 16 + 408 * 160 + 128, LAST);
+    for (size, count, at, last) in CUTS {
+        let mut reply = ReplyDirectoryPlus::new(rt.alloc(), ID, *size);
+        let taken = fill(&rt, &mut reply);
+        expect_same(&rt, &(*size, taken), &(*size, Ok(*count)));
+        sends_part(&rt, rt.alloc(), reply.ok(), *at, last);
+    }
 }

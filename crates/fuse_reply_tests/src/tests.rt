@@ -8,7 +8,7 @@ use crate::frames::{
     sends, sends_part, sent, short, told, whole_or_starved, wide_attributes,
 };
 use fuse_reply::{
-    Out, OutEnd, Packed, Replied, Reply, ReplyAttr, ReplyData, ReplyDirectory, ReplyDirectoryPlus,
+    Out, OutEnd, Replied, Reply, ReplyAttr, ReplyData, ReplyDirectory, ReplyDirectoryPlus,
     ReplyEmpty, ReplyEntry, ReplyOpen, ReplyXattr,
 };
 use fuse_wire::{
@@ -346,26 +346,6 @@ const LONG_FRAME: &[&[u8]] = &[
 /// The reply of these bytes. The first memory that is asked for is theirs.
 fn long_reply(alloc: Global) -> Replied {
     ReplyData::new(alloc, ID).data(&[7; 145])
-}
-
-/// What `Debug` prints of the bytes that such a frame holds packed.
-fn packed_text(alloc: Global) -> Result<String, AllocError> {
-    match LONG_FRAME {
-        [header, payload] => format!(in alloc;
-            "Packed {{ header: {header:?}, payload: {payload:?} }}"
-        ),
-        _ => Ok(String::new(alloc)),
-    }
-}
-
-#[test]
-fn packs_and_copies_more_than_is_held_inline(rt: HostRuntime) {
-    let alloc = rt.alloc();
-    let packed = Packed::new(alloc, ID, 0, &[7; 145]).expect(&rt, "there is memory");
-    let copy = packed.clone().expect(&rt, "there is memory");
-    let found = format!(in alloc; "{copy:?}").expect(&rt, "there is memory");
-    let expected = packed_text(alloc).expect(&rt, "there is memory");
-    expect_same(&rt, &found, &expected);
 }
 
 #[test]
