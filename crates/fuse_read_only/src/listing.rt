@@ -12,9 +12,11 @@ use crate::{Entry, Files};
 use fuse_reply::ReplyDirectory;
 use fuse_wire::{INodeNo, NoMemory};
 
-/// Adds the entries of a directory from the place `offset` on, up to the first that does not fit. Up to 144 bytes of
-/// them take no memory.
-pub(crate) fn add_entries<T: Files>(
+/// Adds the entries of a directory from the place `offset` on, up to the first that does not fit, to a reply that has none
+/// yet: what a READDIR is answered. Each has the place behind it as the offset at which the listing goes on. Up to 144
+/// bytes of them take no memory; `NoMemory` where they are more and there is no memory for one, and then those before it
+/// were added.
+pub fn add_entries<T: Files>(
     files: &T,
     ino: INodeNo,
     offset: u64,

@@ -58,8 +58,8 @@ impl<T> ReadOnly<T> {
     }
 }
 
-/// The bytes from the offset on, at most so many, and no more than a frame can carry.
-fn part(all: &[u8], offset: u64, size: u32) -> &[u8]
+/// The bytes from the offset on, at most `size`, and no more than a frame can carry: what a READ is answered.
+pub fn part(all: &[u8], offset: u64, size: u32) -> &[u8]
     ensures part { result.now ≡ take (min size max_payload) (drop offset all.now) }
     ensures within { length result.now ≤ max_payload }
 {
