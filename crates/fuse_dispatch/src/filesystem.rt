@@ -80,7 +80,9 @@ pub trait Filesystem: Send + Sync {
     /// there, or made longer by zero bytes. `atime` and `mtime` are a time, or the present, by a clock of this
     /// filesystem. `ctime` comes only where `FUSE_WRITEBACK_CACHE` was granted. `fh` is the open file by which it is
     /// done, as by `ftruncate(2)`, if it is done by one. `crtime`, `chgtime`, `bkuptime` and `flags` belong to other
-    /// systems, and are None on Linux. `defaults::setattr` answers ENOSYS, which the caller gets.
+    /// systems, and are None on Linux. A filesystem that keeps no such attribute answers an error, which the caller
+    /// gets, or the attributes as they are: the call has succeeded then, without an effect. `defaults::setattr`
+    /// answers ENOSYS, which the caller gets.
     fn setattr(
         &self,
         request: &Request,
@@ -240,12 +242,14 @@ pub trait Filesystem: Send + Sync {
         ensures { Answers promise.may_answer self.now request.now
             (Call.Read ino.0 fh.0 offset size flags.0 (owner_number lock_owner)) reply.id reply.door result };
 
-    /// WRITE: puts the bytes `written` into an open file from `offset` on, which is in bytes and at most `i64::MAX`.
-    /// `fh`, `flags` and `lock_owner` are as for `read`. Where `write_flags` has `FUSE_WRITE_CACHE` the write comes
-    /// late, from the page cache: `fh` is a guess, and the user, group and process of `request` may not be the writer's.
-    /// Where it has `FUSE_WRITE_KILL_SUIDGID` the bits of set-user-id and set-group-id are to be cleared. The answer is
-    /// how many bytes were written, which is all of them. Fewer is for a file opened with `FOPEN_DIRECT_IO`, where the
-    /// caller gets that number; for more the caller gets EIO. `defaults::write` answers ENOSYS, which the caller gets.
+    /// WRITE: puts the bytes `written` into an open file from `offset` on, which is in bytes and at most `i64::MAX`. A
+    /// call has at most as many as `init` allowed by `KernelConfig::set_max_write`: 16 MiB if it set nothing, and 4096
+    /// where it set less. `fh`, `flags` and `lock_owner` are as for `read`. Where `write_flags` has `FUSE_WRITE_CACHE`
+    /// the write comes late, from the page cache: `fh` is a guess, and the user, group and process of `request` may
+    /// not be the writer's. Where it has `FUSE_WRITE_KILL_SUIDGID` the bits of set-user-id and set-group-id are to be
+    /// cleared. The answer is how many bytes were written, which is all of them. Fewer is for a file opened with
+    /// `FOPEN_DIRECT_IO`, where the caller gets that number; for more the caller gets EIO. `defaults::write` answers
+    /// ENOSYS, which the caller gets.
     fn write(
         &self,
         request: &Request,
