@@ -15,7 +15,7 @@ pub(crate) fn nodes() -> &'static [Row] {
     &NODES
 }
 
-static NODES: [Row; 29] = [
+static NODES: [Row; 30] = [
     Row {
         opcode: FUSE_LOOKUP,
         length: 0,
@@ -364,6 +364,23 @@ static NODES: [Row; 29] = [
                 Number(0xa8a7_a6a5_a4a3_a2a1),
                 Number(0x0807_0605_0403_0201),
                 Number(0x0c0b_0a09),
+            ],
+            b"old\0new\0",
+        )],
+        reply: Error(ENOSYS),
+    },
+    // without flags it is the same call as RENAME
+    Row {
+        opcode: FUSE_RENAME2,
+        length: 16,
+        changes: &[(8, 0), (9, 0), (10, 0), (11, 0)],
+        tail: b"old\0new\0",
+        calls: &[(
+            "rename",
+            &[
+                Number(0xa8a7_a6a5_a4a3_a2a1),
+                Number(0x0807_0605_0403_0201),
+                Number(0),
             ],
             b"old\0new\0",
         )],

@@ -5,8 +5,10 @@ use crate::serving::{Rest, counts, everybody, rest_of};
 use crate::telling::{Flood, Slot, Telling};
 use fuse_notify::Notifier;
 use fuse_probing::Probing;
-use fuse_probing::test_messages::{ENOSYS, INIT_7_8, lookup, source_of};
-use fuse_session::{Filesystem, Session, SessionError, Transcript};
+use fuse_probing::test_messages::{ENOSYS, INIT_7_8, lookup, message, source_of};
+use fuse_request::RequestError;
+use fuse_request::opcode::FUSE_DESTROY;
+use fuse_session::{Filesystem, InvalidData, Session, SessionError, Transcript};
 use fuse_wire::{MemorySink, MemorySource, NoMemory, PollHandle};
 use std::process::Abort;
 use std::sync::{Arc, Mutex, Wait};
@@ -110,15 +112,15 @@ fn tell<R: Wait + AllocGlobal>(rt: &R, made: Result<Notifier, NoMemory>) {
     }
 }
 
-/// What is left of a session on so many threads that gets no request, where a notice was queued before its run.
+/// What is left of a session on so many threads that gets these messages, where a notice was queued before its run.
 fn run_told_before<R: Threads + Wait + AllocGlobal + Abort + Send + Sync + Copy>(
     rt: &R,
     n_threads: Option<usize>,
+    messages: &[&[u8]],
 ) -> Rest<Probing<Telling<R>>> {
     let config = everybody(rt.alloc(), n_threads);
     let probe = Telling::new(*rt, rt.alloc(), None);
-    let source = source_of(rt.alloc(), &[&INIT_7_8]);
-    let source = source.expect(rt, "there is memory");
+    let source = source_of(rt.alloc(), messages).expect(rt, "there is memory");
     let sink = MemorySink::new(rt.alloc(), Vec::new(rt.alloc()));
     let filesystem = Probing { probe };
     rest_of(
@@ -136,10 +138,26 @@ fn run_told_before<R: Threads + Wait + AllocGlobal + Abort + Send + Sync + Copy>
 #[test]
 fn what_is_queued_before_a_run_is_sent(rt: HostRuntime) {
     for n_threads in [None, Some(2)] {
-        let rest = run_told_before(&rt, n_threads);
+        let rest = run_told_before(&rt, n_threads, &[&INIT_7_8]);
         let is_sent = are_after_init(rest.sink.frames(), &[Frame::News([7, 0])]);
         let found = (n_threads, rest.outcome, is_sent);
         drop(rest);
         expect_same(&rt, &found, &(n_threads, Ok(()), true));
     }
+}
+
+/// On one thread, also after the reply to the message that ends the run, or after a header that is not good.
+#[test]
+fn what_is_queued_is_sent_at_the_end_too(rt: HostRuntime) {
+    let destroy = message(FUSE_DESTROY, 2, 0, 0);
+    let rest = run_told_before(&rt, None, &[&INIT_7_8, &destroy]);
+    let differ = differ_after_init(rest.sink.frames(), &[Frame::Done(2), Frame::News([7, 0])]);
+    expect_same(&rt, &(rest.outcome, differ), &(Ok(()), None));
+    drop(rest);
+    let rest = run_told_before(&rt, None, &[&INIT_7_8, &[20; 20]]);
+    let differ = differ_after_init(rest.sink.frames(), &[Frame::News([7, 0])]);
+    let short = InvalidData::Header(RequestError::ShortReadHeader(20));
+    let expected = (Err(SessionError::InvalidData(short)), None);
+    expect_same(&rt, &(rest.outcome, differ), &expected);
+    drop(rest);
 }

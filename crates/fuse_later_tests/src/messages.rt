@@ -29,6 +29,8 @@ pub(crate) enum Frame {
     Error(u8, u8),
     /// The reply to this id is that a file is ready for reading: `struct fuse_poll_out` with `POLLIN` of `poll.h`.
     Ready(u8),
+    /// The reply to this id is done, without a payload.
+    Done(u8),
     /// The notice of a poll with this handle, `struct fuse_notify_poll_wakeup_out`, whose code is 1.
     News([u8; 2]),
 }
@@ -93,6 +95,10 @@ fn ready(id: u8) -> [u8; 24] {
     frame
 }
 
+fn done(id: u8) -> [u8; 16] {
+    [16, 0, 0, 0, 0, 0, 0, 0, id, 0, 0, 0, 0, 0, 0, 0]
+}
+
 fn news(handle: [u8; 2]) -> [u8; 24] {
     let mut frame = [0; 24];
     frame[0] = 24;
@@ -107,6 +113,7 @@ fn is_frame(bytes: &[u8], frame: Frame) -> bool {
     match frame {
         Frame::Error(id, errno) => bytes == error_reply(id, errno).as_slice(),
         Frame::Ready(id) => bytes == ready(id).as_slice(),
+        Frame::Done(id) => bytes == done(id).as_slice(),
         Frame::News(handle) => bytes == news(handle).as_slice(),
     }
 }

@@ -111,3 +111,30 @@ fn each_write_may_fail(rt: HostRuntime) {
     }
     ends_so(&rt, &[], &[12], 0, 184, 0);
 }
+
+/// An INIT of version 7.5; and one of 7.8, a LOOKUP, and a message that is cut short.
+const OLD: &[&[u8]] = &[
+    b"\x68\0\0\0\x1a\0\0\0\x01\0\0\0\0\0\0\0\0\0\0\0\0\0\0\0\0\0\0\0\0\0\0\0\0\0\0\0\0\0\0\0\x07\0\0\0\x05\0\0\0\0\x10\0\0\0\0\0\0",
+    &[0; 48],
+];
+
+const CUT: &[&[u8]] = &[
+    b"\x68\0\0\0\x1a\0\0\0\x01\0\0\0\0\0\0\0\0\0\0\0\0\0\0\0\0\0\0\0\0\0\0\0\0\0\0\0\0\0\0\0\x07\0\0\0\x08\0\0\0\0\x10\0\0\0\0\0\0",
+    &[0; 48],
+    LOOKUP,
+    b"twenty bytes, and so",
+];
+
+/// What the program is given, the write that fails, its status, and how much of the reply to INIT is written.
+const AMISS_TWICE: &[(&[&[u8]], u64, u8, usize)] = &[(OLD, 1, 5, 0), (CUT, 3, 4, 40)];
+
+/// The status is that of the session's error, though a write failed too.
+#[test]
+fn an_error_goes_before_a_write_that_failed(rt: HostRuntime) {
+    let replies = joined(&rt, REPLIES);
+    for (parts, write, status, count) in AMISS_TWICE {
+        let run = run_failing(&rt, parts, 1000, &[], &[*write]);
+        let found = (run.status, Some(run.written.as_slice()));
+        expect_same(&rt, &found, &(*status, replies.get(..*count)));
+    }
+}

@@ -363,6 +363,23 @@ const LOOKUP: &[u8] = &[
 /// Sources and sinks that fail.
 const FAULTS: &[Row] = &[
     Row {
+        what: "a sink that fails, and then a header that is cut short",
+        acl: SessionACL::Owner,
+        threads: ONE,
+        devices: Devices::Failing,
+        given: &[
+            Given::Opening,
+            Given::Asked(Request::Lookup(2, 0)),
+            Given::Cut(20),
+        ],
+        frames: &[Frame::Accepted],
+        notes: &[],
+        received: 3,
+        lost: 1,
+        calls: 1,
+        end: End::Header(RequestError::ShortReadHeader(20)),
+    },
+    Row {
         what: "a source that gives nothing at some turns",
         acl: SessionACL::Owner,
         threads: ONE,
@@ -460,32 +477,39 @@ fn each_session_goes_as_its_row_says(rt: HostRuntime) {
     serve_all(&rt, REFUSALS);
 }
 
-/// Serves an INIT in a session of this owner, with pages of this size, on so many threads.
+/// Serves an INIT in a session of this owner, with pages of this size, on so many threads. The reply has these `max_pages`.
 fn opens_for<R: Threads + Wait + AllocGlobal + Abort + Sync>(
     rt: &R,
     owner: u32,
     page_size: u32,
     n_threads: Option<usize>,
+    max_pages: &[u8],
 )
     requires { 0 < page_size }
 {
     let mut config = Config::new(rt.alloc());
     config.acl = SessionACL::RootAndOwner;
     config.n_threads = n_threads;
-    let given = [Given::Opening];
+    let given = [Given::Bytes(LATEST)];
     let (course, sink) = serve(rt, Counting::new(None), &given, owner, page_size, &config);
     drop(config);
-    let found = (owner, course.outcome, sink.frames().len());
-    expect_same(rt, &found, &(owner, Ok(()), 1));
+    let reply = sink.frames().first().expect(rt, "a frame").as_slice();
+    let found = (
+        owner,
+        course.outcome,
+        sink.frames().len(),
+        reply.get(44..46),
+    );
+    expect_same(rt, &found, &(owner, Ok(()), 1, Some(max_pages)));
     drop(sink);
 }
 
 #[test]
 fn serves_any_owner_pages_and_threads(rt: HostRuntime) {
-    opens_for(&rt, 0, 1, None);
-    opens_for(&rt, 1000, 4096, Some(1));
-    opens_for(&rt, u32::MAX, 65536, Some(64));
-    opens_for(&rt, 1, u32::MAX, Some(usize::MAX));
+    opens_for(&rt, 0, 1, None, &[0xff, 0xff]);
+    opens_for(&rt, 1000, 4096, Some(1), &[0, 0x10]);
+    opens_for(&rt, u32::MAX, 65536, Some(64), &[0, 1]);
+    opens_for(&rt, 1, u32::MAX, Some(usize::MAX), &[1, 0]);
 }
 
 /// The last of the frames has this header, and then these contents.

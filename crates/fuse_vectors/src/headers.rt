@@ -72,13 +72,16 @@ fn a_second_word_of_capabilities_counts_with_its_bit(rt: HostRuntime) {
     expect_same(&rt, &offered(&second_word), &both);
 }
 
-/// The lowest byte of the length field, that of the opcode, and why such a message is refused.
-const REFUSED: &[(u8, u8, RequestError)] = &[
-    (39, 26, RequestError::InsufficientData),
-    (104, 7, RequestError::UnknownOperation(7)),
-    (104, 0, RequestError::UnknownOperation(0)),
-    (104, 19, RequestError::UnknownOperation(19)),
-    (104, 48, RequestError::UnknownOperation(48)),
+/// The lowest byte of the length field, the lowest two of the opcode and the third, and why such a message is refused.
+const REFUSED: &[(u8, [u8; 3], RequestError)] = &[
+    (39, [26, 0, 0], RequestError::InsufficientData),
+    (104, [7, 0, 0], RequestError::UnknownOperation(7)),
+    (104, [0, 0, 0], RequestError::UnknownOperation(0)),
+    (104, [19, 0, 0], RequestError::UnknownOperation(19)),
+    (104, [48, 0, 0], RequestError::UnknownOperation(48)),
+    (104, [53, 0, 0], RequestError::UnknownOperation(53)),
+    (104, [26, 1, 0], RequestError::UnknownOperation(282)),
+    (104, [26, 0, 1], RequestError::UnknownOperation(65_562)),
 ];
 
 #[test]
@@ -86,7 +89,7 @@ fn refuses_what_is_no_request(rt: HostRuntime) {
     for &(counted, opcode, expected) in REFUSED {
         let mut message = INIT;
         message[0] = counted;
-        message[4] = opcode;
+        message[4..7].copy_from_slice(&opcode);
         expect_same(&rt, &refusal(&message), &Some(expected));
     }
 }

@@ -659,18 +659,18 @@ fn what_comes_after_a_fault_of_the_source_is_not_taken(rt: HostRuntime) {
     }
 }
 
-/// How many calls were under way at once, at most, where so many workers were asked for.
+/// How many calls were made, and how many were under way at once, at most, where so many workers were asked for.
 fn most_at_once<R: Threads + Wait + AllocGlobal + Abort + Sync>(
     rt: &R,
     workers: usize,
     calls: u64,
     turns: u64,
-) -> u64 {
+) -> (u64, u64) {
     let buffers = Buffers::new(rt.alloc()).expect(rt, "there is memory");
     let work = Answering::new(Hold::Turns(turns), new_counter(rt));
     let (source, sink) = (source_of(rt, &[Piece::Requests(0, calls)]), sink_of(rt, 0));
     drop(run_on(rt, &work, Some(workers), source, sink, buffers));
-    work.most_at_once()
+    (work.calls(), work.most_at_once())
 }
 
 /// Of so many workers and calls, and turns that each call takes, how many calls are under way at once at most. Where the
@@ -687,7 +687,11 @@ const MOST_AT_ONCE: &[(usize, u64, u64, u64)] = &[
 fn no_more_answer_at_once_than_are_asked_for(rt: HostRuntime) {
     expect_same(&rt, &MOST_WORKERS, &64);
     for (workers, calls, turns, most) in MOST_AT_ONCE {
-        let is_kept = most_at_once(&rt, *workers, *calls, *turns) <= *most;
-        expect_same(&rt, &(*workers, is_kept), &(*workers, true));
+        let (made, at_once) = most_at_once(&rt, *workers, *calls, *turns);
+        expect_same(
+            &rt,
+            &(*workers, made, at_once <= *most),
+            &(*workers, *calls, true),
+        );
     }
 }

@@ -46,8 +46,9 @@ const ONE_CLOSES: Bytes = (24, &[(16, 0x71), (23, 0x11)], b"");
 
 const OTHER_CLOSES: Bytes = (24, &[(16, 0x71), (23, 0x12)], b"");
 
-/// Its holder need not wait for it. F_UNLCK gives the lock up by SETLKW too, and a lock to read is the one lock. INIT offers `FUSE_POSIX_LOCKS`, the bit 1
-/// of `flags` in `struct fuse_init_in`, and its reply grants it, in `flags` of `struct fuse_init_out`.
+/// Its holder need not wait for it. F_UNLCK gives the lock up by SETLKW too, and a lock to read is the one lock. INIT offers
+/// `FUSE_POSIX_LOCKS`, the bit 1 of `flags` in `struct fuse_init_in`, and its reply grants it, in `flags` of
+/// `struct fuse_init_out`.
 const NOBODY_WAITS: &[Row] = &[
     (
         INIT,
@@ -92,6 +93,76 @@ const HOLDER_GIVES_UP: &[Row] = &[
     (SETLK, 8, 1, OTHER_WRITES, 0, NOTHING),
 ];
 
+/// The one takes the lock, and owners that differ from it in one byte each do not get it.
+const EACH_BYTE: &[Row] = &[
+    OPENING,
+    (SETLK, 2, 1, ONE_WRITES, 0, NOTHING),
+    (
+        SETLK,
+        3,
+        1,
+        (48, &[(8, 0x70), (15, 0x11), (32, F_WRLCK)], b""),
+        EAGAIN,
+        NOTHING,
+    ),
+    (
+        SETLK,
+        4,
+        1,
+        (48, &[(8, 0x71), (9, 1), (15, 0x11), (32, F_WRLCK)], b""),
+        EAGAIN,
+        NOTHING,
+    ),
+    (
+        SETLK,
+        5,
+        1,
+        (48, &[(8, 0x71), (10, 1), (15, 0x11), (32, F_WRLCK)], b""),
+        EAGAIN,
+        NOTHING,
+    ),
+    (
+        SETLK,
+        6,
+        1,
+        (48, &[(8, 0x71), (11, 1), (15, 0x11), (32, F_WRLCK)], b""),
+        EAGAIN,
+        NOTHING,
+    ),
+    (
+        SETLK,
+        7,
+        1,
+        (48, &[(8, 0x71), (12, 1), (15, 0x11), (32, F_WRLCK)], b""),
+        EAGAIN,
+        NOTHING,
+    ),
+    (
+        SETLK,
+        8,
+        1,
+        (48, &[(8, 0x71), (13, 1), (15, 0x11), (32, F_WRLCK)], b""),
+        EAGAIN,
+        NOTHING,
+    ),
+    (
+        SETLK,
+        9,
+        1,
+        (48, &[(8, 0x71), (14, 1), (15, 0x11), (32, F_WRLCK)], b""),
+        EAGAIN,
+        NOTHING,
+    ),
+    (
+        SETLK,
+        10,
+        1,
+        (48, &[(8, 0x71), (15, 0x10), (32, F_WRLCK)], b""),
+        EAGAIN,
+        NOTHING,
+    ),
+];
+
 /// On one thread the lock gives the frames of these rows for their messages, in this order.
 fn serves_alone<R: Threads + Wait + AllocGlobal + Abort + Sync + Send>(
     rt: &R,
@@ -114,6 +185,11 @@ fn serves_from_free<R: Threads + Wait + AllocGlobal + Abort + Copy + Sync + Send
 #[test]
 fn nobody_waits_on_one_thread(rt: HostRuntime) {
     serves_from_free(rt, NOBODY_WAITS).close();
+}
+
+#[test]
+fn an_owner_is_all_eight_bytes(rt: HostRuntime) {
+    serves_from_free(rt, EACH_BYTE).close();
 }
 
 #[test]

@@ -43,8 +43,7 @@ fn serves<R: Threads + Wait + AllocGlobal + Abort + Sync>(
     ended_well(rt, &rest, rows.len(), answered.len(), notes);
     expect_frames(rt, rest.sink.frames(), answered);
     drop(rest);
-    expect_same(rt, filesystem.files(), &Pair);
-    expect_same(rt, &filesystem.into_files(), &Pair);
+    drop(filesystem);
 }
 
 /// Serves these messages, each with its one frame.
