@@ -1,2 +1,3 @@
 mod Keeping
+mod Nodes
 mod Waiting

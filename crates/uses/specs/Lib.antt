@@ -1,3 +1,4 @@
 pub mod KeeperOnly
+pub mod Notepad
 pub mod OneFile
 pub mod OneLock

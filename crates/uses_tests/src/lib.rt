@@ -9,6 +9,8 @@ mod layer_tests;
 #[cfg(test)]
 mod lock_tests;
 #[cfg(test)]
+mod notepad_tests;
+#[cfg(test)]
 mod pair;
 #[cfg(test)]
 mod read_only_tests;

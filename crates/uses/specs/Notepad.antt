@@ -1,0 +1,129 @@
+-- A directory with one file that can be written, of at most 4096 bytes.
+use Rattle.std.specs.Prelude.{◌≡◌, ◌≤◌, ◌+◌, ◌-◌, ◌++◌, ◌==◌, ◌&&◌, ℕ, List, [], ◌∷◌, Bool, false, Option, None, Some, Ok, IsSome, MatchBool}
+use Rattle.std.specs.Prelude.{codes, drop, if◌then◌else◌, length, max, min, replicate, take, unwrap_or}
+use Rattle.std.specs.Str.{bytes_eq}
+use Rattle.uses.specs.declared.notepad_nodes.Node.{Node}
+use Rattle.uses.specs.declared.notepad_nodes.Node.TheVariants.{File, Root, Absent}
+use Rattle.fuse_wire.specs.ErrorNumbers.{ENOENT, EPERM}
+use Rattle.fuse_wire.specs.Times.{nanos_per_second}
+use Rattle.fuse_wire.specs.declared.file_attr.FileAttr.{FileAttr}
+use Rattle.fuse_wire.specs.declared.file_attr.FileType.TheVariants.{Directory, RegularFile}
+use Rattle.fuse_operations.specs.Call.{Call}
+use Rattle.fuse_operations.specs.Call.Call.{Lookup, GetAttr, SetAttr, Open, Read, Write, ReadDir}
+use Rattle.fuse_reply.specs.Answer.{Answer}
+use Rattle.fuse_reply.specs.Answer.Answer.{Error, Data, Entry, Attr, Open as Opened, Write as Written}
+use Rattle.fuse_dispatch.specs.Defaults.{default_answer, default_mark}
+use Rattle.fuse_dispatch.specs.Promise.{Promise}
+use Rattle.fuse_read_only.specs.Tree.{Member, Tree, root_attr}
+use Rattle.fuse_read_only.specs.ReadOnly.{MayHave as MayRead}
+
+-- the node is a directory (`asm-generic/errno-base.h`)
+abbrev pub EISDIR : ℕ
+EISDIR = 21
+
+-- there is no room for what is written
+abbrev pub ENOSPC : ℕ
+ENOSPC = 28
+
+-- how many bytes the file may have
+abbrev pub capacity : ℕ
+capacity = 4096
+
+abbrev pub directory : FileAttr
+directory = root_attr 1 Directory 493 2 0
+
+abbrev pub note : (size : ℕ) → FileAttr
+note size = root_attr 2 RegularFile 420 1 size
+
+abbrev pub members : List Member
+members =
+    record { ino = 1; kind = Directory; name = codes "." }
+    ∷ record { ino = 1; kind = Directory; name = codes ".." }
+    ∷ record { ino = 2; kind = RegularFile; name = codes "note" }
+    ∷ []
+
+-- the tree of which READDIR is answered: the directory alone
+abbrev pub listed : Tree
+listed = record {
+  attributes = λ ino. if ino == 1 then Some directory else None;
+  names = λ parent name. None;
+  contents = λ ino. None;
+  entries = λ ino. if ino == 1 then members else [];
+  ttl = nanos_per_second;
+}
+
+-- the name means the file
+abbrev pub is_note : (parent : ℕ) → (name : List ℕ) → Bool
+is_note parent name = (parent == 1) && bytes_eq name (codes "note")
+
+-- the attributes of the file, which has a size that it may have
+abbrev pub IsNote : FileAttr → Type 0
+IsNote attr = (size : ℕ) × (size ≤ capacity) × (attr ≡ note size)
+
+abbrev pub OfNote : Answer → Type 0
+OfNote a = (attr : FileAttr) × IsNote attr × (a ≡ Attr nanos_per_second attr)
+
+-- which node a number is
+abbrev pub node_of : (ino : ℕ) → Node
+node_of ino = if ino == 2 then File else if ino == 1 then Root else Absent
+
+-- what a call on a node may be answered: the file by its own, the directory so, and what is not there by ENOENT
+abbrev pub ByNode : Node → (of_note of_directory : Type 0) → Answer → Type 0
+ByNode File of_note of_directory a = of_note
+ByNode Root of_note of_directory a = of_directory
+ByNode Absent of_note of_directory a = a ≡ Error ENOENT
+
+-- the bytes of that size: cut there, or made longer by zero bytes
+abbrev pub resized : (size : ℕ) → List ℕ → List ℕ
+resized size bytes = take size bytes ++ replicate (size - length bytes) 0
+
+-- these at the offset in the bytes, in place of what stands there
+abbrev pub placed : (offset : ℕ) → (written bytes : List ℕ) → List ℕ
+placed offset written bytes = take offset bytes ++ (written ++ drop (offset + length written) bytes)
+
+-- these written from the offset on: the bytes grow, by zero bytes, to where they end
+abbrev pub written_at : (offset : ℕ) → (written bytes : List ℕ) → List ℕ
+written_at offset written bytes = placed offset written (resized (max (length bytes) (offset + length written)) bytes)
+
+-- what comes of a size that is set, where one is given: the attributes with just that size, or no room
+abbrev pub IsSet : (size : Option ℕ) → Option FileAttr → Type 0
+IsSet size None = IsSome size
+IsSet size (Some attr) = (n : ℕ) × (n ≤ capacity) × (unwrap_or size n ≡ n) × (attr ≡ note n)
+
+abbrev pub outcome : Option FileAttr → Answer
+outcome None = Error ENOSPC
+outcome (Some attr) = Attr nanos_per_second attr
+
+-- what comes of a write: all bytes were written, which have room, or there was none
+abbrev pub Wrote : (offset len : ℕ) → Option ℕ → Type 0
+Wrote offset len None = Unit {0}
+Wrote offset len (Some n) = (offset + len ≤ capacity) × (n ≡ len)
+
+abbrev pub wrote : Option ℕ → Answer
+wrote None = Error ENOSPC
+wrote (Some n) = Written n
+
+abbrev pub MayHave : Call → Answer → Type 0
+MayHave (Lookup parent name) a =
+    MatchBool (is_note parent name)
+    ((attr : FileAttr) × IsNote attr × (a ≡ Entry nanos_per_second nanos_per_second 0 attr))
+    (a ≡ Error ENOENT)
+MayHave (GetAttr ino fh) a = ByNode (node_of ino) (OfNote a) (a ≡ Attr nanos_per_second directory) a
+MayHave (SetAttr ino mode uid gid size atime mtime ctime fh crtime chgtime bkuptime flags) a =
+    ByNode (node_of ino) ((found : Option FileAttr) × IsSet size found × (a ≡ outcome found)) (a ≡ Error EPERM) a
+MayHave (Open ino flags) a = ByNode (node_of ino) (a ≡ Opened 0 0) (a ≡ Error EISDIR) a
+MayHave (Read ino fh offset size flags lock_owner) a =
+    ByNode (node_of ino) ((bytes : List ℕ) × (length bytes ≤ min size capacity) × (a ≡ Data bytes)) (a ≡ Error EISDIR) a
+MayHave (Write ino fh offset written write_flags flags lock_owner) a =
+    ByNode (node_of ino) ((found : Option ℕ) × Wrote offset (length written) found × (a ≡ wrote found)) (a ≡ Error EISDIR) a
+MayHave (ReadDir ino fh offset size) a = MayRead listed (ReadDir ino fh offset size) a
+MayHave c a = default_answer c ≡ a
+
+abbrev pub promise : {F : Type 0} → Promise F
+promise = record {
+  may_init = λ old request before result new after. (result ≡ Ok tt) × (after ≡ before) × (new ≡ old);
+  may_answer = λ fs request call a. MayHave call a;
+  may_note = λ fs request call mark. mark ≡ default_mark;
+  may_destroy = λ old new. new ≡ old;
+  defers = false;
+}
