@@ -14,8 +14,8 @@ use fuse_wire::{INodeNo, NoMemory};
 
 /// Adds the entries of a directory from the place `offset` on, up to the first that does not fit, to a reply that has none
 /// yet: what a READDIR is answered. Each has the place behind it as the offset at which the listing goes on. Up to 144
-/// bytes of them take no memory; `NoMemory` where they are more and there is no memory for one, and then those before it
-/// were added.
+/// bytes of them take no memory; `NoMemory` where they are more and there is no memory for one. What the reply answers, its
+/// size and its door stay.
 pub fn add_entries<T: Files>(
     files: &T,
     ino: INodeNo,
@@ -28,7 +28,7 @@ pub fn add_entries<T: Files>(
         × AllByRecursion IsDirEntry entries) }
     ensures starved { IfErr result (λ _.
         inline_size < length (listing (listing_of (T.tree files.now) ino.0 offset reply.old.size))) }
-    ensures id { reply.new.id ≡ reply.old.id }
+    ensures same { reply.new ≡ record reply.old { held = reply.new.held } }
 {
     for place in offset as usize..usize::MAX {
         let Some(entry) = files.entry(ino, place) else {

@@ -38,4 +38,4 @@ returns-in-Err g c =
     Answered-error ENOMEM c.error-in-Err.ensures.answer.0 c.error-in-Err.ensures.answer.1
     (subst (λ files. MayHave (g.T.Files.tree files) (ReadDir c.args.ino.0 c.args._fh.0 c.args.offset c.args.reply.size) (Error ENOMEM)) c.self.view_is
     (inr (is_long, refl)))
-    (subst (λ id. c.error-in-Err.result ≡ Frame (reply id (Error ENOMEM))) c.in-Err.ensures.id c.error-in-Err.ensures.reply)
+    (subst (λ id. c.error-in-Err.result ≡ Frame (reply id (Error ENOMEM))) (ap (λ (l : Listing). l.id) c.add_entries.ensures.same) c.error-in-Err.ensures.reply)
