@@ -1,6 +1,6 @@
 -- A directory with one file that can be written, of at most 4096 bytes.
-use Rattle.std.specs.Prelude.{◌≡◌, ◌≤◌, ◌+◌, ◌-◌, ◌++◌, ◌==◌, ◌&&◌, ℕ, List, [], ◌∷◌, Bool, false, Option, None, Some, Ok, IsSome, MatchBool}
-use Rattle.std.specs.Prelude.{codes, drop, if◌then◌else◌, length, max, min, replicate, take, unwrap_or}
+use Rattle.std.specs.Prelude.{◌≡◌, ◌≤◌, ◌<◌, ◌+◌, ◌-◌, ◌++◌, ◌==◌, ◌&&◌, ℕ, List, [], ◌∷◌, Bool, false, Option, None, Some, Ok, MatchBool}
+use Rattle.std.specs.Prelude.{codes, drop, if◌then◌else◌, length, max, min, replicate, take}
 use Rattle.std.specs.Str.{bytes_eq}
 use Rattle.uses.specs.declared.notepad_nodes.Node.{Node}
 use Rattle.uses.specs.declared.notepad_nodes.Node.TheVariants.{File, Root, Absent}
@@ -29,12 +29,15 @@ ENOSPC = 28
 abbrev pub capacity : ℕ
 capacity = 4096
 
+-- the attributes of the directory 1, of mode 0o755
 abbrev pub directory : FileAttr
 directory = root_attr 1 Directory 493 2 0
 
+-- those of the file 2, of mode 0o644, where it has so many bytes
 abbrev pub note : (size : ℕ) → FileAttr
 note size = root_attr 2 RegularFile 420 1 size
 
+-- what stands in the directory
 abbrev pub members : List Member
 members =
     record { ino = 1; kind = Directory; name = codes "." }
@@ -60,6 +63,7 @@ is_note parent name = (parent == 1) && bytes_eq name (codes "note")
 abbrev pub IsNote : FileAttr → Type 0
 IsNote attr = (size : ℕ) × (size ≤ capacity) × (attr ≡ note size)
 
+-- the answer is such attributes
 abbrev pub OfNote : Answer → Type 0
 OfNote a = (attr : FileAttr) × IsNote attr × (a ≡ Attr nanos_per_second attr)
 
@@ -85,24 +89,29 @@ placed offset written bytes = take offset bytes ++ (written ++ drop (offset + le
 abbrev pub written_at : (offset : ℕ) → (written bytes : List ℕ) → List ℕ
 written_at offset written bytes = placed offset written (resized (max (length bytes) (offset + length written)) bytes)
 
--- what comes of a size that is set, where one is given: the attributes with just that size, or no room
+-- what comes of SETATTR: the attributes, with the size that was given, or no room for it
 abbrev pub IsSet : (size : Option ℕ) → Option FileAttr → Type 0
-IsSet size None = IsSome size
-IsSet size (Some attr) = (n : ℕ) × (n ≤ capacity) × (unwrap_or size n ≡ n) × (attr ≡ note n)
+IsSet None None = ⊥
+IsSet None (Some attr) = IsNote attr
+IsSet (Some size) None = capacity < size
+IsSet (Some size) (Some attr) = (size ≤ capacity) × (attr ≡ note size)
 
+-- and its answer
 abbrev pub outcome : Option FileAttr → Answer
 outcome None = Error ENOSPC
 outcome (Some attr) = Attr nanos_per_second attr
 
--- what comes of a write: all bytes were written, which have room, or there was none
+-- what comes of a WRITE: all bytes were written, or there is no room for them
 abbrev pub Wrote : (offset len : ℕ) → Option ℕ → Type 0
-Wrote offset len None = Unit {0}
+Wrote offset len None = capacity < offset + len
 Wrote offset len (Some n) = (offset + len ≤ capacity) × (n ≡ len)
 
+-- and its answer
 abbrev pub wrote : Option ℕ → Answer
 wrote None = Error ENOSPC
 wrote (Some n) = Written n
 
+-- what a call may be answered, whatever the file holds
 abbrev pub MayHave : Call → Answer → Type 0
 MayHave (Lookup parent name) a =
     MatchBool (is_note parent name)
@@ -119,6 +128,7 @@ MayHave (Write ino fh offset written write_flags flags lock_owner) a =
 MayHave (ReadDir ino fh offset size) a = MayRead listed (ReadDir ino fh offset size) a
 MayHave c a = default_answer c ≡ a
 
+-- every kernel is accepted, and nothing that a promise sees ever changes
 abbrev pub promise : {F : Type 0} → Promise F
 promise = record {
   may_init = λ old request before result new after. (result ≡ Ok tt) × (after ≡ before) × (new ≡ old);

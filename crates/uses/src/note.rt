@@ -1,27 +1,30 @@
 // What the file of the notepad holds.
-ghost use Rattle.std.specs.Prelude.{◌≡◌, ◌≤◌, ◌+◌, IsTrue, length, take, drop, min, false};
+ghost use Rattle.std.specs.Prelude.{◌≡◌, ◌≤◌, ◌<◌, ◌+◌, [], IfOk, IsTrue, length, take, drop, min, false};
+ghost use Rattle.std.specs.Vec.{vec_capacity};
 ghost use Rattle.uses.specs.Notepad.{capacity, note, resized, written_at};
 
 use fuse_read_only::root_attr;
-use fuse_wire::{FileAttr, FileType, INodeNo};
+use fuse_wire::{FileAttr, FileType, INodeNo, NoMemory};
 use std::alloc::Global;
 
 /// How many bytes the file may have.
 const CAPACITY: usize = 4096;
 
-/// The contents of the file, at most `CAPACITY` bytes.
+/// The contents of the file, at most `CAPACITY` bytes, for which there is room from the start.
 #[derive(Drop)]
 pub(crate) struct Note {
     bytes: Vec<u8>,
     ghost short: { length bytes.items ≤ capacity },
+    ghost room: { capacity ≤ vec_capacity bytes },
 }
 
 impl Note {
-    /// No bytes.
-    pub(crate) fn new(alloc: Global) -> Note {
-        Note {
-            bytes: Vec::new(alloc),
-        }
+    /// No bytes. `NoMemory` where there is none for the room.
+    pub(crate) fn new(alloc: Global) -> Result<Note, NoMemory>
+        ensures { IfOk result (λ note. note.bytes.items ≡ []) }
+    {
+        let bytes = Vec::with_capacity(alloc, CAPACITY)?;
+        Ok(Note { bytes })
     }
 
     /// The attributes of the file as it is.
@@ -47,22 +50,25 @@ impl Note {
         rest.get(..size as usize).unwrap_or(rest)
     }
 
-    /// Cuts it there, or makes it longer by zero bytes. False says that there was no room or no memory, and nothing changed.
+    /// Cuts it there, or makes it longer by zero bytes. False says that there is no room, and nothing changed.
     pub(crate) fn resize(&mut self, size: u64) -> bool
         ensures resized { IsTrue result → self.new.bytes.items ≡ resized size self.old.bytes.items }
-        ensures len { IsTrue result → length self.new.bytes.items ≡ size }
+        ensures fits { IsTrue result → (size ≤ capacity) × (length self.new.bytes.items ≡ size) }
+        ensures full { result ≡ false → capacity < size }
         ensures kept { result ≡ false → self.new.bytes.items ≡ self.old.bytes.items }
     {
         if size > CAPACITY as u64 {
             return false;
         }
-        self.bytes.resize(size as usize, 0).is_ok()
+        self.bytes.resize(size as usize, 0).unwrap();
+        true
     }
 
-    /// Writes these from the offset on. False says that there was no room or no memory, and nothing changed.
+    /// Writes these from the offset on. False says that there is no room, and nothing changed.
     pub(crate) fn write(&mut self, offset: u64, written: &[u8]) -> bool
         ensures written { IsTrue result → self.new.bytes.items ≡ written_at offset written.now self.old.bytes.items }
         ensures fits { IsTrue result → offset + length written.now ≤ capacity }
+        ensures full { result ≡ false → capacity < offset + length written.now }
         ensures kept { result ≡ false → self.new.bytes.items ≡ self.old.bytes.items }
     {
         if offset > CAPACITY as u64 || written.len() > CAPACITY - offset as usize {
@@ -71,9 +77,7 @@ impl Note {
         let start = offset as usize;
         let end = start + written.len();
         let size = self.bytes.len().max(end);
-        if !self.resize(size as u64) {
-            return false;
-        }
+        self.bytes.resize(size, 0).unwrap();
         self.bytes[start..end].copy_from_slice(written);
         true
     }

@@ -17,8 +17,8 @@ use fuse_request::{ForgetList, Request};
 use fuse_session::{Filesystem, defaults};
 use fuse_wire::{
     AccessFlags, BsdFileFlags, CopyFileRangeFlags, Errno, FileAttr, FileHandle, Generation,
-    INodeNo, IoctlFlags, LockOwner, OpenFlags, PollEvents, PollFlags, RenameFlags, SystemTime,
-    TimeOrNow, WriteFlags,
+    INodeNo, IoctlFlags, LockOwner, NoMemory, OpenFlags, PollEvents, PollFlags, RenameFlags,
+    SystemTime, TimeOrNow, WriteFlags,
 };
 use std::alloc::Global;
 use std::sync::{Mutex, Wait};
@@ -31,6 +31,7 @@ use std::sync::{Mutex, Wait};
 ///   the right one of these is seen by tests alone.
 /// - What locks takes no reply: `attr`, `put` and `set` give what the answer is made of, each with one relation, which
 ///   the promise says too.
+/// - The memory for all that the file may hold is taken at the start, so that none is wanting while it is served.
 /// - Modes, owners and times are not kept: where they are set the call succeeds, without an effect.
 /// - READDIR is left to a `ReadOnly`, and needs no proof.
 #[derive(Drop)]
@@ -41,13 +42,17 @@ pub struct Notepad<R> {
 }
 
 impl<R: Wait> Notepad<R> {
-    /// The file is empty.
-    pub fn new(rt: R, alloc: Global) -> Notepad<R> {
-        Notepad {
+    /// The file is empty. `NoMemory` where there is none for all that it may hold.
+    pub fn new(rt: R, alloc: Global) -> Result<Notepad<R>, NoMemory>
+    where
+        R: Drop,
+    {
+        let note = Note::new(alloc)?;
+        Ok(Notepad {
             rt,
-            note: Mutex::new(Note::new(alloc)),
+            note: Mutex::new(note),
             listed: ReadOnly::new(Listed),
-        }
+        })
     }
 
     /// The attributes of the file as it is.
@@ -57,7 +62,7 @@ impl<R: Wait> Notepad<R> {
         self.note.lock(&self.rt).attr()
     }
 
-    /// Writes these from the offset on, and tells how many they are. None is that there is no room, or no memory.
+    /// Writes these from the offset on, and tells how many they are. None is that there is no room.
     fn put(&self, offset: u64, written: &[u8]) -> Option<u32>
         ensures { Wrote offset (length written.now) result }
     {
@@ -68,17 +73,19 @@ impl<R: Wait> Notepad<R> {
         }
     }
 
-    /// Sets the size, where it is given, and tells the attributes. None is that there is no room, or no memory.
+    /// Sets the size, where it is given, and tells the attributes. None is that there is no room.
     fn set(&self, size: Option<u64>) -> Option<FileAttr>
         ensures { IsSet size result }
     {
         let mut note = self.note.lock(&self.rt);
-        if let Some(size) = size {
-            if !note.resize(size) {
-                return None;
-            }
+        let Some(size) = size else {
+            return Some(note.attr());
+        };
+        if note.resize(size) {
+            Some(note.attr())
+        } else {
+            None
         }
-        Some(note.attr())
     }
 }
 

@@ -209,7 +209,8 @@ const RESIZED: &[Row] = &[
 #[test]
 fn what_is_written_is_read(rt: HostRuntime) {
     for rows in [WRITTEN, RESIZED] {
-        let (_, rest) = serve(&rt, Notepad::new(rt, rt.alloc()), None, rows);
+        let notepad = Notepad::new(rt, rt.alloc()).expect(&rt, "there is memory");
+        let (_, rest) = serve(&rt, notepad, None, rows);
         expect_served(&rt, &rest, rows);
     }
 }
