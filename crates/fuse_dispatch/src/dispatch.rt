@@ -139,6 +139,11 @@ impl<H: Handler> Service<H> {
     }
 }
 
+/// Lets a door go that no reply takes. It is a call, since on one thread no message comes with a door: what lets one go
+/// would stand in what answers each message.
+#[inline(never)]
+fn let_go(_door: Door) {}
+
 impl<H: Handler + Sync> Work for Service<H> {
     ghost owed = { λ service. OwedMessage (H.owes service.handler) service.rule.acl service.rule.owner };
 
@@ -150,10 +155,13 @@ impl<H: Handler + Sync> Work for Service<H> {
         &self,
         rt: &R,
         notifier: &mut Notifier,
-        _door: Result<Door, NoDoor>,
+        door: Result<Door, NoDoor>,
         _seq: u64,
         message: &[u8],
     ) -> Out {
+        if let Ok(door) = door {
+            let_go(door);
+        }
         self.answer_by(rt.alloc(), notifier, AtOnce, message)
     }
 
