@@ -9,7 +9,7 @@ use Rattle.fuse_wire.specs.Numbers.{number}
 use Rattle.fuse_wire.specs.Cut.{first_length, cut}
 use Rattle.fuse_wire.specs.Source.{Takes, TakesMessage}
 use Rattle.fuse_wire.specs.ByteSource.{ByteSourceState, TakesBytes}
-use Rattle.fuse_wire.specs.StreamSource.{stream_told, Filled}
+use Rattle.fuse_wire.specs.StreamSource.{stream_source_told, Filled}
 use Rattle.fuse_wire.specs.declared.consts.TheConstants.{BUFFER_SIZE}
 use Rattle.fuse_wire.proofs.Cut.{cut-front, cut-nil, first_length-end, first_length-front}
 use Rattle.fuse_wire.proofs.NumberFront.{number-append, number-take}
@@ -40,7 +40,7 @@ cut-turn taken before (Some left) bytes some first = ap (option_map cut) bytes �
 -- bytes at the front of a buffer that are the first message of the stream that they were taken from
 pub TakesMessage-front : (n : ℕ) (before after : ByteSourceState) (buffer : List ℕ) → TakesBytes (take n buffer) before after →
     0 < n → n ≤ BUFFER_SIZE → n ≤ length buffer → IfSome after.bytes (λ left. first_length (take n buffer ++ left) ≡ n) →
-    TakesMessage n (stream_told before) (stream_told after) buffer
+    TakesMessage n (stream_source_told before) (stream_source_told after) buffer
 TakesMessage-front n before after buffer taken some fits within first =
     let long : length (take n buffer) ≡ n = length-take-le n buffer within in
     record {
@@ -69,7 +69,7 @@ turns-none before (Some left) bytes = ap (option_map cut) bytes
 -- a header of which no byte came: no message is left
 pub Gone-from_filled : (count size : ℕ) (before after : ByteSourceState) (piece : List ℕ) → Filled count size before after piece →
     count ≡ 0 → 0 < size →
-    IfSome (option_map cut before.bytes) (λ left. left ≡ []) × Takes [] (stream_told before) (stream_told after)
+    IfSome (option_map cut before.bytes) (λ left. left ≡ []) × Takes [] (stream_source_told before) (stream_source_told after)
 Gone-from_filled count size before after piece filled none some =
     let empty : take count piece ≡ [] = ap (λ n. take n piece) none in
     let bytes : before.bytes ≡ option_map (λ left. [] ++ left) after.bytes =
@@ -81,7 +81,7 @@ Gone-from_filled count size before after piece filled none some =
 -- a header of which the end is lacking: it is the last message
 pub TakesMessage-short : (count size : ℕ) (before after : ByteSourceState) (piece behind : List ℕ) → Filled count size before after piece →
     0 < count → count < size → size ≡ 40 → length piece ≡ size →
-    TakesMessage count (stream_told before) (stream_told after) (piece ++ behind)
+    TakesMessage count (stream_source_told before) (stream_source_told after) (piece ++ behind)
 TakesMessage-short count size before after piece behind filled some short header long =
     let front : take count (piece ++ behind) ≡ take count piece = take-append-le count piece behind (omega arith) in
     let held : length (take count piece) ≡ count = length-take-le count piece (omega arith) in
@@ -104,7 +104,7 @@ first_length-filled taken (Some left) header within ended = first_length-front t
 pub TakesMessage-long : (more end size : ℕ) (before between after : ByteSourceState) (held piece : List ℕ) →
     TakesBytes (take 40 held) before between → Filled more size between after piece →
     length held ≡ BUFFER_SIZE → end ≡ min BUFFER_SIZE (max 40 (number held 0 4)) → size ≡ end - 40 → length piece ≡ size →
-    TakesMessage (40 + more) (stream_told before) (stream_told after) (put_mid 40 (end - 40) held piece)
+    TakesMessage (40 + more) (stream_source_told before) (stream_source_told after) (put_mid 40 (end - 40) held piece)
 TakesMessage-long more end size before between after held piece header filled buffer ends sized long =
     let fits = filled.fits in
     let written = put_mid 40 (end - 40) held piece in

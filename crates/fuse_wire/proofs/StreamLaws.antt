@@ -13,7 +13,7 @@ use Rattle.fuse_wire.specs.Numbers.{number}
 use Rattle.fuse_wire.specs.Sink.{Appends, Puts, Refuses, IsTornFrom, Tears}
 use Rattle.fuse_wire.specs.Frames.{IsFrame, frames, frame_length}
 use Rattle.fuse_wire.specs.ByteSink.{ByteSinkState, PutsBytes}
-use Rattle.fuse_wire.specs.StreamSink.{IsTorn, Stands, WritesAll, bytes_since, frames_since, tail_since, tail_of, torn_part, stream_told}
+use Rattle.fuse_wire.specs.StreamSink.{IsTorn, Stands, WritesAll, bytes_since, frames_since, tail_since, tail_of, torn_part, stream_sink_told}
 use Rattle.fuse_wire.proofs.NumberFront.{number-append}
 use Rattle.fuse_wire.proofs.Options.{option_map-back_none, option_map-back_then}
 use Rattle.fuse_wire.proofs.Devices.{PutsBytes-then}
@@ -49,7 +49,7 @@ tail_since-concat broken first now sent torn each part e =
     (ap (tail_of broken) (torn_part-concat sent torn each part))
 
 -- how a stream stands to which nothing was written, and of which no send was refused
-pub Stands-new : (stream : ByteSinkState) → Stands (stream_told stream stream false 0) stream false
+pub Stands-new : (stream : ByteSinkState) → Stands (stream_sink_told stream stream false 0) stream false
 Stands-new stream =
     let bytes : stream.bytes ≡ option_map (λ held. held ++ (concat [] ++ [])) stream.bytes = option_map-back_none stream.bytes in
     record {
@@ -114,8 +114,8 @@ bytes_after first before after sent torn more none e f =
 
 -- how the stream stands after one more frame
 pub Stands-more : (frame : List ℕ) (origin before after : ByteSinkState) (refused : ℕ) → IsFrame frame →
-    PutsBytes frame before after → Stands (stream_told origin before false refused) before false →
-    Stands (stream_told origin after false refused) after false
+    PutsBytes frame before after → Stands (stream_sink_told origin before false refused) before false →
+    Stands (stream_sink_told origin after false refused) after false
 Stands-more frame origin before after refused is_frame put s =
     let grown : before.faults ≤ after.faults = put.faults in
     let since : origin.faults ≤ before.faults = s.faults in
@@ -142,8 +142,8 @@ Stands-more frame origin before after refused is_frame put s =
 
 -- how the stream stands after a write that failed
 pub Stands-torn : (frame : List ℕ) (origin before after : ByteSinkState) (refused : ℕ) → IsFrame frame →
-    WritesAll false frame before after → Stands (stream_told origin before false refused) before false →
-    Stands (stream_told origin after true refused) after true
+    WritesAll false frame before after → Stands (stream_sink_told origin before false refused) before false →
+    Stands (stream_sink_told origin after true refused) after true
 Stands-torn frame origin before after refused is_frame wrote s =
     let put : PutsBytes (take wrote.0 frame) before after = wrote.2 in
     let rose : Rose before.faults after.faults = wrote.3 in
@@ -168,7 +168,7 @@ Stands-torn frame origin before after refused is_frame wrote s =
 
 -- a send that is refused after a write has failed leaves the stream as it stands
 pub Stands-refused : (origin now : ByteSinkState) (refused more : ℕ) (broken : Bool) → broken ≡ true →
-    Stands (stream_told origin now broken refused) now broken → Stands (stream_told origin now broken more) now broken
+    Stands (stream_sink_told origin now broken refused) now broken → Stands (stream_sink_told origin now broken more) now broken
 Stands-refused origin now refused more broken failed s = record {
   sent = s.sent;
   torn = s.torn;
@@ -192,7 +192,7 @@ told_more (Some held) before after sent more e f = f ∙ sym (ap (option_map (λ
 
 -- what a stream tells after one more frame
 pub framed_more : (frame : List ℕ) (origin before after : ByteSinkState) (refused : ℕ) → IsFrame frame →
-    PutsBytes frame before after → Stands (stream_told origin before false refused) before false →
+    PutsBytes frame before after → Stands (stream_sink_told origin before false refused) before false →
     frames_since origin.bytes after.bytes ≡ option_map (λ held. held ++ frame ∷ []) (frames_since origin.bytes before.bytes)
 unfolding Stands-more
 framed_more frame origin before after refused is_frame put s =
@@ -200,7 +200,7 @@ framed_more frame origin before after refused is_frame put s =
 
 -- what a stream tells after a write that failed
 pub framed_torn : (frame : List ℕ) (origin before after : ByteSinkState) (refused : ℕ) → IsFrame frame →
-    WritesAll false frame before after → Stands (stream_told origin before false refused) before false →
+    WritesAll false frame before after → Stands (stream_sink_told origin before false refused) before false →
     frames_since origin.bytes after.bytes ≡ option_map (λ held. held ++ []) (frames_since origin.bytes before.bytes)
 unfolding Stands-torn
 framed_torn frame origin before after refused is_frame wrote s =
@@ -215,21 +215,21 @@ IsFrame-joined header payload size field =
 
 -- a sink that is whole stays so after one more frame
 pub kept_more : (frame : List ℕ) (origin before after : ByteSinkState) (refused : ℕ) (broken : Bool) → broken ≡ false →
-    IsFrame frame → PutsBytes frame before after → ∥ Stands (stream_told origin before broken refused) before broken ∥₁ →
-    ∥ Stands (stream_told origin after broken refused) after broken ∥₁
+    IsFrame frame → PutsBytes frame before after → ∥ Stands (stream_sink_told origin before broken refused) before broken ∥₁ →
+    ∥ Stands (stream_sink_told origin after broken refused) after broken ∥₁
 kept_more frame origin before after refused true whole is_frame put s = cc
 kept_more frame origin before after refused false whole is_frame put s = ∥∥₁_map s (Stands-more frame origin before after refused is_frame put)
 
 -- a sink is broken after a write that failed
 pub kept_torn : (frame : List ℕ) (origin before after : ByteSinkState) (refused : ℕ) (broken : Bool) → broken ≡ false →
-    IsFrame frame → WritesAll false frame before after → ∥ Stands (stream_told origin before broken refused) before broken ∥₁ →
-    ∥ Stands (stream_told origin after true refused) after true ∥₁
+    IsFrame frame → WritesAll false frame before after → ∥ Stands (stream_sink_told origin before broken refused) before broken ∥₁ →
+    ∥ Stands (stream_sink_told origin after true refused) after true ∥₁
 kept_torn frame origin before after refused true whole is_frame wrote s = cc
 kept_torn frame origin before after refused false whole is_frame wrote s = ∥∥₁_map s (Stands-torn frame origin before after refused is_frame wrote)
 
 -- a send that is refused after a write has failed keeps what was told
 pub kept_refused : (origin now : ByteSinkState) (refused more : ℕ) (broken : Bool) → broken ≡ true →
-    ∥ Stands (stream_told origin now broken refused) now broken ∥₁ → ∥ Stands (stream_told origin now broken more) now broken ∥₁
+    ∥ Stands (stream_sink_told origin now broken refused) now broken ∥₁ → ∥ Stands (stream_sink_told origin now broken more) now broken ∥₁
 kept_refused origin now refused more broken failed s = ∥∥₁_map s (Stands-refused origin now refused more broken failed)
 
 -- a stream that was whole is so after more was put
@@ -241,12 +241,12 @@ whole_since (Some first) (Some now) after put e = ap (tail_since false (Some fir
 
 -- one more frame is told after it was written
 pub Puts-more : (frame : List ℕ) (origin before after : ByteSinkState) (refused : ℕ) (broken : Bool) → broken ≡ false →
-    IsFrame frame → PutsBytes frame before after → ∥ Stands (stream_told origin before broken refused) before broken ∥₁ →
-    Puts (frame ∷ []) [] (stream_told origin before broken refused) (stream_told origin after broken refused)
+    IsFrame frame → PutsBytes frame before after → ∥ Stands (stream_sink_told origin before broken refused) before broken ∥₁ →
+    Puts (frame ∷ []) [] (stream_sink_told origin before broken refused) (stream_sink_told origin after broken refused)
 Puts-more frame origin before after refused true whole is_frame put s = cc
 Puts-more frame origin before after refused false whole is_frame put s =
     let grown : before.faults ≤ after.faults = put.faults in
-    let appends : Appends (frame ∷ []) [] (stream_told origin before false refused) (stream_told origin after false refused) = record {
+    let appends : Appends (frame ∷ []) [] (stream_sink_told origin before false refused) (stream_sink_told origin after false refused) = record {
       framed = ∥∥₁_elim s (hlevel props) (framed_more frame origin before after refused is_frame put);
       noted = refl;
       faults = omega arith;
@@ -256,7 +256,7 @@ Puts-more frame origin before after refused false whole is_frame put s =
 
 -- a write that failed leaves a part of its frame after the whole ones
 torn_written : (frame : List ℕ) (origin before after : ByteSinkState) (refused : ℕ) → IsFrame frame →
-    WritesAll false frame before after → Stands (stream_told origin before false refused) before false → (first now : List ℕ) →
+    WritesAll false frame before after → Stands (stream_sink_told origin before false refused) before false → (first now : List ℕ) →
     origin.bytes ≡ Some first → after.bytes ≡ Some now → IsTornFrom frame (torn_part (drop (length first) now))
 torn_written frame origin before after refused is_frame wrote s first now was is =
     let torn = take wrote.0 frame in
@@ -283,15 +283,15 @@ torn_since frame (Some first) (Some was) (Some now) put e torn = torn first now 
 
 -- nothing is told of a frame whose write failed but that it is torn, and a fault is counted
 pub Refuses-torn : (frame : List ℕ) (origin before after : ByteSinkState) (refused : ℕ) (broken : Bool) → broken ≡ false →
-    IsFrame frame → WritesAll false frame before after → ∥ Stands (stream_told origin before broken refused) before broken ∥₁ →
-    Refuses (stream_told origin before broken refused) (stream_told origin after true refused)
+    IsFrame frame → WritesAll false frame before after → ∥ Stands (stream_sink_told origin before broken refused) before broken ∥₁ →
+    Refuses (stream_sink_told origin before broken refused) (stream_sink_told origin after true refused)
     × Tears frame (tail_since broken origin.bytes before.bytes) (tail_since true origin.bytes after.bytes)
 Refuses-torn frame origin before after refused true whole is_frame wrote s = cc
 Refuses-torn frame origin before after refused false whole is_frame wrote s =
     let put : PutsBytes (take wrote.0 frame) before after = wrote.2 in
     let grown : before.faults ≤ after.faults = put.faults in
     let rose : after.faults < last_count → before.faults < after.faults = wrote.3 in
-    let told : Appends [] [] (stream_told origin before false refused) (stream_told origin after true refused) = record {
+    let told : Appends [] [] (stream_sink_told origin before false refused) (stream_sink_told origin after true refused) = record {
       framed = ∥∥₁_elim s (hlevel props) (framed_torn frame origin before after refused is_frame wrote);
       noted = refl;
       faults = omega arith;

@@ -19,11 +19,11 @@ abbrev pub NoByteLeft : ByteSourceState → Type 0
 NoByteLeft s = IfSome s.bytes (λ left. left ≡ [])
 
 -- the stream failed in this stretch, and counted it; of the bytes this says nothing
-abbrev pub Failed : ByteSourceState → ByteSourceState → Type 0
-Failed before after = (before.faults ≤ after.faults) × Rose before.faults after.faults
+abbrev pub StreamFailed : ByteSourceState → ByteSourceState → Type 0
+StreamFailed before after = (before.faults ≤ after.faults) × Rose before.faults after.faults
 
 -- what one read does, by its answer
 abbrev pub Reads : ByteRead → ByteSourceState → ByteSourceState → List ℕ → Type 0
 Reads (Got n) before after piece = (1 ≤ n) × (n ≤ length piece) × TakesBytes (take n piece) before after
 Reads End before after piece = NoByteLeft before × TakesBytes [] before after
-Reads Unread before after piece = Failed before after
+Reads Unread before after piece = StreamFailed before after

@@ -3,14 +3,14 @@ use Rattle.std.specs.Prelude.{◌≡◌, ◌⊎◌, ℕ, Bool, true, false, List
 use Rattle.fuse_wire.specs.Faults.{counted}
 use Rattle.fuse_wire.specs.ByteSink.{ByteSinkState}
 use Rattle.fuse_wire.specs.Sink.{SinkState}
-use Rattle.fuse_wire.specs.StreamSink.{WritesAll, stream_told}
+use Rattle.fuse_wire.specs.StreamSink.{WritesAll, stream_sink_told}
 use Rattle.fuse_wire.specs.declared.sink.Sending.{Sending}
 use Rattle.fuse_wire.specs.declared.sink.Sending.TheVariants.{Sent, Absent, Failed}
 use Rattle.fuse_wire.specs.declared.stream_sink.StreamSink.{StreamSink}
 
 -- the stream that it writes to
-abbrev pub held : {O : Type 0} {g : _} → StreamSink O g → O
-held sink = sink.inner
+abbrev pub sink_stream : {O : Type 0} {g : _} → StreamSink O g → O
+sink_stream sink = sink.inner
 
 -- the stream as it was when the sink was made over it
 abbrev pub made_over : {O : Type 0} {g : _} → StreamSink O g → O
@@ -26,7 +26,7 @@ refusals sink = sink.refused
 
 -- what it tells, where its stream tells this
 abbrev pub sink_told : {O : Type 0} {g : _} → (told : O → ByteSinkState) → StreamSink O g → SinkState
-sink_told told sink = stream_told (told (made_over sink)) (told (held sink)) (is_broken sink) (refusals sink)
+sink_told told sink = stream_sink_told (told (made_over sink)) (told (sink_stream sink)) (is_broken sink) (refusals sink)
 
 -- no write had failed, and what the sink was made over and its count of refusals are as before
 abbrev pub Attempts : {O : Type 0} {g : _} → StreamSink O g → StreamSink O g → Type 0
@@ -35,7 +35,7 @@ Attempts old new = (is_broken old ≡ false) × (made_over new ≡ made_over old
 -- a write had failed before: nothing is written, and the refusal is counted
 abbrev pub RefusesUnwritten : {O : Type 0} {g : _} → StreamSink O g → StreamSink O g → Type 0
 RefusesUnwritten old new =
-    (is_broken old ≡ true) × (is_broken new ≡ true) × (held new ≡ held old) × (made_over new ≡ made_over old)
+    (is_broken old ≡ true) × (is_broken new ≡ true) × (sink_stream new ≡ sink_stream old) × (made_over new ≡ made_over old)
     × (refusals new ≡ counted (refusals old) 1)
 
 -- What one send does, where the stream below told this before and tells this after. The frame is written whole, or a write

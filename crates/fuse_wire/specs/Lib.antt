@@ -18,6 +18,7 @@ pub mod StreamSource
 pub mod StreamSink
 pub mod HeldSink
 pub mod Times
+pub mod FileAttr
 pub mod OpenMode
 pub mod Flags
 pub mod FlagNames

@@ -31,12 +31,12 @@ abbrev pub NothingLeft : SourceState → Type 0
 NothingLeft s = IfSome s.turns (λ left. left ≡ [])
 
 -- the source failed in this stretch, and counted it; of the turns this says nothing
-abbrev pub Failed : SourceState → SourceState → Type 0
-Failed before after = (before.faults ≤ after.faults) × Rose before.faults after.faults
+abbrev pub SourceFailed : SourceState → SourceState → Type 0
+SourceFailed before after = (before.faults ≤ after.faults) × Rose before.faults after.faults
 
 -- what one receive does, by its answer
 abbrev pub Receives : Received → SourceState → SourceState → List ℕ → Type 0
 Receives (Message n) before after buffer = TakesMessage n before after buffer
 Receives Gone before after buffer = NothingLeft before × Takes [] before after
 Receives Retry before after buffer = Takes [] before after
-Receives Unreceived before after buffer = Failed before after
+Receives Unreceived before after buffer = SourceFailed before after

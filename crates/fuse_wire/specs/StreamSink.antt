@@ -31,8 +31,8 @@ tail_since broken first now = option_map (λ bytes. tail_of broken (torn_part by
 
 -- what the sink tells, where its stream stood so when it was made and stands so now, a write has failed or none has, and so many
 -- sends were refused without a write
-abbrev pub stream_told : ByteSinkState → ByteSinkState → (broken : Bool) → ℕ → SinkState
-stream_told origin now broken refused = record {
+abbrev pub stream_sink_told : ByteSinkState → ByteSinkState → (broken : Bool) → ℕ → SinkState
+stream_sink_told origin now broken refused = record {
   frames = frames_since origin.bytes now.bytes;
   notes = None;
   tail = tail_since broken origin.bytes now.bytes;

@@ -1,4 +1,7 @@
 //! Attributes of a file.
+ghost use Rattle.std.specs.Prelude.{◌≡◌};
+ghost use Rattle.fuse_wire.specs.FileAttr.{root_attr};
+
 use crate::{INodeNo, SystemTime};
 
 /// What kind of file an inode is: the type bits of a mode, `S_IFMT` of `linux/stat.h`.
@@ -55,4 +58,29 @@ pub struct FileAttr {
     pub blksize: u32,
     /// Flags of BSD, which are not sent.
     pub flags: u32,
+}
+
+/// Attributes of a node that belongs to root, of this kind, with these permissions, so many names, and contents of so
+/// many bytes. Its times are 0.
+pub fn root_attr(ino: INodeNo, kind: FileType, perm: u16, nlink: u32, size: u64) -> FileAttr
+    ensures { result ≡ root_attr ino.0 kind perm nlink size }
+{
+    let epoch = SystemTime(0);
+    FileAttr {
+        ino,
+        size,
+        blocks: size / 512 + (size % 512).min(1),
+        atime: epoch,
+        mtime: epoch,
+        ctime: epoch,
+        crtime: epoch,
+        kind,
+        perm,
+        nlink,
+        uid: 0,
+        gid: 0,
+        rdev: 0,
+        blksize: 512,
+        flags: 0,
+    }
 }

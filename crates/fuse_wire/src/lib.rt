@@ -41,7 +41,7 @@ pub use byte_sink::{ByteSink, ByteWrite, write_all};
 pub use byte_source::{ByteRead, ByteSource};
 pub use duration::Duration;
 pub use errno::Errno;
-pub use file_attr::{FileAttr, FileType};
+pub use file_attr::{FileAttr, FileType, root_attr};
 pub use flags::copy_file_range_flags::CopyFileRangeFlags;
 pub use flags::cuse_init_flags::CuseInitFlags;
 pub use flags::fattr_flags::FattrFlags;

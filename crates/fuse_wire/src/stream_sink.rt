@@ -2,7 +2,7 @@
 ghost use Rattle.std.specs.Prelude.{◌≡◌, ◌+◌, ◌++◌, false, length};
 ghost use Rattle.fuse_wire.specs.Numbers.{number};
 ghost use Rattle.fuse_wire.specs.Sink.{Notes, Sends};
-ghost use Rattle.fuse_wire.specs.StreamSink.{Stands, WritesAll, stream_told};
+ghost use Rattle.fuse_wire.specs.StreamSink.{Stands, WritesAll, stream_sink_told};
 
 use crate::{ByteSink, Noting, RequestId, Sending, Sink, write_all};
 use std::fmt;
@@ -17,16 +17,16 @@ pub struct StreamSink<O: ByteSink> {
     broken: bool,
     refused: u64,
     origin: Snapshot<O>,
-    ghost stands: { ∥ Stands (stream_told (O.told origin.value) (O.told inner) broken refused)
+    ghost stands: { ∥ Stands (stream_sink_told (O.told origin.value) (O.told inner) broken refused)
         (O.told inner) broken ∥₁ },
 }
 
 impl<O: ByteSink> StreamSink<O> {
-    ghost use Rattle.fuse_wire.specs.HeldSink.{held, is_broken, made_over, refusals};
+    ghost use Rattle.fuse_wire.specs.HeldSink.{sink_stream, is_broken, made_over, refusals};
 
     /// Writes to the end of this stream.
     pub fn new(inner: O) -> StreamSink<O>
-        ensures held { held result ≡ inner }
+        ensures held { sink_stream result ≡ inner }
         ensures origin { made_over result ≡ inner }
         ensures broken { is_broken result ≡ false }
         ensures fresh { refusals result ≡ 0 }
@@ -49,9 +49,9 @@ impl<O: ByteSink> StreamSink<O> {
 
     /// The stream, after the last byte that was written.
     pub fn into_inner(self) -> O
-        ensures held { result ≡ held self }
+        ensures held { result ≡ sink_stream self }
         ensures stands { ∥ Stands
-            (stream_told (O.told (made_over self)) (O.told result) (is_broken self) (refusals self))
+            (stream_sink_told (O.told (made_over self)) (O.told result) (is_broken self) (refusals self))
             (O.told result) (is_broken self) ∥₁ }
     {
         let StreamSink {
@@ -81,7 +81,7 @@ impl<O: ByteSink> fmt::Debug for StreamSink<O> {
 }
 
 impl<O: ByteSink> Sink for StreamSink<O> {
-    ghost use Rattle.fuse_wire.specs.HeldSink.{SendsStream, held, sink_told};
+    ghost use Rattle.fuse_wire.specs.HeldSink.{SendsStream, sink_stream, sink_told};
 
     ghost told = { sink_told O.told };
 
@@ -91,7 +91,7 @@ impl<O: ByteSink> Sink for StreamSink<O> {
         ensures sends { Sends result (header.now ++ payload.now)
             (sink_told O.told self.old) (sink_told O.told self.new) }
         ensures exactly { SendsStream result (header.now ++ payload.now)
-            (O.told (held self.old)) (O.told (held self.new)) self.old self.new }
+            (O.told (sink_stream self.old)) (O.told (sink_stream self.new)) self.old self.new }
     {
         if self.broken {
             self.refused = self.refused.saturating_add(1);

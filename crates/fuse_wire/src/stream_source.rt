@@ -1,7 +1,7 @@
 //! Messages cut from a stream of bytes.
 ghost use Rattle.std.specs.Prelude.{◌≡◌, ◌≢◌, length};
 ghost use Rattle.fuse_wire.specs.Source.{Receives};
-ghost use Rattle.fuse_wire.specs.StreamSource.{held, Fills, stream_told};
+ghost use Rattle.fuse_wire.specs.StreamSource.{source_stream, FillsPiece, stream_source_told};
 
 use crate::consts::{BUFFER_SIZE, REQUEST_HEADER_SIZE};
 use crate::{ByteRead, ByteSource, Received, Source, u32_at};
@@ -16,14 +16,14 @@ pub struct StreamSource<I> {
 impl<I> StreamSource<I> {
     /// Cuts the bytes of this stream.
     pub fn new(inner: I) -> StreamSource<I>
-        ensures { held result ≡ inner }
+        ensures { source_stream result ≡ inner }
     {
         StreamSource { inner }
     }
 
     /// The stream, at the byte after the last message that was taken.
     pub fn into_inner(self) -> I
-        ensures { result ≡ held self }
+        ensures { result ≡ source_stream self }
     {
         let StreamSource { inner } = self;
         inner
@@ -33,7 +33,7 @@ impl<I> StreamSource<I> {
 /// Reads until the piece is full or no byte is left, and says how many bytes came. None is a fault.
 #[inline(always)]
 fn fill<I: ByteSource>(inner: &mut I, piece: &mut [u8]) -> Option<usize>
-    ensures { Fills result (length piece.old) (I.told inner.old) (I.told inner.new) piece.new }
+    ensures { FillsPiece result (length piece.old) (I.told inner.old) (I.told inner.new) piece.new }
 {
     let mut count = 0;
     while count < piece.len() {
@@ -47,13 +47,13 @@ fn fill<I: ByteSource>(inner: &mut I, piece: &mut [u8]) -> Option<usize>
 }
 
 impl<I: ByteSource> Source for StreamSource<I> {
-    ghost told = { λ s. stream_told (I.told s.inner) };
+    ghost told = { λ s. stream_source_told (I.told s.inner) };
 
     /// The next message. A stream that has none now is waited for: the answer is never Retry.
     fn receive(&mut self, buffer: &mut [u8]) -> Received
         requires { length buffer.old ≡ BUFFER_SIZE }
         ensures received { Receives result
-            (stream_told (I.told (held self.old))) (stream_told (I.told (held self.new))) buffer.new }
+            (stream_source_told (I.told (source_stream self.old))) (stream_source_told (I.told (source_stream self.new))) buffer.new }
         ensures never_retries { result ≢ Received.Retry }
     {
         let Some(count) = fill(&mut self.inner, &mut buffer[..REQUEST_HEADER_SIZE]) else {

@@ -1,6 +1,6 @@
 use Rattle.std.proofs.Common.{sym, subst, false}
 use Rattle.std.proofs.lemmas.Grind.{merely}
-use Rattle.fuse_wire.specs.StreamSink.{Stands, stream_told}
+use Rattle.fuse_wire.specs.StreamSink.{Stands, stream_sink_told}
 use Rattle.fuse_wire.proofs.StreamLaws.{Stands-new}
 use Rattle.fuse_wire.proofs.stream_sink.StreamSink.new.Goals as goal
 
@@ -9,6 +9,6 @@ invariant_of-result g c =
     let told = g.O.ByteSink.told in
     record {
       stands =
-          subst (λ origin. ∥ Stands (stream_told (told origin) (told c.args.inner) false 0) (told c.args.inner) false ∥₁)
+          subst (λ origin. ∥ Stands (stream_sink_told (told origin) (told c.args.inner) false 0) (told c.args.inner) false ∥₁)
           (sym c.of-origin.ensures) (merely (Stands-new (told c.args.inner)));
     }
