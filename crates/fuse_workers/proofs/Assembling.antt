@@ -4,7 +4,7 @@ use Rattle.std.proofs.Common.{length, map, min, refl, subst, sym}
 use Rattle.std.specs.Prelude.{remove}
 use Rattle.std.specs.List.{All, Contains}
 use Rattle.fuse_wire.specs.Faults.{last_count}
-use Rattle.fuse_wire.specs.Source.{SourceState, NothingLeft, Failed as SourceFailed}
+use Rattle.fuse_wire.specs.Source.{SourceState, NothingLeft, SourceFailed}
 use Rattle.fuse_wire.specs.Sink.{SinkState, Note}
 use Rattle.fuse_reply.specs.declared.out.Out.{Out}
 use Rattle.fuse_reply.specs.declared.out.Out.TheVariants.{Frame, Note as Noting, Deferred}

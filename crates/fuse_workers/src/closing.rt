@@ -19,7 +19,7 @@ use std::sync::Wait;
 /// What says that a run was closed: its end was marked, and then what was left of its frames was sent. `send_last` alone
 /// makes it.
 #[derive(Drop)]
-pub(crate) struct Closed(());
+pub(crate) struct ClosedRun(());
 
 /// Marks the run's end, with the number of messages that were taken. No worker is left.
 pub(crate) fn mark_end(caller: &Caller, ending: &mut Ending, received: u64)
@@ -39,7 +39,7 @@ pub(crate) fn send_last<R: Wait, K: Sink>(
     pass: &mut Pass<Parcel>,
     relay: &mut Relay<K>,
     ending: &Ending,
-) -> Closed
+) -> ClosedRun
     requires line { pass.old.line ≡ frames.now }
     requires first { (pass.old.hand.kind ≡ First) × (pass.old.hand.others ≡ 0) }
     requires marked { IsSome ending.now.set }
@@ -51,5 +51,5 @@ pub(crate) fn send_last<R: Wait, K: Sink>(
 {
     let _ = ending;
     send_rest(rt, frames, pass, relay);
-    Closed(())
+    ClosedRun(())
 }

@@ -12,7 +12,7 @@ mod threads;
 mod workers;
 
 pub use fuse_book::Book;
-pub use fuse_core::{Event, Hand, Job, LINE_PLACES, Mark, SentOut, State, run, step};
+pub use fuse_core::{Event, Job, LINE_PLACES, Mark, SentOut, State, WorkerHand, run, step};
 pub use fuse_loop::{
     Buffers, Channel, End, Incoming, Lines, RunEnd, Taken, Transcript, Work, run_inline,
 };

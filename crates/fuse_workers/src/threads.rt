@@ -25,15 +25,15 @@ use std::thread::{Promise, PromisedHandle, Scope, Threads};
 pub const MOST_WORKERS: usize = 64;
 
 /// What a worker hands back: its passes, with a prompt pushed for each job that it took.
-pub(crate) struct Serves<W> {
+pub(crate) struct WorkerPromise<W> {
     work: Snapshot<W>,
     jobs: Snapshot<Line<RequestJob>>,
     frames: Snapshot<Line<Parcel>>,
 }
 
-impl<W> Drop for Serves<W> {
+impl<W> Drop for WorkerPromise<W> {
     fn drop(self) {
-        let Serves {
+        let WorkerPromise {
             work: _,
             jobs: _,
             frames: _,
@@ -41,34 +41,34 @@ impl<W> Drop for Serves<W> {
     }
 }
 
-impl<W: Work> Promise<(Pass<RequestJob>, Pass<Parcel>)> for Serves<W> {
+impl<W: Work> Promise<(Pass<RequestJob>, Pass<Parcel>)> for WorkerPromise<W> {
     ghost kept_by = { λ p r. (r.0.line ≡ p.jobs.value) × (r.1.line ≡ p.frames.value)
         × IsServed (answering (W.owed p.work.value) W.DEFERS) r.0.hand r.1.hand };
 }
 
 /// What the sender hands back: the end that it was lent, with its book, to which each parcel went that it took.
-pub(crate) struct Sends<'a, K: Sink> {
+pub(crate) struct SenderPromise<'a, K: Sink> {
     lent: Snapshot<LentRelay<'a, K>>,
     frames: Snapshot<Line<Parcel>>,
 }
 
-impl<'a, K: Sink> Drop for Sends<'a, K> {
+impl<'a, K: Sink> Drop for SenderPromise<'a, K> {
     fn drop(self) {
-        let Sends { lent: _, frames: _ } = self;
+        let SenderPromise { lent: _, frames: _ } = self;
     }
 }
 
-impl<'a, K: Sink> Promise<LentRelay<'a, K>> for Sends<'a, K> {
+impl<'a, K: Sink> Promise<LentRelay<'a, K>> for SenderPromise<'a, K> {
     ghost kept_by = { λ p r. (r.relay.ghost_name ≡ p.lent.value.relay.ghost_name) × (r.pass.line ≡ p.frames.value)
         × IsRelayed r.pass.hand (relay_of p.lent.value.relay.now.outlet p.lent.value.relay.now.book)
         (relay_of r.relay.now.outlet r.relay.now.book) };
 }
 
 /// A worker that was started.
-pub(crate) type Worker<W> = PromisedHandle<(Pass<RequestJob>, Pass<Parcel>), Serves<W>>;
+pub(crate) type Worker<W> = PromisedHandle<(Pass<RequestJob>, Pass<Parcel>), WorkerPromise<W>>;
 
 /// The sender, where it was started.
-pub(crate) type Sender<'a, K> = PromisedHandle<LentRelay<'a, K>, Sends<'a, K>>;
+pub(crate) type Sender<'a, K> = PromisedHandle<LentRelay<'a, K>, SenderPromise<'a, K>>;
 
 /// Starts a worker, where there is memory for what it answers with. The closure of one that can't be started is run here at
 /// once, with its flag raised.
@@ -97,7 +97,7 @@ fn start_one<'s, E, W: Work, R: Threads + Wait + AllocGlobal + Sync>(
     };
     let job_pass = jobs.split(&mut caller.jobs, false);
     let frame_pass = frames.split(&mut caller.frames, false);
-    let promise = Serves {
+    let promise = WorkerPromise {
         work: Snapshot::of(work),
         jobs: Snapshot::of(jobs),
         frames: Snapshot::of(frames),
@@ -225,7 +225,7 @@ pub(crate) fn start_sender<'s, 'a: 's, E, K: Sink + Send, R: Threads + Wait + Sy
         × IsRelayed r.pass.hand (relay_of lent.entry.relay.now.outlet lent.entry.relay.now.book)
         (relay_of r.relay.now.outlet r.relay.now.book)) }
 {
-    let promise = Sends {
+    let promise = SenderPromise {
         lent: Snapshot::of(&lent),
         frames: Snapshot::of(frames),
     };

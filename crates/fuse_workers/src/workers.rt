@@ -3,7 +3,7 @@ ghost use Rattle.std.specs.Prelude.{◌≡◌, ◌≤◌, ◌++◌, ℕ, List, [
 ghost use Rattle.std.specs.Arc.{arc_value};
 ghost use Rattle.std.specs.Vec.{vec_capacity, vec_len};
 ghost use Rattle.fuse_line.specs.Hand.{hand};
-ghost use Rattle.fuse_line.specs.declared.hand.Kind.TheVariants.{First};
+ghost use Rattle.fuse_line.specs.declared.hand.Kind.TheVariants.{First, Inner};
 ghost use Rattle.fuse_line.specs.Tells.{IsSettled};
 ghost use Rattle.fuse_reply.specs.Parcel.{is_prompt};
 ghost use Rattle.fuse_reply.specs.declared.parcel.Parcel.{Parcel as Goes};
@@ -17,14 +17,14 @@ ghost use Rattle.fuse_loop.specs.Incoming.{IsBroken};
 ghost use Rattle.fuse_loop.specs.Lines.{IsAlone, IsDrained, IsOn, IsUnused, ended_by, late_of, unasked_of};
 ghost use Rattle.fuse_core.specs.OneEach.{UpToOrder};
 ghost use Rattle.fuse_workers.specs.OneEachLater.{NoneHeldBack};
-ghost use Rattle.fuse_sender.specs.Relays.{is_own, relay_of};
+ghost use Rattle.fuse_sender.specs.Relays.{IsRelayed, RelayState, is_own, relay_of};
 ghost use Rattle.fuse_jobs.specs.Callers.{CallerOn};
 ghost use Rattle.fuse_workers.specs.Promises.{lines_of};
 ghost use Rattle.fuse_loop.specs.Progress.{PassesOnAll, Quiet, nothing_yet, progress};
 ghost use Rattle.fuse_jobs.specs.Answered.{IsCaller};
 ghost use Rattle.fuse_loop.specs.Answering.{answering};
 
-use crate::closing::{Closed, mark_end, send_last};
+use crate::closing::{ClosedRun, mark_end, send_last};
 use crate::lent::{LentEnds, take_back};
 use crate::threads::{MOST_WORKERS, Worker, join_workers, start_sender, start_workers};
 use fuse_book::Book;
@@ -43,7 +43,7 @@ use std::thread;
 use std::thread::{Scope, Threads};
 
 /// The ends of a run, the first passes of its lines, and the mark of its end.
-struct Ends<S: Source, K: Sink> {
+struct RunParts<S: Source, K: Sink> {
     intake: Intake<S>,
     relay: Relay<K>,
     caller: Caller,
@@ -106,7 +106,7 @@ fn answer_alone<W: Work, S: Source, K: Sink, R: Wait + AllocGlobal>(
     relay: &mut Relay<K>,
     caller: &mut Caller,
     ending: &mut Ending,
-) -> (Stopped, Closed)
+) -> (Stopped, ClosedRun)
     requires line { caller.old.frames.line ≡ frames.now }
     requires hand { caller.old.frames.hand ≡ hand First 0 [] caller.old.frames.hand.taken }
     requires no_worker { caller.old.jobs.hand.others ≡ 0 }
@@ -136,6 +136,43 @@ fn answer_alone<W: Work, S: Source, K: Sink, R: Wait + AllocGlobal>(
     (stopped, closed)
 }
 
+/// Conducts a run on this thread, since no sender could be started. What one was to be lent came back, with its pass.
+fn conduct_alone<'a, W: Work, S: Source, K: Sink, R: Wait + AllocGlobal>(
+    rt: &R,
+    work: &W,
+    frames: &Line<Parcel>,
+    intake: &'a mut Intake<S>,
+    back: LentRelay<'a, K>,
+    mut caller: Caller,
+    mut ending: Ending,
+) -> (Stopped, LentEnds<'a, S, K>, ClosedRun)
+    requires lines { (caller.frames.line ≡ frames.now) × (back.pass.line ≡ frames.now) }
+    requires hands { (caller.jobs.hand ≡ hand First 0 [] []) × (caller.frames.hand ≡ hand First 1 [] []) }
+    requires sender { (back.pass.hand.kind ≡ Inner) × (back.pass.hand.put ≡ []) }
+    requires unmarked { ending.set ≡ None }
+    ensures same { (result.1.intake.ghost_name ≡ intake.entry.ghost_name)
+        × (result.1.relay.ghost_name ≡ back.entry.relay.ghost_name) }
+    ensures lines { (result.1.caller.jobs.line ≡ caller.jobs.line) × (result.1.caller.frames.line ≡ frames.now)
+        × (result.1.caller.answerer.notifier.line ≡ caller.answerer.notifier.line) }
+    ensures marked { result.1.ending ≡ ended_by ending result.1.intake.now.received }
+    ensures conducts { (before : RelayState) →
+        IsRelayed back.entry.pass.hand before (relay_of back.entry.relay.now.outlet back.entry.relay.now.book) →
+        Conducts (answering (W.owed work.now) W.DEFERS) result.0 intake.entry.now result.1.intake.now before
+        (relay_of result.1.relay.now.outlet result.1.relay.now.book)
+        result.1.caller.jobs.hand result.1.caller.frames.hand }
+{
+    let LentRelay { relay, pass } = back;
+    frames.join(&mut caller.frames, pass);
+    let (stopped, closed) = answer_alone(rt, work, frames, intake, relay, &mut caller, &mut ending);
+    let lent = LentEnds {
+        intake,
+        relay,
+        caller,
+        ending,
+    };
+    (stopped, lent, closed)
+}
+
 /// Conducts a run in a scope whose threads it starts: one that sends, and workers up to the number of flags. Where
 /// none can be started to send, the caller answers all messages itself, and sends.
 fn conduct<
@@ -156,7 +193,7 @@ fn conduct<
     no_more: &'s AtomicBool,
     lent: LentEnds<'a, S, K>,
     workers: Vec<Worker<W>>,
-) -> (Stopped, LentEnds<'a, S, K>, Closed)
+) -> (Stopped, LentEnds<'a, S, K>, ClosedRun)
     requires lines { CallerOn jobs.now frames.now lent.caller }
     requires hands { (lent.caller.jobs.hand ≡ hand First 0 [] []) × (lent.caller.frames.hand ≡ hand First 0 [] []) }
     requires workers { (workers.items ≡ []) × (length flags.now ≤ vec_capacity workers) }
@@ -180,26 +217,7 @@ fn conduct<
     let pass = frames.split(&mut caller.frames, false);
     let sender = match start_sender(scope, rt, frames, LentRelay { relay, pass }, no_more) {
         Ok(sender) => sender,
-        Err(back) => {
-            let LentRelay { relay, pass } = back;
-            frames.join(&mut caller.frames, pass);
-            let (stopped, closed) = answer_alone(
-                rt,
-                work,
-                frames,
-                intake,
-                relay,
-                &mut caller,
-                &mut ending,
-            );
-            let lent = LentEnds {
-                intake,
-                relay,
-                caller,
-                ending,
-            };
-            return (stopped, lent, closed);
-        }
+        Err(back) => return conduct_alone(rt, work, frames, intake, back, caller, ending),
     };
     let stopped = answer_all(
         scope,
@@ -236,7 +254,7 @@ fn run_in_scope<'a, W: Work, S: Source, K: Sink + Send, R: Threads + Wait + Allo
     flags: &[AtomicBool],
     lent: LentEnds<'a, S, K>,
     workers: Vec<Worker<W>>,
-) -> (Stopped, LentEnds<'a, S, K>, Closed)
+) -> (Stopped, LentEnds<'a, S, K>, ClosedRun)
     requires lines { CallerOn jobs.now frames.now lent.caller }
     requires hands { (lent.caller.jobs.hand ≡ hand First 0 [] []) × (lent.caller.frames.hand ≡ hand First 0 [] []) }
     requires workers { (workers.items ≡ []) × (length flags.now ≤ vec_capacity workers) }
@@ -256,7 +274,7 @@ fn run_in_scope<'a, W: Work, S: Source, K: Sink + Send, R: Threads + Wait + Allo
     thread::scope(
         thread::scope_env(),
         rt,
-        |scope| -> (Stopped, LentEnds<S, K>, Closed)
+        |scope| -> (Stopped, LentEnds<S, K>, ClosedRun)
             requires lines { CallerOn jobs.now frames.now lent.caller }
             requires hands { (lent.caller.jobs.hand ≡ hand First 0 [] [])
                 × (lent.caller.frames.hand ≡ hand First 0 [] []) }
@@ -308,16 +326,16 @@ fn run_with<S: Source, K: Sink + Send, W: Work, R: Threads + Wait + AllocGlobal 
     count: usize,
     jobs: &Line<RequestJob>,
     frames: &Line<Parcel>,
-    ends: Ends<S, K>,
-) -> (Stopped, Ends<S, K>)
-    requires lines { CallerOn jobs.now frames.now ends.caller }
+    parts: RunParts<S, K>,
+) -> (Stopped, RunParts<S, K>)
+    requires lines { CallerOn jobs.now frames.now parts.caller }
     requires few { count ≤ MOST_WORKERS }
-    requires hands { (ends.caller.jobs.hand ≡ hand First 0 [] []) × (ends.caller.frames.hand ≡ hand First 0 [] []) }
-    requires unmarked { ends.ending.set ≡ None }
+    requires hands { (parts.caller.jobs.hand ≡ hand First 0 [] []) × (parts.caller.frames.hand ≡ hand First 0 [] []) }
+    requires unmarked { parts.ending.set ≡ None }
     ensures lines { CallerOn jobs.now frames.now result.1.caller }
-    ensures marked { result.1.ending ≡ ended_by ends.ending result.1.intake.received }
-    ensures conducts { Conducts (answering (W.owed work.now) W.DEFERS) result.0 ends.intake result.1.intake
-        (relay_of ends.relay.outlet ends.relay.book) (relay_of result.1.relay.outlet result.1.relay.book)
+    ensures marked { result.1.ending ≡ ended_by parts.ending result.1.intake.received }
+    ensures conducts { Conducts (answering (W.owed work.now) W.DEFERS) result.0 parts.intake result.1.intake
+        (relay_of parts.relay.outlet parts.relay.book) (relay_of result.1.relay.outlet result.1.relay.book)
         result.1.caller.jobs.hand result.1.caller.frames.hand }
 {
     let alloc = rt.alloc();
@@ -325,12 +343,12 @@ fn run_with<S: Source, K: Sink + Send, W: Work, R: Threads + Wait + AllocGlobal 
         Ok(room) => room,
         Err(NoMemory) => (Vec::new(alloc), Vec::new(alloc)),
     };
-    let Ends {
+    let RunParts {
         mut intake,
         mut relay,
         caller,
         ending,
-    } = ends;
+    } = parts;
     let lent = LentEnds {
         intake: &mut intake,
         relay: &mut relay,
@@ -353,13 +371,13 @@ fn run_with<S: Source, K: Sink + Send, W: Work, R: Threads + Wait + AllocGlobal 
         ending,
     } = back;
     take_back(taken, sent);
-    let ends = Ends {
+    let parts = RunParts {
         intake,
         relay,
         caller,
         ending,
     };
-    (stopped, ends)
+    (stopped, parts)
 }
 
 /// What a run of this work did: the messages taken, and what was sent. Where no reply comes later, a late frame is none
@@ -379,29 +397,29 @@ fn tallied<W: Work>(sent: Transcript, received: u64, unrecorded: u64) -> Transcr
 /// The end of a run on lines that nobody else uses.
 fn ended<W: Work, S: Source, K: Sink>(
     end: End,
-    ends: Ends<S, K>,
+    parts: RunParts<S, K>,
     jobs: Arc<Line<RequestJob>, Global>,
     frames: Arc<Line<Parcel>, Global>,
 ) -> RunEnd<S, K>
-    requires jobs { IsAlone (λ _. true) (arc_value jobs) ends.caller.jobs }
-    requires frames { IsAlone is_prompt (arc_value frames) ends.caller.frames }
+    requires jobs { IsAlone (λ _. true) (arc_value jobs) parts.caller.jobs }
+    requires frames { IsAlone is_prompt (arc_value frames) parts.caller.frames }
     ensures end { result.end ≡ end }
-    ensures ends { (S.told result.source ≡ ends.intake.source) × (K.told result.sink ≡ ends.relay.outlet.sink) }
-    ensures transcript { result.transcript ≡ record ends.relay.outlet.counts {
-      received = ends.intake.received;
+    ensures ends { (S.told result.source ≡ parts.intake.source) × (K.told result.sink ≡ parts.relay.outlet.sink) }
+    ensures transcript { result.transcript ≡ record parts.relay.outlet.counts {
+      received = parts.intake.received;
       unrecorded = result.transcript.unrecorded;
     } }
-    ensures later { W.DEFERS ≡ true → result.transcript.unrecorded ≡ ends.relay.book.unrecorded }
+    ensures later { W.DEFERS ≡ true → result.transcript.unrecorded ≡ parts.relay.book.unrecorded }
     ensures prompt { W.DEFERS ≡ false → result.transcript.unrecorded ≡ 0 }
-    ensures buffers { result.buffers ≡ lines_of ends.ending ends.caller }
+    ensures buffers { result.buffers ≡ lines_of parts.ending parts.caller }
     ensures drained { IsDrained result.buffers }
 {
-    let Ends {
+    let RunParts {
         intake,
         relay,
         caller,
         ending,
-    } = ends;
+    } = parts;
     let Intake {
         source,
         buffer,
@@ -440,30 +458,30 @@ fn run_on<W: Work, S: Source, K: Sink + Send, R: Threads + Wait + AllocGlobal + 
     count: usize,
     jobs: Arc<Line<RequestJob>, Global>,
     frames: Arc<Line<Parcel>, Global>,
-    ends: Ends<S, K>,
+    parts: RunParts<S, K>,
 ) -> RunEnd<S, K>
-    requires lines { CallerOn (arc_value jobs) (arc_value frames) ends.caller }
+    requires lines { CallerOn (arc_value jobs) (arc_value frames) parts.caller }
     requires few { count ≤ MOST_WORKERS }
-    requires hands { (ends.caller.jobs.hand ≡ hand First 0 [] []) × (ends.caller.frames.hand ≡ hand First 0 [] []) }
-    requires nothing { (ends.intake.received ≡ 0) × (ends.relay.outlet.counts ≡ nothing_yet) }
-    requires book { IsBookOf ends.relay.book [] [] [] }
-    requires own { EachWaiting is_own ends.relay.book }
-    requires unmarked { ends.ending.set ≡ None }
+    requires hands { (parts.caller.jobs.hand ≡ hand First 0 [] []) × (parts.caller.frames.hand ≡ hand First 0 [] []) }
+    requires nothing { (parts.intake.received ≡ 0) × (parts.relay.outlet.counts ≡ nothing_yet) }
+    requires book { IsBookOf parts.relay.book [] [] [] }
+    requires own { EachWaiting is_own parts.relay.book }
+    requires unmarked { parts.ending.set ≡ None }
     ensures run { W.DEFERS ≡ false → Run (UpToOrder (W.owed work.now) IsBroken) result.end
-        (progress ends.intake.source ends.relay.outlet.sink nothing_yet [])
+        (progress parts.intake.source parts.relay.outlet.sink nothing_yet [])
         (progress (S.told result.source) (K.told result.sink) result.transcript (unasked_of result.buffers)) }
     ensures later { Run (NoneHeldBack (W.owed work.now) IsBroken (late_of result.buffers)
         (result.transcript.unrecorded ≡ 0)) result.end
-        (progress ends.intake.source ends.relay.outlet.sink nothing_yet [])
+        (progress parts.intake.source parts.relay.outlet.sink nothing_yet [])
         (progress (S.told result.source) (K.told result.sink) result.transcript
         (unasked_of result.buffers)) }
     ensures recorded { W.DEFERS ≡ false → result.transcript.unrecorded ≡ 0 }
-    ensures marked { result.buffers.end ≡ ended_by ends.ending result.transcript.received }
+    ensures marked { result.buffers.end ≡ ended_by parts.ending result.transcript.received }
     ensures lines { IsOn (arc_value jobs) (arc_value frames) result.buffers }
     ensures drained { IsDrained result.buffers }
 {
-    let (stopped, ends) = run_with(rt, work, count, &jobs, &frames, ends);
-    ended::<W, S, K>(stopped.end(), ends, jobs, frames)
+    let (stopped, parts) = run_with(rt, work, count, &jobs, &frames, parts);
+    ended::<W, S, K>(stopped.end(), parts, jobs, frames)
 }
 
 /// Answers messages on `n` threads, but at most `MOST_WORKERS`, until the source has none left or one ends the run.
@@ -527,7 +545,7 @@ pub fn run_workers<R: Threads + Wait + AllocGlobal + Sync, W: Work, S: Source, K
         answerer,
         ending,
     } = lines;
-    let ends = Ends {
+    let parts = RunParts {
         intake: Intake {
             source,
             buffer: receive,
@@ -547,5 +565,5 @@ pub fn run_workers<R: Threads + Wait + AllocGlobal + Sync, W: Work, S: Source, K
         },
         ending,
     };
-    run_on(rt, work, n.min(MOST_WORKERS), jobs, frames, ends)
+    run_on(rt, work, n.min(MOST_WORKERS), jobs, frames, parts)
 }

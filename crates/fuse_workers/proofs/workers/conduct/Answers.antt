@@ -1,13 +1,11 @@
-use Rattle.std.proofs.Common.{◌≡◌, ◌∙◌, ◌++◌, [], ap, refl, rules}
-use Rattle.fuse_line.specs.Hand.{hand, joined, with_other}
-use Rattle.fuse_line.specs.Seen.{Seen}
+use Rattle.std.proofs.Common.{◌≡◌, ◌∙◌, [], ap, rules}
+use Rattle.fuse_line.specs.Hand.{hand, with_other}
 use Rattle.fuse_line.specs.declared.hand.Hand.{Hand}
 use Rattle.fuse_line.specs.declared.hand.Kind.TheVariants.{First}
 use Rattle.fuse_reply.specs.declared.parcel.Parcel.{Parcel}
 use Rattle.fuse_sender.specs.Relays.{IsRelayed, relay_of}
 use Rattle.fuse_loop.specs.Answering.{answering}
-use Rattle.fuse_core.specs.declared.state.Job.{Job}
-use Rattle.fuse_workers.proofs.Conducting.{Conducts-alone, Conducts-answered, joined-sender}
+use Rattle.fuse_workers.proofs.Conducting.{Conducts-answered}
 use Rattle.fuse_jobs.proofs.Working.{Caller-idle}
 use Rattle.fuse_workers.proofs.workers.conduct.Goals as goal
 
@@ -18,19 +16,7 @@ answer_all-stopped-requires-clause-caller g c κs within =
 
 pub returns-in-Err-clause-conducts : goal.returns-in-Err-clause-conducts
 returns-in-Err-clause-conducts g c =
-    let split : c.split-pass.new.pass.hand ≡ hand First 1 [] [] = c.split-pass.ensures.hands.0 ∙ ap (λ (h : Hand Parcel). with_other h) c.requires.hands.1 in
-    let v = c.in-Err.back.pass.hand in
-    let relayed = c.in-Err.ensures.2 in
-    let whole = ap (λ (h : Hand Parcel). joined h v) split ∙ joined-sender (hand First 1 [] []) v relayed.no_put refl refl relayed.kind refl in
-    let there = c.join.ensures.hand ∙ whole in
-    let alone = c.answer_alone-stopped.ensures.alone in
-    Conducts-alone (answering (g.W.Work.owed c.args.work.now) g.W.Work.DEFERS) c.answer_alone-stopped.result.0 c.args.lent.intake.now
-    c.answer_alone-stopped.new.intake (relay_of c.args.lent.relay.now.outlet c.args.lent.relay.now.book)
-    (relay_of c.in-Err.back.relay.now.outlet c.in-Err.back.relay.now.book)
-    (relay_of c.answer_alone-stopped.new.relay.outlet c.answer_alone-stopped.new.relay.book)
-    c.answer_alone-stopped.new.caller.jobs.hand v c.answer_alone-stopped.new.caller.frames.hand alone.0
-    (ap (λ (s : Seen Job). s.hand) c.answer_alone-stopped.ensures.same.0 ∙ c.requires.hands.0) relayed
-    (alone.1 ∙ ap (λ (h : Hand Parcel). hand First 0 [] (h.taken ++ alone.0)) there) alone.2 c.answer_alone-stopped.ensures.settled
+    c.conduct_alone.ensures.conducts (relay_of c.args.lent.relay.now.outlet c.args.lent.relay.now.book) c.in-Err.ensures.2
 
 pub returns-clause-conducts : goal.returns-clause-conducts
 returns-clause-conducts g c =

@@ -15,7 +15,7 @@ use Rattle.fuse_workers.proofs.workers.run_on.Goals as goal
 pub returns-clause-run : goal.returns-clause-run
 returns-clause-run g c never =
     let owed : Owing = g.W.Work.owed c.args.work.now in
-    let first = c.args.ends in
+    let first = c.args.parts in
     let stopped = c.run_with-stopped.result.0 in
     let ends = c.run_with-stopped.result.1 in
     let told = c.ended.result in
@@ -41,7 +41,7 @@ returns-clause-run g c never =
 pub returns-clause-later : goal.returns-clause-later
 returns-clause-later g c =
     let owed : Owing = g.W.Work.owed c.args.work.now in
-    let first = c.args.ends in
+    let first = c.args.parts in
     let stopped = c.run_with-stopped.result.0 in
     let ends = c.run_with-stopped.result.1 in
     let told = c.ended.result in
