@@ -28,10 +28,10 @@ before zero rows = None
 before (suc place) rows = slice_get rows place
 
 -- the mark that came of a row, or that mark where there is none
-abbrev pub CameOf : (Came : (ino nlookup mark : ℕ) → Type 0) → Option (ℕ × ℕ) → (mark : ℕ) → Type 0
-CameOf Came None mark = mark ≡ default_mark
-CameOf Came (Some row) mark = Came row.0 row.1 mark
+abbrev pub IsRowMark : (Came : (ino nlookup mark : ℕ) → Type 0) → Option (ℕ × ℕ) → (mark : ℕ) → Type 0
+IsRowMark Came None mark = mark ≡ default_mark
+IsRowMark Came (Some row) mark = Came row.0 row.1 mark
 
 -- the mark of a batch of forgets: what came of its last row, or that mark where there is no row
 abbrev pub IsLastMark : (Came : (ino nlookup mark : ℕ) → Type 0) → (rows : List (ℕ × ℕ)) → (mark : ℕ) → Type 0
-IsLastMark Came rows mark = CameOf Came (before (length rows) rows) mark
+IsLastMark Came rows mark = IsRowMark Came (before (length rows) rows) mark

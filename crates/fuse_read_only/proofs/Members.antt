@@ -9,23 +9,23 @@ use Rattle.std.proofs.lemmas.List.{append-nil}
 use Rattle.std.proofs.lemmas.Grind.{flat_map-append}
 use Rattle.std.proofs.Math.Seq.{drop-cons}
 use Rattle.std.proofs.Math.ListN.{drop_of_length-le}
-use Rattle.fuse_reply.specs.Adding.{Listing}
+use Rattle.fuse_reply.specs.Adding.{ListingSeen}
 use Rattle.fuse_reply.specs.Listing.{DirEntry, Fits, dirent, fitting, listing}
 use Rattle.fuse_reply.specs.Answer.{IsDirEntry}
 use Rattle.fuse_reply.proofs.ListingLaws.{fitting-next, fitting-none}
-use Rattle.fuse_read_only.specs.Tree.{Member, followed_by, last_offset, numbered}
+use Rattle.fuse_read_only.specs.Tree.{Member, followed_by, last_offset, with_offsets}
 
 -- what stands at a place is the first of what stands there and later
-numbered-from : (members : List Member) (place : ℕ) (m : Member) → slice_get members place ≡ Some m → place < last_offset
-    → numbered place (drop place members) ≡ followed_by (place + 1) m ∷ numbered (place + 1) (drop (place + 1) members)
-numbered-from members place m is low =
+with_offsets-from : (members : List Member) (place : ℕ) (m : Member) → slice_get members place ≡ Some m → place < last_offset
+    → with_offsets place (drop place members) ≡ followed_by (place + 1) m ∷ with_offsets (place + 1) (drop (place + 1) members)
+with_offsets-from members place m is low =
     let next : suc place ≡ place + 1 = omega arith in
-    ap (λ (ms : List Member). numbered place ms)
+    ap (λ (ms : List Member). with_offsets place ms)
     (drop-cons members place m (slice_get_within members place m is)
     ∙ ap (λ (x : Member). x ∷ drop (suc place) members) (get_or_from_slice_get members place m m is)
     ∙ ap (λ (n : ℕ). m ∷ drop n members) next)
     ∙ ap
-    (λ (counts : Bool). if counts then followed_by (place + 1) m ∷ numbered (place + 1) (drop (place + 1) members) else [])
+    (λ (counts : Bool). if counts then followed_by (place + 1) m ∷ with_offsets (place + 1) (drop (place + 1) members) else [])
     (lt-ltb place last_offset low)
 
 -- where nothing stands the members are over
@@ -37,14 +37,14 @@ slice_get_beyond members place is = by_side (slice_get_cases members place).1 wh
   by_side (inr beyond) = beyond.0
 
 -- and nothing follows
-pub numbered-none : (members : List Member) (place : ℕ) → slice_get members place ≡ None → numbered place (drop place members) ≡ []
-numbered-none members place is = ap (λ (ms : List Member). numbered place ms) (drop_of_length-le members (slice_get_beyond members place is))
+pub with_offsets-none : (members : List Member) (place : ℕ) → slice_get members place ≡ None → with_offsets place (drop place members) ≡ []
+with_offsets-none members place is = ap (λ (ms : List Member). with_offsets place ms) (drop_of_length-le members (slice_get_beyond members place is))
 
 -- from the last number on no entry has an offset
-pub numbered-last : (members : List Member) (place : ℕ) → last_offset ≤ place → numbered place members ≡ []
-numbered-last [] place last = refl
-numbered-last (m ∷ members) place last =
-    ap (λ (counts : Bool). if counts then followed_by (place + 1) m ∷ numbered (place + 1) members else []) (le-ltb place last_offset last)
+pub with_offsets-last : (members : List Member) (place : ℕ) → last_offset ≤ place → with_offsets place members ≡ []
+with_offsets-last [] place last = refl
+with_offsets-last (m ∷ members) place last =
+    ap (λ (counts : Bool). if counts then followed_by (place + 1) m ∷ with_offsets (place + 1) members else []) (le-ltb place last_offset last)
 
 -- an entry behind others, as bytes
 pub listing-add : (taken : List DirEntry) (e : DirEntry) → listing (taken ++ e ∷ []) ≡ listing taken ++ dirent e
@@ -64,10 +64,10 @@ joined-next size taken whole rest e fits joined =
 
 -- where one stands at a place, it is the next one there
 pub joined-here : (members : List Member) (place size : ℕ) (taken whole : List DirEntry) (m : Member) → slice_get members place ≡ Some m
-    → place < last_offset → taken ++ fitting size (length (listing taken)) (numbered place (drop place members)) ≡ whole
-    → taken ++ fitting size (length (listing taken)) (followed_by (place + 1) m ∷ numbered (place + 1) (drop (place + 1) members)) ≡ whole
+    → place < last_offset → taken ++ fitting size (length (listing taken)) (with_offsets place (drop place members)) ≡ whole
+    → taken ++ fitting size (length (listing taken)) (followed_by (place + 1) m ∷ with_offsets (place + 1) (drop (place + 1) members)) ≡ whole
 joined-here members place size taken whole m is low joined =
-    ap (λ (es : List DirEntry). taken ++ fitting size (length (listing taken)) es) (sym (numbered-from members place m is low))
+    ap (λ (es : List DirEntry). taken ++ fitting size (length (listing taken)) es) (sym (with_offsets-from members place m is low))
     ∙ joined
 
 -- they are all where the next one does not fit
@@ -92,7 +92,7 @@ each-add P [] e each here = (here, tt)
 each-add P (x ∷ entries) e each here = (each.0, each-add P entries e each.1 here)
 
 -- what was taken is the whole
-pub listed-whole : (taken whole : List DirEntry) (before after : Listing) → after ≡ record before { held = listing taken }
+pub listed-whole : (taken whole : List DirEntry) (before after : ListingSeen) → after ≡ record before { held = listing taken }
     → AllByRecursion IsDirEntry taken → taken ≡ whole → (after ≡ record before { held = listing whole }) × AllByRecursion IsDirEntry whole
 listed-whole taken whole before after same in_range all =
     (same ∙ ap (λ (es : List DirEntry). record before { held = listing es }) all, subst (AllByRecursion IsDirEntry) all in_range)

@@ -1,8 +1,8 @@
 // A tree of files that is only looked at.
 ghost use Rattle.std.specs.Prelude.{◌≡◌, option_map, slice_get};
-ghost use Rattle.fuse_read_only.specs.Tree.{Tree, member_of, root_attr};
+ghost use Rattle.fuse_read_only.specs.Tree.{Tree, member_of};
 
-use fuse_wire::{Duration, FileAttr, FileType, INodeNo, SystemTime};
+use fuse_wire::{Duration, FileAttr, FileType, INodeNo};
 
 /// An entry of a directory.
 #[derive(Clone, Copy, Debug)]
@@ -29,7 +29,7 @@ pub trait Files {
     fn named(&self, parent: INodeNo, name: &[u8]) -> Option<FileAttr>
         ensures { result ≡ (tree self.now).names parent.0 name.now };
 
-    /// All bytes of a file. None is that it is no file.
+    /// All bytes of a file, or the path that a symbolic link leads to. None is that it is neither.
     fn contents(&self, ino: INodeNo) -> Option<&[u8]>
         ensures { option_map (λ all. all.now) result ≡ (tree self.now).contents ino.0 };
 
@@ -41,29 +41,4 @@ pub trait Files {
     /// How long the kernel may rely on names and attributes.
     fn ttl(&self) -> Duration
         ensures { result ≡ (tree self.now).ttl };
-}
-
-/// Attributes of a node that belongs to root, of this kind, with these permissions, so many names, and contents of so
-/// many bytes. Its times are 0.
-pub fn root_attr(ino: INodeNo, kind: FileType, perm: u16, nlink: u32, size: u64) -> FileAttr
-    ensures { result ≡ root_attr ino.0 kind perm nlink size }
-{
-    let epoch = SystemTime(0);
-    FileAttr {
-        ino,
-        size,
-        blocks: size / 512 + (size % 512).min(1),
-        atime: epoch,
-        mtime: epoch,
-        ctime: epoch,
-        crtime: epoch,
-        kind,
-        perm,
-        nlink,
-        uid: 0,
-        gid: 0,
-        rdev: 0,
-        blksize: 512,
-        flags: 0,
-    }
 }

@@ -8,6 +8,6 @@ mod files;
 mod listing;
 mod read_only;
 
-pub use files::{Entry, Files, root_attr};
+pub use files::{Entry, Files};
 pub use listing::add_entries;
 pub use read_only::{ReadOnly, part};

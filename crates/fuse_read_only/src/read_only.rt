@@ -1,7 +1,7 @@
 // Files served as a filesystem that is only read.
 ghost use Rattle.std.specs.Prelude.{◌≡◌, ◌≤◌, false, refl, take, drop, length, min};
 ghost use Rattle.fuse_reply.specs.Sizes.{max_payload};
-ghost use Rattle.fuse_read_only.specs.ReadOnly.{promise};
+ghost use Rattle.fuse_read_only.specs.ReadOnly.{is_link, promise};
 
 use crate::Files;
 use crate::listing::add_entries;
@@ -16,9 +16,9 @@ use fuse_reply::{
 use fuse_request::{ForgetList, Request};
 use fuse_session::{Filesystem, defaults};
 use fuse_wire::{
-    AccessFlags, BsdFileFlags, CopyFileRangeFlags, Errno, FileHandle, Generation, INodeNo,
-    IoctlFlags, LockOwner, NoMemory, OpenAccMode, OpenFlags, PollEvents, PollFlags, RenameFlags,
-    SystemTime, TimeOrNow, WriteFlags,
+    AccessFlags, BsdFileFlags, CopyFileRangeFlags, Errno, FileHandle, FileType, Generation,
+    INodeNo, IoctlFlags, LockOwner, NoMemory, OpenAccMode, OpenFlags, PollEvents, PollFlags,
+    RenameFlags, SystemTime, TimeOrNow, WriteFlags,
 };
 use std::marker::Model;
 
@@ -65,6 +65,13 @@ pub fn part(all: &[u8], offset: u64, size: u32) -> &[u8]
 {
     let rest = all.get(offset as usize..).unwrap_or(&[]);
     rest.get(..(size as usize).min(MAX_PAYLOAD)).unwrap_or(rest)
+}
+
+/// Whether it is a symbolic link.
+fn is_link(kind: FileType) -> bool
+    ensures { result ≡ is_link kind }
+{
+    matches!(kind, FileType::Symlink)
 }
 
 impl<T: Files + Send + Sync> Filesystem for ReadOnly<T> {
@@ -129,8 +136,19 @@ impl<T: Files + Send + Sync> Filesystem for ReadOnly<T> {
         reply.error(Errno::EROFS)
     }
 
-    fn readlink(&self, _request: &Request, _ino: INodeNo, reply: ReplyData) -> Replied {
-        defaults::readlink(reply)
+    fn readlink(&self, _request: &Request, ino: INodeNo, reply: ReplyData) -> Replied {
+        match self.files.attr(ino) {
+            Some(found) => {
+                if !is_link(found.kind) {
+                    return reply.error(Errno::EINVAL);
+                }
+                match self.files.contents(ino) {
+                    Some(path) => reply.data(part(path, 0, u32::MAX)),
+                    None => reply.error(Errno::ENOENT),
+                }
+            }
+            None => reply.error(Errno::ENOENT),
+        }
     }
 
     fn symlink(

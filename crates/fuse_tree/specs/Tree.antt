@@ -10,9 +10,10 @@ use Rattle.fuse_wire.specs.declared.file_attr.FileType.TheVariants.{Directory, R
 use Rattle.fuse_operations.specs.Call.{Call}
 use Rattle.fuse_operations.specs.Call.Call.{Lookup, Forget, GetAttr, Read, ReadDir, BatchForget}
 use Rattle.fuse_reply.specs.Answer.{Answer}
-use Rattle.fuse_reply.specs.Answer.Answer.{Error, Data, Entry, Attr, Directory as Entries}
+use Rattle.fuse_reply.specs.Answer.Answer.{Error, Data, Directory as Entries}
 use Rattle.fuse_reply.specs.Listing.{DirEntry, fitting}
 use Rattle.fuse_dispatch.specs.Defaults.{default_answer}
+use Rattle.fuse_dispatch.specs.Found.{found_attributes, found_entry}
 use Rattle.fuse_dispatch.specs.Promise.{Promise, MayInit, MayAnswer, MayNote, MayDestroy}
 use Rattle.fuse_tree.specs.declared.hello.Hello.{Hello}
 
@@ -45,8 +46,8 @@ node_attr ino =
     else None
 
 -- the names in the directory
-abbrev pub named : List ℕ → Option FileAttr
-named name =
+abbrev pub tree_named : List ℕ → Option FileAttr
+tree_named name =
     if bytes_eq name (codes "hello.txt") then node_attr 2
     else if bytes_eq name (codes "big") then node_attr 3
     else None
@@ -67,30 +68,21 @@ contents ino =
     else if ino == 3 then Some (range_with_len 0 200)
     else None
 
--- an entry and its attributes hold for a second, and their generation is 0; without one the answer is ENOENT
-abbrev pub entry : Option FileAttr → Answer
-entry None = Error ENOENT
-entry (Some found) = Entry nanos_per_second nanos_per_second 0 found
-
-abbrev pub attributes : Option FileAttr → Answer
-attributes None = Error ENOENT
-attributes (Some found) = Attr nanos_per_second found
-
 -- the bytes from the offset on, at most so many
-abbrev pub bytes : (offset size : ℕ) → Option (List ℕ) → Answer
-bytes offset size None = Error ENOENT
-bytes offset size (Some all) = Data (take size (drop offset all))
+abbrev pub tree_bytes : (offset size : ℕ) → Option (List ℕ) → Answer
+tree_bytes offset size None = Error ENOENT
+tree_bytes offset size (Some all) = Data (take size (drop offset all))
 
 -- the entries after the first so many
-abbrev pub listed : (ino offset size : ℕ) → Answer
-listed ino offset size = if ino == 1 then Entries (fitting size 0 (drop offset members)) else Error ENOENT
+abbrev pub tree_listed : (ino offset size : ℕ) → Answer
+tree_listed ino offset size = if ino == 1 then Entries (fitting size 0 (drop offset members)) else Error ENOENT
 
--- the answer to a call
+-- the answer to a call; an entry and attributes hold for a second
 abbrev pub tree_answer : Call → Answer
-tree_answer (Lookup parent name) = entry (if parent == 1 then named name else None)
-tree_answer (GetAttr ino fh) = attributes (node_attr ino)
-tree_answer (Read ino fh offset size flags lock_owner) = bytes offset size (contents ino)
-tree_answer (ReadDir ino fh offset size) = listed ino offset size
+tree_answer (Lookup parent name) = found_entry nanos_per_second (if parent == 1 then tree_named name else None)
+tree_answer (GetAttr ino fh) = found_attributes nanos_per_second (node_attr ino)
+tree_answer (Read ino fh offset size flags lock_owner) = tree_bytes offset size (contents ino)
+tree_answer (ReadDir ino fh offset size) = tree_listed ino offset size
 tree_answer c = default_answer c
 
 -- the mark of a forget: how many lookups it gives back, or of how many inodes a batch gives back some

@@ -3,8 +3,8 @@ ghost use Rattle.std.specs.Prelude.{◌≡◌, ◌+◌, ◌*◌, ◌%◌, ◌^�
 ghost use Rattle.std.specs.Int.{w32, w64, to_le_bytes};
 ghost use Rattle.std.specs.List.{concat};
 ghost use Rattle.fuse_wire.specs.StreamSink.{WritesAll};
-ghost use Rattle.fuse_tree.specs.Generated.{destroy, init, init_body, message, read_body, write_body};
-ghost use Rattle.fuse_tree.specs.Generated.{request_of, stream};
+ghost use Rattle.fuse_tree.specs.Generated.{destroy_message, init_message, init_body, generated_message, read_body, write_body};
+ghost use Rattle.fuse_tree.specs.Generated.{generated_request, stream};
 
 use fuse_request::opcode::{
     FUSE_DESTROY, FUSE_FORGET, FUSE_GETATTR, FUSE_INIT, FUSE_LOOKUP, FUSE_READ, FUSE_READDIR,
@@ -46,10 +46,10 @@ impl Model for Message {
 
 impl Message {
     /// The message of this opcode, id, node and body. Whoever asks is 0.
-    #[tactic(auto, unfolding(crate::specs::Generated::message))]
+    #[tactic(auto, unfolding(crate::specs::Generated::generated_message))]
     fn new(opcode: u32, id: u64, node: u64, body: &[u8]) -> Message
         requires { length body.now ≤ 64 }
-        ensures { result ≡ message opcode id node body.now }
+        ensures { result ≡ generated_message opcode id node body.now }
     {
         let size = REQUEST_HEADER_SIZE + body.len();
         let mut bytes = [0; LONGEST];
@@ -143,7 +143,7 @@ fn write_bytes() -> [u8; 45]
 
 /// The message that opens the stream.
 fn init_message() -> Message
-    ensures { result ≡ init }
+    ensures { result ≡ init_message }
 {
     let body = init_bytes(FUSE_KERNEL_VERSION, FUSE_KERNEL_MINOR_VERSION, READAHEAD);
     Message::new(FUSE_INIT, 1, 0, &body)
@@ -151,7 +151,7 @@ fn init_message() -> Message
 
 /// The request of this id that this `x` gives.
 fn request(id: u64, x: u32) -> Message
-    ensures { result ≡ request_of id x }
+    ensures { result ≡ generated_request id x }
 {
     let v = x / 65536;
     let w = u64::from(v / 8);
@@ -169,7 +169,7 @@ fn request(id: u64, x: u32) -> Message
 
 /// The message that ends the stream.
 fn destroy_message(id: u64) -> Message
-    ensures { result ≡ destroy id }
+    ensures { result ≡ destroy_message id }
 {
     Message::new(FUSE_DESTROY, id, 0, &[])
 }

@@ -2,7 +2,7 @@
 ghost use Rattle.std.specs.Prelude.{◌≡◌, ◌<◌, ◌+◌, [], Some, false, refl, take, drop, option_map, slice_get};
 ghost use Rattle.fuse_wire.specs.Times.{nanos_per_second};
 ghost use Rattle.fuse_reply.specs.Listing.{fitting, listing};
-ghost use Rattle.fuse_tree.specs.Tree.{attr, contents, member, members, named, node_attr, tree_promise};
+ghost use Rattle.fuse_tree.specs.Tree.{attr, contents, member, members, tree_named, node_attr, tree_promise};
 
 use fuse_config::KernelConfig;
 use fuse_dispatch::{Filesystem, defaults};
@@ -113,7 +113,7 @@ fn node_attr(ino: u64) -> Option<FileAttr>
 
 /// The attributes of the node of this name in the directory.
 fn named(name: &[u8]) -> Option<FileAttr>
-    ensures { result ≡ named name.now }
+    ensures { result ≡ tree_named name.now }
 {
     if name == b"hello.txt".as_slice() {
         node_attr(2)

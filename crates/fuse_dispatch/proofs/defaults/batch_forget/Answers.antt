@@ -2,7 +2,7 @@ use Rattle.std.proofs.Common.{◌≡◌, ◌∙◌, ◌<◌, ◌+◌, ℕ, suc, 
 use Rattle.std.specs.Prelude.{option_map, slice_get}
 use Rattle.std.proofs.lemmas.Option.{slice_get-get_or}
 use Rattle.fuse_operations.specs.Forgets.{row_of, rows_of}
-use Rattle.fuse_dispatch.specs.Defaults.{CameOf, before}
+use Rattle.fuse_dispatch.specs.Defaults.{IsRowMark, before}
 use Rattle.fuse_dispatch.proofs.defaults.batch_forget.Goals as goal
 use Rattle.fuse_dispatch.proofs.defaults.batch_forget.Goals.{in-Some, in_default}
 
@@ -15,10 +15,10 @@ loop-place-preserved g c =
     let rows = rows_of c.args.nodes in
     let Came : (ino nlookup mark : ℕ) → Type 0 = λ ino nlookup. g.F.Fn.post c.args.forget (record { 0 = ino }, (nlookup, tt)) in
     let next : suc at ≡ at + 1 = omega arith in
-    subst (λ (place : ℕ). CameOf Came (before place rows) c.match-get.mark) next
+    subst (λ (place : ℕ). IsRowMark Came (before place rows) c.match-get.mark) next
     (elim c.match-get.branch [
       | in-Some w ↦
-          subst (λ (found : Option (ℕ × ℕ)). CameOf Came found c.match-get.mark)
+          subst (λ (found : Option (ℕ × ℕ)). IsRowMark Came found c.match-get.mark)
           (sym (ap (λ one. option_map row_of one) w.in-Some.is) ∙ c.get.ensures)
           (subst (λ (mark : ℕ). Came w.in-Some.row.nodeid.0 w.in-Some.row.nlookup mark) (sym w.mark-is)
           (subst (λ (ino : ℕ). Came ino w.in-Some.row.nlookup w.forget-mark.result) w.nodeid.ensures
@@ -34,5 +34,5 @@ pub returns : goal.returns
 returns g c =
     let all : c.loop-place.place ≡ length (rows_of c.args.nodes) =
     omega (arith, c.loop-place-test.false, c.loop-place.auto.place-end, c.len-place-end.ensures) in
-    subst (λ (place : ℕ). CameOf (λ ino nlookup. g.F.Fn.post c.args.forget (record { 0 = ino }, (nlookup, tt))) (before place (rows_of c.args.nodes))
+    subst (λ (place : ℕ). IsRowMark (λ ino nlookup. g.F.Fn.post c.args.forget (record { 0 = ino }, (nlookup, tt))) (before place (rows_of c.args.nodes))
     c.loop-place.mark) all c.loop-place.invariant

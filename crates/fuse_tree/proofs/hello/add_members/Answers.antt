@@ -1,6 +1,6 @@
 use Rattle.std.proofs.Common.{◌≡◌, ◌+◌, ◌≤◌, ◌++◌, ◌∙◌, ℕ, Bool, true, false, List, Ok, ap, sym, subst, refl, arith, length, drop}
 use Rattle.fuse_wire.specs.declared.no_memory.NoMemory.{NoMemory}
-use Rattle.fuse_reply.specs.Adding.{Adds, Listing}
+use Rattle.fuse_reply.specs.Adding.{Adds, ListingSeen}
 use Rattle.fuse_reply.specs.Listing.{Fits, dirent, fitting, listing}
 use Rattle.fuse_tree.specs.Tree.{member, members}
 use Rattle.fuse_tree.proofs.Members.{joined-full, joined-next, joined-start, short-from, short-next}
@@ -25,7 +25,7 @@ returns-then-full c =
     let whole = listing (fitting c.args.reply.now.size 0 (drop c.args.offset members)) in
     let all : held ≡ whole =
     joined-full c.args.reply.now.size at held whole e c.member-kind.ensures
-    (subst (λ (size : ℕ). Fits size (length held) (length (dirent e)) → ⊥) (ap (λ (l : Listing). l.size) before.same) adds.0) before.joined in
+    (subst (λ (size : ℕ). Fits size (length held) (length (dirent e)) → ⊥) (ap (λ (l : ListingSeen). l.size) before.same) adds.0) before.joined in
     adds.1 ∙ (before.same ∙ ap (λ (bytes : List ℕ). record c.args.reply.now { held = bytes }) all)
 
 pub loop-place-preserved : goal.loop-place-preserved
@@ -39,13 +39,13 @@ loop-place-preserved c =
     let held = c.loop-place.reply.held in
     let size = c.args.reply.now.size in
     let whole = listing (fitting size 0 (drop c.args.offset members)) in
-    let grown : held ++ dirent e ≡ c.add.new.self.held = sym (ap (λ (l : Listing). l.held) adds.1) in
+    let grown : held ++ dirent e ≡ c.add.new.self.held = sym (ap (λ (l : ListingSeen). l.held) adds.1) in
     record {
-      same = adds.1 ∙ (ap (λ (l : Listing). record l { held = held ++ dirent e }) before.same
+      same = adds.1 ∙ (ap (λ (l : ListingSeen). record l { held = held ++ dirent e }) before.same
           ∙ ap (λ (bytes : List ℕ). record c.args.reply.now { held = bytes }) grown);
       joined = subst (λ (bytes : List ℕ). bytes ++ listing (fitting size (length bytes) (drop (at + 1) members)) ≡ whole) grown
           (joined-next size at held whole e c.member-kind.ensures
-          (subst (λ (s : ℕ). Fits s (length held) (length (dirent e))) (ap (λ (l : Listing). l.size) before.same) adds.0) before.joined);
+          (subst (λ (s : ℕ). Fits s (length held) (length (dirent e))) (ap (λ (l : ListingSeen). l.size) before.same) adds.0) before.joined);
       short = subst (λ (bytes : List ℕ). length bytes + length (listing (drop (at + 1) members)) ≤ 136) grown
           (short-next at held e c.member-kind.ensures before.short);
     }
