@@ -13,10 +13,10 @@ use Rattle.fuse_wire.specs.ErrorNumbers.{EACCES}
 use Rattle.fuse_dispatch.specs.Owed.{Answers}
 use Rattle.fuse_dispatch.specs.Promise.{MayAnswer}
 use Rattle.fuse_dispatch.proofs.Answering.{Answered-error}
-use Rattle.uses.specs.KeeperOnly.{MayHave}
+use Rattle.uses.specs.KeeperOnly.{IsDeniedOr}
 
 pub denied : {F : Type 0} {may_answer : MayAnswer F} {fs : F} {request : Request} {c : Call} {id : ℕ} {door : Result DoorSeen NoDoor} {out : Out}
-    (kept : Bool) (below : Type 0) → kept ≡ true → (MayHave kept below (Error EACCES) → may_answer fs request c (Error EACCES))
+    (kept : Bool) (below : Type 0) → kept ≡ true → (IsDeniedOr kept below (Error EACCES) → may_answer fs request c (Error EACCES))
     → IsAnswer (Error EACCES) → out ≡ Frame (reply id (Error EACCES)) → Answers may_answer fs request c id door out
 denied kept below is allows whole frame =
-    Answered-error EACCES whole.0 whole.1 (allows (subst (λ (k : Bool). MayHave k below (Error EACCES)) (sym is) refl)) frame
+    Answered-error EACCES whole.0 whole.1 (allows (subst (λ (k : Bool). IsDeniedOr k below (Error EACCES)) (sym is) refl)) frame

@@ -21,16 +21,16 @@ abbrev pub is_denied : (keeper : ℕ) → Request → Call → Bool
 is_denied keeper request c = is_kept c && not (uid_of request == keeper)
 
 -- what is denied is EACCES, and all else has an answer of the filesystem below
-abbrev pub MayHave : (denied : Bool) → (below : Type 0) → Answer → Type 0
-MayHave true below a = a ≡ Error EACCES
-MayHave false below a = below
+abbrev pub IsDeniedOr : (denied : Bool) → (below : Type 0) → Answer → Type 0
+IsDeniedOr true below a = a ≡ Error EACCES
+IsDeniedOr false below a = below
 
 -- the promise of the filesystem below, but for what is denied
 abbrev pub promise : {F B : Type 0} → (keeper : F → ℕ) → (below : F → B) → Promise B → Promise F
 promise keeper below inner = record {
   may_init = λ old request before result new after.
       (keeper new ≡ keeper old) × inner.may_init (below old) request before result (below new) after;
-  may_answer = λ fs request call a. MayHave (is_denied (keeper fs) request call) (inner.may_answer (below fs) request call a) a;
+  may_answer = λ fs request call a. IsDeniedOr (is_denied (keeper fs) request call) (inner.may_answer (below fs) request call a) a;
   may_note = λ fs request call mark. inner.may_note (below fs) request call mark;
   may_destroy = λ old new. (keeper new ≡ keeper old) × inner.may_destroy (below old) (below new);
   defers = inner.defers;

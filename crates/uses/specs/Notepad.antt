@@ -4,7 +4,8 @@ use Rattle.std.specs.Prelude.{codes, drop, if◌then◌else◌, length, max, min
 use Rattle.std.specs.Str.{bytes_eq}
 use Rattle.uses.specs.declared.notepad_nodes.Node.{Node}
 use Rattle.uses.specs.declared.notepad_nodes.Node.TheVariants.{File, Root, Absent}
-use Rattle.fuse_wire.specs.ErrorNumbers.{ENOENT, EPERM}
+use Rattle.fuse_wire.specs.ErrorNumbers.{EISDIR, ENOENT, ENOSPC, EPERM}
+use Rattle.fuse_wire.specs.FileAttr.{root_attr}
 use Rattle.fuse_wire.specs.Times.{nanos_per_second}
 use Rattle.fuse_wire.specs.declared.file_attr.FileAttr.{FileAttr}
 use Rattle.fuse_wire.specs.declared.file_attr.FileType.TheVariants.{Directory, RegularFile}
@@ -14,16 +15,8 @@ use Rattle.fuse_reply.specs.Answer.{Answer}
 use Rattle.fuse_reply.specs.Answer.Answer.{Error, Data, Entry, Attr, Open as Opened, Write as Written}
 use Rattle.fuse_dispatch.specs.Defaults.{default_answer, default_mark}
 use Rattle.fuse_dispatch.specs.Promise.{Promise}
-use Rattle.fuse_read_only.specs.Tree.{Member, Tree, root_attr}
+use Rattle.fuse_read_only.specs.Tree.{Member, Tree}
 use Rattle.fuse_read_only.specs.ReadOnly.{MayHave as MayRead}
-
--- the node is a directory (`asm-generic/errno-base.h`)
-abbrev pub EISDIR : ℕ
-EISDIR = 21
-
--- there is no room for what is written
-abbrev pub ENOSPC : ℕ
-ENOSPC = 28
 
 -- how many bytes the file may have
 abbrev pub capacity : ℕ
@@ -46,8 +39,8 @@ members =
     ∷ []
 
 -- the tree of which READDIR is answered: the directory alone
-abbrev pub listed : Tree
-listed = record {
+abbrev pub listed_tree : Tree
+listed_tree = record {
   attributes = λ ino. if ino == 1 then Some directory else None;
   names = λ parent name. None;
   contents = λ ino. None;
@@ -85,9 +78,10 @@ resized size bytes = take size bytes ++ replicate (size - length bytes) 0
 abbrev pub placed : (offset : ℕ) → (written bytes : List ℕ) → List ℕ
 placed offset written bytes = take offset bytes ++ (written ++ drop (offset + length written) bytes)
 
--- these written from the offset on: the bytes grow, by zero bytes, to where they end
+-- these written from the offset on: the bytes grow, by zero bytes, to where they end; where nothing is written they stay (write(2))
 abbrev pub written_at : (offset : ℕ) → (written bytes : List ℕ) → List ℕ
-written_at offset written bytes = placed offset written (resized (max (length bytes) (offset + length written)) bytes)
+written_at offset [] bytes = bytes
+written_at offset (byte ∷ more) bytes = placed offset (byte ∷ more) (resized (max (length bytes) (offset + length (byte ∷ more))) bytes)
 
 -- what comes of SETATTR: the attributes, with the size that was given, or no room for it
 abbrev pub IsSet : (size : Option ℕ) → Option FileAttr → Type 0
@@ -125,7 +119,7 @@ MayHave (Read ino fh offset size flags lock_owner) a =
     ByNode (node_of ino) ((bytes : List ℕ) × (length bytes ≤ min size capacity) × (a ≡ Data bytes)) (a ≡ Error EISDIR) a
 MayHave (Write ino fh offset written write_flags flags lock_owner) a =
     ByNode (node_of ino) ((found : Option ℕ) × Wrote offset (length written) found × (a ≡ wrote found)) (a ≡ Error EISDIR) a
-MayHave (ReadDir ino fh offset size) a = MayRead listed (ReadDir ino fh offset size) a
+MayHave (ReadDir ino fh offset size) a = MayRead listed_tree (ReadDir ino fh offset size) a
 MayHave c a = default_answer c ≡ a
 
 -- every kernel is accepted, and nothing that a promise sees ever changes

@@ -1,10 +1,11 @@
 -- A directory with one file in it.
 use Rattle.std.specs.Prelude.{◌==◌, ◌&&◌, ℕ, List, [], ◌∷◌, Option, None, Some, codes, if◌then◌else◌}
 use Rattle.std.specs.Str.{bytes_eq}
+use Rattle.fuse_wire.specs.FileAttr.{root_attr}
 use Rattle.fuse_wire.specs.Times.{nanos_per_second}
 use Rattle.fuse_wire.specs.declared.file_attr.FileAttr.{FileAttr}
 use Rattle.fuse_wire.specs.declared.file_attr.FileType.TheVariants.{Directory, RegularFile}
-use Rattle.fuse_read_only.specs.Tree.{Member, Tree, root_attr}
+use Rattle.fuse_read_only.specs.Tree.{Member, Tree}
 
 -- the directory 1 of mode 0o755, and the file 2 of mode 0o444
 abbrev pub attributes : (ino : ℕ) → Option FileAttr

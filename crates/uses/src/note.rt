@@ -3,8 +3,7 @@ ghost use Rattle.std.specs.Prelude.{◌≡◌, ◌≤◌, ◌<◌, ◌+◌, [], 
 ghost use Rattle.std.specs.Vec.{vec_capacity};
 ghost use Rattle.uses.specs.Notepad.{capacity, note, resized, written_at};
 
-use fuse_read_only::root_attr;
-use fuse_wire::{FileAttr, FileType, INodeNo, NoMemory};
+use fuse_wire::{FileAttr, FileType, INodeNo, NoMemory, root_attr};
 use std::alloc::Global;
 
 /// How many bytes the file may have.
@@ -12,19 +11,19 @@ const CAPACITY: usize = 4096;
 
 /// The contents of the file, at most `CAPACITY` bytes, for which there is room from the start.
 #[derive(Drop)]
-pub(crate) struct Note {
+pub(crate) struct NoteContents {
     bytes: Vec<u8>,
     ghost short: { length bytes.items ≤ capacity },
     ghost room: { capacity ≤ vec_capacity bytes },
 }
 
-impl Note {
+impl NoteContents {
     /// No bytes. `NoMemory` where there is none for the room.
-    pub(crate) fn new(alloc: Global) -> Result<Note, NoMemory>
+    pub(crate) fn new(alloc: Global) -> Result<NoteContents, NoMemory>
         ensures { IfOk result (λ note. note.bytes.items ≡ []) }
     {
         let bytes = Vec::with_capacity(alloc, CAPACITY)?;
-        Ok(Note { bytes })
+        Ok(NoteContents { bytes })
     }
 
     /// The attributes of the file as it is.
@@ -64,7 +63,7 @@ impl Note {
         true
     }
 
-    /// Writes these from the offset on. False says that there is no room, and nothing changed.
+    /// Writes these from the offset on; no bytes change nothing. False says that there is no room, and nothing changed.
     pub(crate) fn write(&mut self, offset: u64, written: &[u8]) -> bool
         ensures written { IsTrue result → self.new.bytes.items ≡ written_at offset written.now self.old.bytes.items }
         ensures fits { IsTrue result → offset + length written.now ≤ capacity }
@@ -73,6 +72,9 @@ impl Note {
     {
         if offset > CAPACITY as u64 || written.len() > CAPACITY - offset as usize {
             return false;
+        }
+        if written.is_empty() {
+            return true;
         }
         let start = offset as usize;
         let end = start + written.len();

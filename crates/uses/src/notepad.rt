@@ -2,7 +2,7 @@
 ghost use Rattle.std.specs.Prelude.{◌≡◌, false, length, refl};
 ghost use Rattle.uses.specs.Notepad.{IsNote, IsSet, Wrote, promise};
 
-use crate::note::Note;
+use crate::note::NoteContents;
 use crate::notepad_listing::Listed;
 use crate::notepad_nodes::{Node, directory, is_note, node_of, ttl};
 use fuse_config::KernelConfig;
@@ -27,8 +27,8 @@ use std::sync::{Mutex, Wait};
 /// behind a lock.
 ///
 /// - No promise sees what is behind a lock. So the promise says which answers each call may have, by the kind of its
-///   node, and what becomes of the bytes is said by the clauses of `Note`. That each call of the filesystem comes to
-///   the right one of these is seen by tests alone.
+///   node, and what becomes of the bytes is said by the clauses of `NoteContents`. That each call of the filesystem
+///   comes to the right one of these is seen by tests alone.
 /// - What locks takes no reply: `attr`, `put` and `set` give what the answer is made of, each with one relation, which
 ///   the promise says too.
 /// - The memory for all that the file may hold is taken at the start, so that none is wanting while it is served.
@@ -37,7 +37,7 @@ use std::sync::{Mutex, Wait};
 #[derive(Drop)]
 pub struct Notepad<R> {
     rt: R,
-    note: Mutex<Note>,
+    note: Mutex<NoteContents>,
     listed: ReadOnly<Listed>,
 }
 
@@ -47,7 +47,7 @@ impl<R: Wait> Notepad<R> {
     where
         R: Drop,
     {
-        let note = Note::new(alloc)?;
+        let note = NoteContents::new(alloc)?;
         Ok(Notepad {
             rt,
             note: Mutex::new(note),

@@ -1,5 +1,5 @@
 // The directory of the notepad, as it is listed.
-ghost use Rattle.uses.specs.Notepad.{listed};
+ghost use Rattle.uses.specs.Notepad.{listed_tree};
 
 use crate::notepad_nodes::{directory, ttl};
 use fuse_read_only::{Entry, Files};
@@ -10,7 +10,7 @@ use fuse_wire::{Duration, FileAttr, FileType, INodeNo};
 pub(crate) struct Listed;
 
 impl Files for Listed {
-    ghost tree = { λ files. listed };
+    ghost tree = { λ files. listed_tree };
 
     fn attr(&self, ino: INodeNo) -> Option<FileAttr> {
         match ino.0 {

@@ -3,8 +3,7 @@ ghost use Rattle.std.specs.Prelude.{◌≡◌};
 ghost use Rattle.fuse_wire.specs.Times.{nanos_per_second};
 ghost use Rattle.uses.specs.Notepad.{directory, is_note, node_of};
 
-use fuse_read_only::root_attr;
-use fuse_wire::{Duration, FileAttr, FileType, INodeNo};
+use fuse_wire::{Duration, FileAttr, FileType, INodeNo, root_attr};
 
 /// What a number of a node means.
 #[derive(Clone, Copy)]

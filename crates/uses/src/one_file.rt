@@ -1,8 +1,8 @@
 // A tree of files: a directory with one file in it.
 ghost use Rattle.uses.specs.OneFile.{one_file};
 
-use fuse_read_only::{Entry, Files, root_attr};
-use fuse_wire::{Duration, FileAttr, FileType, INodeNo};
+use fuse_read_only::{Entry, Files};
+use fuse_wire::{Duration, FileAttr, FileType, INodeNo, root_attr};
 
 /// What the file holds.
 const CONTENTS: &[u8; 19] = b"Remember the milk.\n";

@@ -2,7 +2,8 @@ use Rattle.std.proofs.Common.{◌∙◌, ap, sym, refl}
 use Rattle.fuse_wire.specs.ErrorNumbers.{ENOENT}
 use Rattle.fuse_reply.specs.Answer.Answer.{Write as Written}
 use Rattle.fuse_dispatch.proofs.Answering.{Answered-error, Answered-frame}
-use Rattle.uses.specs.Notepad.{EISDIR, ENOSPC, wrote}
+use Rattle.fuse_wire.specs.ErrorNumbers.{EISDIR, ENOSPC}
+use Rattle.uses.specs.Notepad.{wrote}
 use Rattle.uses.proofs.Nodes.{by-node}
 use Rattle.uses.proofs.notepad.NotepadFilesystem.write.Goals as goal
 
@@ -14,12 +15,16 @@ returns-in-Some g c =
 
 pub returns-in-None : goal.returns-in-None
 returns-in-None g c =
-    Answered-error ENOSPC c.error.ensures.answer.0 c.error.ensures.answer.1 (by-node _ _ _ c.args.ino.0 (sym c.node_of.ensures ∙ c.in-File.is) (c.put.result, c.put.ensures, ap wrote (sym c.in-None.is))) c.error.ensures.reply
+    Answered-error ENOSPC c.error.ensures.answer.0 c.error.ensures.answer.1
+    (by-node _ _ _ c.args.ino.0 (sym c.node_of.ensures ∙ c.in-File.is) (c.put.result, c.put.ensures, ap wrote (sym c.in-None.is)))
+    c.error.ensures.reply
 
 pub returns-in-Root : goal.returns-in-Root
 returns-in-Root g c =
-    Answered-error EISDIR c.error-in-Root.ensures.answer.0 c.error-in-Root.ensures.answer.1 (by-node _ _ _ c.args.ino.0 (sym c.node_of.ensures ∙ c.in-Root.is) refl) c.error-in-Root.ensures.reply
+    Answered-error EISDIR c.error-in-Root.ensures.answer.0 c.error-in-Root.ensures.answer.1
+    (by-node _ _ _ c.args.ino.0 (sym c.node_of.ensures ∙ c.in-Root.is) refl) c.error-in-Root.ensures.reply
 
 pub returns-in-Absent : goal.returns-in-Absent
 returns-in-Absent g c =
-    Answered-error ENOENT c.error-in-Absent.ensures.answer.0 c.error-in-Absent.ensures.answer.1 (by-node _ _ _ c.args.ino.0 (sym c.node_of.ensures ∙ c.in-Absent.is) refl) c.error-in-Absent.ensures.reply
+    Answered-error ENOENT c.error-in-Absent.ensures.answer.0 c.error-in-Absent.ensures.answer.1
+    (by-node _ _ _ c.args.ino.0 (sym c.node_of.ensures ∙ c.in-Absent.is) refl) c.error-in-Absent.ensures.reply
