@@ -18,13 +18,13 @@ use std::collections::HashMap;
 pub type Key = (u64, u64);
 
 /// What waits, by what it waits for.
-type Waiting<F> = HashMap<Key, Unmatched<F>>;
+type WaitingByKey<F> = HashMap<Key, Unmatched<F>>;
 
 /// Keeps a mark for each reply that comes later, and each late frame that comes before its mark. Each mark lets one
 /// late frame of its number and id go, the first that came.
 #[derive(Drop)]
 pub struct Book<F: Drop> {
-    waiting: Waiting<F>,
+    waiting: WaitingByKey<F>,
     alloc: Global,
     unrecorded: u64,
 }
@@ -102,7 +102,7 @@ impl<F: Drop> Book<F> {
 }
 
 /// Puts it under the tag, and gives how many marks or frames found no memory.
-fn keep<F: Drop>(waiting: &mut Waiting<F>, tag: Key, left: Option<Unmatched<F>>) -> u64
+fn keep<F: Drop>(waiting: &mut WaitingByKey<F>, tag: Key, left: Option<Unmatched<F>>) -> u64
     requires { get same waiting.old tag ≡ None }
     ensures backed { (k : Tag) → marks_waiting (get same waiting.new k) ≤
         marks_waiting (update same (get same waiting.old) tag left k) }

@@ -6,7 +6,7 @@ use Rattle.fuse_config.specs.declared.mount_option.MountOption.{MountOption}
 use Rattle.fuse_config.specs.declared.mount_option.MountOption.TheVariants.{FSName, Subtype, CUSTOM, AutoUnmount, DefaultPermissions}
 use Rattle.fuse_config.specs.declared.mount_option.MountOption.TheVariants.{Dev, NoDev, Suid, NoSuid, RO, RW, Exec, NoExec, Atime, NoAtime}
 use Rattle.fuse_config.specs.declared.mount_option.MountOption.TheVariants.{DirSync, Sync, Async}
-use Rattle.fuse_config.specs.Options.{after_front, fsname_front, is_read_back, named, option_of, plain_options, subtype_front, text_of}
+use Rattle.fuse_config.specs.Options.{after_front, fsname_front, is_read_back, option_named, option_of, plain_options, subtype_front, text_of}
 
 -- no option of a list is CUSTOM
 abbrev NoneCustom : List MountOption → Type 0
@@ -52,10 +52,10 @@ named_once : (option : MountOption) (others : Option MountOption) (text : List �
 named_once option others text this rest true e = let same : option ≡ CUSTOM text = cc e in this same
 named_once option others text this rest false e = rest e
 
-named-plain : (options : List MountOption) → NoneCustom options → (text : List ℕ) → named text options ≢ Some (CUSTOM text)
-named-plain [] none text = λ e. cc e
-named-plain (option ∷ options) none text =
-    named_once option (named text options) text (none.0 text) (named-plain options none.1 text) (bytes_eq text (text_of option))
+option_named-plain : (options : List MountOption) → NoneCustom options → (text : List ℕ) → option_named text options ≢ Some (CUSTOM text)
+option_named-plain [] none text = λ e. cc e
+option_named-plain (option ∷ options) none text =
+    named_once option (option_named text options) text (none.0 text) (option_named-plain options none.1 text) (bytes_eq text (text_of option))
 
 -- the choice is CUSTOM exactly where nothing else is there
 chosen : (plain : Option MountOption) (source subtype : Option (List ℕ)) (text : List ℕ) → plain ≢ Some (CUSTOM text) →
@@ -71,7 +71,8 @@ pub read_back : (option : MountOption) → IsTrue (is_read_back option) ↔ (opt
 read_back (FSName name) = (λ t. refl, λ e. refl)
 read_back (Subtype name) = (λ t. refl, λ e. refl)
 read_back (CUSTOM text) =
-    chosen (named text plain_options) (after_front fsname_front text) (after_front subtype_front text) text (named-plain plain_options none_custom text)
+    chosen (option_named text plain_options) (after_front fsname_front text) (after_front subtype_front text) text
+    (option_named-plain plain_options none_custom text)
 read_back AutoUnmount = (λ t. refl, λ e. refl)
 read_back DefaultPermissions = (λ t. refl, λ e. refl)
 read_back Dev = (λ t. refl, λ e. refl)

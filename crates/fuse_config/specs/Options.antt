@@ -42,9 +42,9 @@ plain_options = AutoUnmount ∷ DefaultPermissions ∷ Dev ∷ NoDev ∷ Suid �
     ∷ DirSync ∷ Sync ∷ Async ∷ []
 
 -- the first of these options that has this text
-abbrev pub named : List ℕ → List MountOption → Option MountOption
-named text [] = None
-named text (option ∷ options) = if bytes_eq text (text_of option) then Some option else named text options
+abbrev pub option_named : List ℕ → List MountOption → Option MountOption
+option_named text [] = None
+option_named text (option ∷ options) = if bytes_eq text (text_of option) then Some option else option_named text options
 
 -- what comes after this front, where a text begins with it
 abbrev pub after_front : (front text : List ℕ) → Option (List ℕ)
@@ -54,13 +54,13 @@ after_front (x ∷ front) (y ∷ text) = if y == x then after_front front text e
 
 -- the option that a text names: one without a text, the name of a source, the name of a subtype, or one of no other name
 abbrev pub option_of : List ℕ → MountOption
-option_of text = unwrap_or (named text plain_options)
+option_of text = unwrap_or (option_named text plain_options)
     (unwrap_or (option_map FSName (after_front fsname_front text))
     (unwrap_or (option_map Subtype (after_front subtype_front text)) (CUSTOM text)))
 
 -- a text that names an option which is not CUSTOM
 abbrev pub names_another : List ℕ → Bool
-names_another text = is_some (named text plain_options) || is_some (after_front fsname_front text)
+names_another text = is_some (option_named text plain_options) || is_some (after_front fsname_front text)
     || is_some (after_front subtype_front text)
 
 -- an option that its own text names: each but a CUSTOM whose text names another

@@ -3,7 +3,7 @@ ghost use Rattle.std.specs.Prelude.{◌≡◌, ◌++◌, IfOk, drop};
 ghost use Rattle.std.specs.Result.{result_ok};
 ghost use Rattle.std.specs.Option.{option_copied};
 ghost use Rattle.std.specs.String.{string_bytes};
-ghost use Rattle.fuse_config.specs.Options.{after_front, conflict_of, flag_of, group_of, named, option_of};
+ghost use Rattle.fuse_config.specs.Options.{after_front, conflict_of, flag_of, group_of, option_named, option_of};
 ghost use Rattle.fuse_config.specs.Options.{plain_options, text_of};
 
 use crate::OptionText;
@@ -94,7 +94,7 @@ fn after<'a>(text: &'a str, front: &str) -> Option<&'a str>
 
 /// The option without a text of its own that has this name.
 fn plain_option(text: &str) -> Option<MountOption>
-    ensures { result ≡ named text.now plain_options }
+    ensures { result ≡ option_named text.now plain_options }
 {
     if text == "auto_unmount" {
         Some(MountOption::AutoUnmount)
@@ -115,7 +115,7 @@ fn plain_option(text: &str) -> Option<MountOption>
 
 /// The same of the options after these six, which say what is done with files.
 fn option_of_use(text: &str) -> Option<MountOption>
-    ensures { result ≡ named text.now (drop 6 plain_options) }
+    ensures { result ≡ option_named text.now (drop 6 plain_options) }
 {
     if text == "ro" {
         Some(MountOption::RO)
@@ -132,7 +132,7 @@ fn option_of_use(text: &str) -> Option<MountOption>
 
 /// The same of the options after those, which say what is written and when.
 fn option_of_writing(text: &str) -> Option<MountOption>
-    ensures { result ≡ named text.now (drop 10 plain_options) }
+    ensures { result ≡ option_named text.now (drop 10 plain_options) }
 {
     if text == "atime" {
         Some(MountOption::Atime)

@@ -15,7 +15,7 @@ use Rattle.fuse_reply.specs.declared.parcel.Parcel.TheVariants.{Prompt, Notice, 
 use Rattle.fuse_core.specs.Marks.{is_unused, late_tag}
 use Rattle.fuse_core.specs.declared.event.Event.{Event}
 use Rattle.fuse_core.specs.declared.event.Event.TheVariants.{Receive, Take, Answer, Defer, Push, Send, Own, Late, Notify}
-use Rattle.fuse_core.specs.declared.state.Hand.TheVariants.{Empty, Asked, Answered}
+use Rattle.fuse_core.specs.declared.state.WorkerHand.TheVariants.{Empty, Asked, Answered}
 use Rattle.fuse_core.specs.declared.state.Job.{Job}
 use Rattle.fuse_core.specs.declared.state.Mark.{Mark}
 use Rattle.fuse_core.specs.declared.state.SentOut.{SentOut}

@@ -8,7 +8,7 @@ use Rattle.fuse_reply.specs.declared.out.Out.TheVariants.{Deferred}
 use Rattle.fuse_reply.specs.declared.parcel.Parcel.TheVariants.{Prompt}
 use Rattle.fuse_core.specs.declared.event.Event.{Event}
 use Rattle.fuse_core.specs.declared.event.Event.TheVariants.{Receive, Take, Answer, Defer, Push, Send, Own, Late, Notify}
-use Rattle.fuse_core.specs.declared.state.Hand.TheVariants.{Empty, Asked, Answered}
+use Rattle.fuse_core.specs.declared.state.WorkerHand.TheVariants.{Empty, Asked, Answered}
 use Rattle.fuse_core.specs.declared.state.Job.{Job}
 use Rattle.fuse_core.specs.declared.state.State.{State}
 use Rattle.fuse_core.specs.Step.{HandAnswers, Happens, MayHappen, Runs, with_hand, went}

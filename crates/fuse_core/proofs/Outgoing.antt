@@ -12,8 +12,8 @@ use Rattle.fuse_reply.specs.declared.parcel.Parcel.TheVariants.{Prompt, Notice, 
 use Rattle.fuse_core.specs.Marks.{is_unused, late_tag}
 use Rattle.fuse_core.specs.declared.event.Event.{Event}
 use Rattle.fuse_core.specs.declared.event.Event.TheVariants.{Receive, Take, Answer, Defer, Push, Send, Own, Late, Notify}
-use Rattle.fuse_core.specs.declared.state.Hand.{Hand}
-use Rattle.fuse_core.specs.declared.state.Hand.TheVariants.{Empty, Asked, Answered}
+use Rattle.fuse_core.specs.declared.state.WorkerHand.{WorkerHand}
+use Rattle.fuse_core.specs.declared.state.WorkerHand.TheVariants.{Empty, Asked, Answered}
 use Rattle.fuse_core.specs.declared.state.Job.{Job}
 use Rattle.fuse_core.specs.declared.state.Mark.{Mark}
 use Rattle.fuse_core.specs.declared.state.SentOut.{SentOut}
@@ -21,7 +21,7 @@ use Rattle.fuse_core.specs.declared.state.State.{State}
 use Rattle.fuse_core.specs.Step.{HandAnswers, Happens, Runs, empty, job, with_hand, went}
 use Rattle.fuse_core.specs.Balanced.{Balanced, ParcelKeepsNumber}
 use Rattle.fuse_core.specs.OneEach.{Owing}
-use Rattle.fuse_core.specs.Owing.{OwedAt, OwedInHand, EachOwed, IsOwed, OwedApart, SendsOwed}
+use Rattle.fuse_core.specs.Owing.{OwedAt, OwedInHand, EachOwed, OwedToNumber, OwedApart, SendsOwed}
 use Rattle.fuse_core.proofs.Balancing.{Balanced-apart, Happens-balanced, all_at, empty-balanced, first_keeps}
 
 -- a message stays where it was received, whatever comes after it
@@ -44,21 +44,21 @@ IsJob messages j = slice_get messages j.seq ≡ Some j.message
 
 module _ (owed : Owing) where
   -- what a hand or a parcel holds for a message is owed to it
-  abbrev HandOwed : (messages : List (List ℕ)) → Hand → Type 0
+  abbrev HandOwed : (messages : List (List ℕ)) → WorkerHand → Type 0
   HandOwed messages Empty = Unit {0}
   HandOwed messages (Asked j) = IsJob messages j
-  HandOwed messages (Answered seq out) = IsOwed owed messages seq out
+  HandOwed messages (Answered seq out) = OwedToNumber owed messages seq out
 
   abbrev ParcelOwed : (messages : List (List ℕ)) → Parcel → Type 0
-  ParcelOwed messages (Prompt seq out) = IsOwed owed messages seq out
+  ParcelOwed messages (Prompt seq out) = OwedToNumber owed messages seq out
   ParcelOwed messages (Later late) = Unit {0}
   ParcelOwed messages (Notice f) = Unit {0}
 
   abbrev SentOwed : (messages : List (List ℕ)) → SentOut → Type 0
-  SentOwed messages o = IsOwed owed messages o.seq o.out
+  SentOwed messages o = OwedToNumber owed messages o.seq o.out
 
   abbrev MarkOwed : (messages : List (List ℕ)) → Mark → Type 0
-  MarkOwed messages mark = IsOwed owed messages mark.seq (Deferred mark.seq mark.id)
+  MarkOwed messages mark = OwedToNumber owed messages mark.seq (Deferred mark.seq mark.id)
 
   record Faithful (s : State) : Type 0 where
     jobs_are : All (IsJob s.received) s.jobs
@@ -68,10 +68,10 @@ module _ (owed : Owing) where
     marks_owed : All (MarkOwed s.received) s.marks
 
   owed_grown : (messages : List (List ℕ)) (m : List ℕ) (seq : ℕ) (out : Out)
-      → IsOwed owed messages seq out → IsOwed owed (messages ++ m ∷ []) seq out
+      → OwedToNumber owed messages seq out → OwedToNumber owed (messages ++ m ∷ []) seq out
   owed_grown messages m seq out h = (h.0, get_grown messages (m ∷ []) seq h.0 h.1, h.2)
 
-  hand_grown : (messages : List (List ℕ)) (m : List ℕ) (hand : Hand) → HandOwed messages hand → HandOwed (messages ++ m ∷ []) hand
+  hand_grown : (messages : List (List ℕ)) (m : List ℕ) (hand : WorkerHand) → HandOwed messages hand → HandOwed (messages ++ m ∷ []) hand
   hand_grown messages m Empty h = tt
   hand_grown messages m (Asked j) h = get_grown messages (m ∷ []) j.seq j.message h
   hand_grown messages m (Answered seq out) h = owed_grown messages m seq out h
@@ -169,7 +169,7 @@ module _ (owed : Owing) where
     line_owed = f.line_owed;
     sent_owed = f.sent_owed;
     marks_owed = All-push (MarkOwed s.received) s.marks (record { seq = number; id = id }) f.marks_owed
-        (subst (λ n. IsOwed owed s.received n (Deferred number id)) (sym keeps) is_owed);
+        (subst (λ n. OwedToNumber owed s.received n (Deferred number id)) (sym keeps) is_owed);
   }
   faithful_went s (Prompt seq (Frame frame)) is_owed keeps f = record {
     jobs_are = f.jobs_are;

@@ -7,8 +7,8 @@ use Rattle.fuse_reply.specs.declared.parcel.Parcel.{Parcel}
 use Rattle.fuse_reply.specs.declared.parcel.Parcel.TheVariants.{Prompt, Notice, Late}
 use Rattle.fuse_core.specs.Marks.{late_tag, tag_of}
 use Rattle.fuse_book.specs.Matched.{Matched}
-use Rattle.fuse_core.specs.declared.state.Hand.{Hand}
-use Rattle.fuse_core.specs.declared.state.Hand.TheVariants.{Empty, Asked, Answered}
+use Rattle.fuse_core.specs.declared.state.WorkerHand.{WorkerHand}
+use Rattle.fuse_core.specs.declared.state.WorkerHand.TheVariants.{Empty, Asked, Answered}
 use Rattle.fuse_core.specs.declared.state.State.{State}
 
 -- once where the number is that one, and else not at all
@@ -16,7 +16,7 @@ abbrev pub once_if : (number seq : ℕ) → ℕ
 once_if number seq = if number == seq then 1 else 0
 
 -- how often a number stands in a hand
-abbrev pub in_hand : (number : ℕ) → Hand → ℕ
+abbrev pub in_hand : (number : ℕ) → WorkerHand → ℕ
 in_hand number Empty = 0
 in_hand number (Asked job) = once_if number job.seq
 in_hand number (Answered seq out) = once_if number seq
@@ -42,7 +42,7 @@ KeepsNumber seq (Deferred number id) = number ≡ seq
 KeepsNumber seq (Frame f) = Unit {0}
 KeepsNumber seq (Note id mark) = Unit {0}
 
-abbrev pub HandKeepsNumber : Hand → Type 0
+abbrev pub HandKeepsNumber : WorkerHand → Type 0
 HandKeepsNumber Empty = Unit {0}
 HandKeepsNumber (Asked job) = Unit {0}
 HandKeepsNumber (Answered seq out) = KeepsNumber seq out

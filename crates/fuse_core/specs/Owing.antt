@@ -5,7 +5,7 @@ use Rattle.fuse_reply.specs.declared.out.Out.{Out}
 use Rattle.fuse_reply.specs.declared.out.Out.TheVariants.{Deferred}
 use Rattle.fuse_core.specs.declared.event.Event.{Event}
 use Rattle.fuse_core.specs.declared.event.Event.TheVariants.{Receive, Take, Answer, Defer, Push, Send, Own, Late, Notify}
-use Rattle.fuse_core.specs.declared.state.Hand.TheVariants.{Asked}
+use Rattle.fuse_core.specs.declared.state.WorkerHand.TheVariants.{Asked}
 use Rattle.fuse_core.specs.declared.state.Job.{Job}
 use Rattle.fuse_core.specs.declared.state.State.{State}
 use Rattle.fuse_core.specs.Balanced.{settled}
@@ -38,13 +38,13 @@ EachOwed owed s [] = Unit {0}
 EachOwed owed s (event ∷ events) = OwedAt owed s event × ((next : State) → Happens s event next → EachOwed owed next events)
 
 -- it is owed to the message of that number
-abbrev pub IsOwed : Owing → (messages : List (List ℕ)) → (seq : ℕ) → Out → Type 0
-IsOwed owed messages seq out = (m : List ℕ) × (slice_get messages seq ≡ Some m) × owed seq m out
+abbrev pub OwedToNumber : Owing → (messages : List (List ℕ)) → (seq : ℕ) → Out → Type 0
+OwedToNumber owed messages seq out = (m : List ℕ) × (slice_get messages seq ≡ Some m) × owed seq m out
 
 -- What was sent and what comes later are owed to the messages of their numbers, and no number stands there twice.
 pub record OwedApart (owed : Owing) (s : State) : Type 0 where
-  pub sent : All (λ o. IsOwed owed s.received o.seq o.out) s.sent
-  pub marks : All (λ mark. IsOwed owed s.received mark.seq (Deferred mark.seq mark.id)) s.marks
+  pub sent : All (λ o. OwedToNumber owed s.received o.seq o.out) s.sent
+  pub marks : All (λ mark. OwedToNumber owed s.received mark.seq (Deferred mark.seq mark.id)) s.marks
   pub apart : (number : ℕ) → settled number s ≤ 1
 
 -- From the empty state, events whose answers are owed lead only to states in which what was sent is owed to different messages. The

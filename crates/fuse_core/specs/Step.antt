@@ -13,8 +13,8 @@ use Rattle.fuse_core.specs.Marks.{is_unused, late_tag, let_go, still_held, tag_o
 use Rattle.fuse_core.specs.declared.event.Event.{Event}
 use Rattle.fuse_core.specs.declared.event.Event.TheVariants.{Receive, Take, Answer, Defer, Push, Send, Own, Late, Notify}
 use Rattle.fuse_core.specs.declared.state.TheConstants.{LINE_PLACES}
-use Rattle.fuse_core.specs.declared.state.Hand.{Hand}
-use Rattle.fuse_core.specs.declared.state.Hand.TheVariants.{Empty, Asked, Answered}
+use Rattle.fuse_core.specs.declared.state.WorkerHand.{WorkerHand}
+use Rattle.fuse_core.specs.declared.state.WorkerHand.TheVariants.{Empty, Asked, Answered}
 use Rattle.fuse_core.specs.declared.state.Job.{Job}
 use Rattle.fuse_core.specs.declared.state.Mark.{Mark}
 use Rattle.fuse_core.specs.declared.state.State.{State}
@@ -39,7 +39,7 @@ abbrev pub job : (seq : ℕ) → (m : List ℕ) → Job
 job seq m = record { seq = seq; message = m }
 
 -- the state with another thing in a worker's hand
-abbrev pub with_hand : State → (worker : ℕ) → Hand → State
+abbrev pub with_hand : State → (worker : ℕ) → WorkerHand → State
 with_hand s worker hand = record s { hands = slice_set s.hands worker hand }
 
 -- the state after a mark came, which lets the first held frame go that goes to it

@@ -1,7 +1,7 @@
 // Copies, for which memory may be wanting.
 ghost use Rattle.std.specs.Prelude.{◌≡◌, IfOk};
 
-use crate::{Hand, Job, Mark, SentOut, State};
+use crate::{Job, Mark, SentOut, State, WorkerHand};
 use fuse_reply::{LateFrame, Out, Parcel};
 use fuse_wire::{Items, NoMemory};
 use std::alloc::Global;
@@ -46,12 +46,12 @@ impl Copied for Parcel {
     }
 }
 
-impl Copied for Hand {
-    fn copied(&self, alloc: Global) -> Result<Hand, NoMemory> {
+impl Copied for WorkerHand {
+    fn copied(&self, alloc: Global) -> Result<WorkerHand, NoMemory> {
         match self {
-            Hand::Empty => Ok(Hand::Empty),
-            Hand::Asked(job) => Ok(Hand::Asked(job.copied(alloc)?)),
-            Hand::Answered(seq, out) => Ok(Hand::Answered(*seq, out.copied(alloc)?)),
+            WorkerHand::Empty => Ok(WorkerHand::Empty),
+            WorkerHand::Asked(job) => Ok(WorkerHand::Asked(job.copied(alloc)?)),
+            WorkerHand::Answered(seq, out) => Ok(WorkerHand::Answered(*seq, out.copied(alloc)?)),
         }
     }
 }

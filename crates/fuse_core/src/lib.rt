@@ -12,5 +12,5 @@ mod state;
 mod stepping;
 
 pub use event::Event;
-pub use state::{Hand, Job, LINE_PLACES, Mark, SentOut, State};
+pub use state::{Job, LINE_PLACES, Mark, SentOut, State, WorkerHand};
 pub use stepping::{run, step};

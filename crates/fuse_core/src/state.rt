@@ -21,7 +21,7 @@ pub struct Job {
 
 /// What a worker has in hand.
 #[derive(Drop)]
-pub enum Hand {
+pub enum WorkerHand {
     /// Nothing.
     Empty,
     /// A job.
@@ -56,7 +56,7 @@ pub struct State {
     /// The jobs that wait for a worker, in order.
     pub jobs: Items<Job>,
     /// The hand of each worker.
-    pub hands: Items<Hand>,
+    pub hands: Items<WorkerHand>,
     /// The parcels that wait to be sent, in order.
     pub line: Items<Parcel>,
     /// What was sent for messages, in order.
@@ -90,12 +90,12 @@ impl State {
 }
 
 /// The hands of so many workers, each empty.
-fn empty_hands(alloc: Global, workers: usize) -> Result<Items<Hand>, NoMemory>
-    ensures { IfOk result (λ hands. hands ≡ replicate workers Hand.Empty) }
+fn empty_hands(alloc: Global, workers: usize) -> Result<Items<WorkerHand>, NoMemory>
+    ensures { IfOk result (λ hands. hands ≡ replicate workers WorkerHand.Empty) }
 {
     let mut hands = Vec::with_capacity(alloc, workers)?;
     for _worker in 0..workers {
-        if hands.push(Hand::Empty).is_err() {
+        if hands.push(WorkerHand::Empty).is_err() {
             return Err(NoMemory);
         }
     }

@@ -9,7 +9,7 @@ ghost use Rattle.fuse_core.specs.Step.{empty, late_went, marked, went};
 use crate::copied::Copied;
 use crate::lists::{exchange, push, take_at, take_first};
 use crate::marks::{first_held, is_unused, tag_of, tag_of_late};
-use crate::{Event, Hand, Job, LINE_PLACES, Mark, SentOut, State};
+use crate::{Event, Job, LINE_PLACES, Mark, SentOut, State, WorkerHand};
 use fuse_header::Header;
 use fuse_reply::{LateFrame, Out, Parcel};
 use fuse_wire::{Items, NoMemory, RequestId};
@@ -122,13 +122,13 @@ fn own(alloc: Global, state: &mut State, message: &Items<u8>, out: Out) -> Resul
 fn take(alloc: Global, state: &mut State, worker: usize) -> bool
     ensures { MayHappen state.old (Event.Take worker) state.new result }
 {
-    let Some(Hand::Empty) = state.hands.as_slice().get(worker) else {
+    let Some(WorkerHand::Empty) = state.hands.as_slice().get(worker) else {
         return false;
     };
     let Some(job) = take_first(alloc, &mut state.jobs) else {
         return false;
     };
-    exchange(alloc, &mut state.hands, worker, Hand::Asked(job));
+    exchange(alloc, &mut state.hands, worker, WorkerHand::Asked(job));
     true
 }
 
@@ -136,14 +136,19 @@ fn take(alloc: Global, state: &mut State, worker: usize) -> bool
 fn answer(alloc: Global, state: &mut State, worker: usize, out: Out) -> bool
     ensures { MayHappen state.old (Event.Answer worker out) state.new result }
 {
-    let Some(Hand::Asked(job)) = state.hands.as_slice().get(worker) else {
+    let Some(WorkerHand::Asked(job)) = state.hands.as_slice().get(worker) else {
         return false;
     };
     let seq = job.seq;
     if !stands_for(seq, job.message.as_slice(), &out) {
         return false;
     }
-    exchange(alloc, &mut state.hands, worker, Hand::Answered(seq, out));
+    exchange(
+        alloc,
+        &mut state.hands,
+        worker,
+        WorkerHand::Answered(seq, out),
+    );
     true
 }
 
@@ -161,9 +166,9 @@ fn put(alloc: Global, state: &mut State, worker: usize) -> Result<bool, NoMemory
     if worker >= state.hands.as_slice().len() {
         return Ok(false);
     }
-    match exchange(alloc, &mut state.hands, worker, Hand::Empty) {
-        Hand::Answered(seq, out) => queue(alloc, state, Parcel::Prompt(seq, out)),
-        Hand::Empty | Hand::Asked(_) => Ok(false),
+    match exchange(alloc, &mut state.hands, worker, WorkerHand::Empty) {
+        WorkerHand::Answered(seq, out) => queue(alloc, state, Parcel::Prompt(seq, out)),
+        WorkerHand::Empty | WorkerHand::Asked(_) => Ok(false),
     }
 }
 

@@ -2,7 +2,7 @@
 use Rattle.std.proofs.Common.{◌≡◌, ◌≢◌, ◌++◌, ℕ, List, [], ◌∷◌, sym, ◌∙◌, ap, subst, refl, length, map}
 use Rattle.std.proofs.Common.{take, append_assoc, Result, Ok, Err, inl, inr, pos}
 use Rattle.std.proofs.lemmas.List.{map-append}
-use Rattle.fuse_wire.specs.Source.{SourceState, Takes, message, NothingLeft, Failed as SourceFailed}
+use Rattle.fuse_wire.specs.Source.{SourceState, Takes, message, NothingLeft, SourceFailed}
 use Rattle.fuse_wire.specs.declared.newtypes.RequestId.{RequestId}
 use Rattle.fuse_wire.proofs.Devices.{Takes-none, Takes-then}
 use Rattle.fuse_config.specs.Configuration.{version_payload}
@@ -14,7 +14,7 @@ use Rattle.fuse_reply.specs.Frame.{reply, frame}
 use Rattle.fuse_dispatch.specs.Promise.{MayInit}
 use Rattle.fuse_handshake.specs.Handshake.{greeting, Greets, Negotiates, HandshakeEnd, Handshake}
 use Rattle.fuse_handshake.specs.Handshake.HandshakeEnd.{Open, Failed}
-use Rattle.fuse_handshake.specs.HandshakeStep.{HandshakeRun, HandshakeOn, HandshakeEnds, end_of}
+use Rattle.fuse_handshake.specs.HandshakeStep.{HandshakeRun, HandshakeOn, HandshakeEnds, end_after_init}
 use Rattle.fuse_loop.specs.Progress.{Progress, ChannelState, TakesNext, Moves, DeliversOnce, SinkUntouched, LeavesOut}
 use Rattle.fuse_loop.specs.declared.taken.Taken.TheVariants.{Message, Gone as NoneLeft, Failed as NoneCame}
 use Rattle.fuse_handshake.specs.declared.greeting.Greeting.{Greeting}
@@ -25,7 +25,7 @@ use Rattle.fuse_handshake.specs.declared.greeting.HandshakeError.TheVariants.{In
 use Rattle.fuse_handshake.specs.declared.invalid_data.InvalidData.{InvalidData as Invalid}
 use Rattle.fuse_handshake.specs.declared.steps.HandshakeOutcome.{HandshakeOutcome}
 use Rattle.fuse_handshake.specs.declared.steps.HandshakeOutcome.TheVariants as outcome
-use Rattle.fuse_loop.proofs.Taking.{Begins-none, Begins-from_takes, Begins-after, Failed-after}
+use Rattle.fuse_loop.proofs.Taking.{Begins-none, Begins-from_takes, Begins-after, SourceFailed-after}
 use Rattle.fuse_loop.proofs.Moving.{LeavesOut-append, Moves-none, Moves-received, Moves-then, moves-then, Handed-frame, took, lost}
 
 -- one stretch of a handshake, and then another
@@ -161,16 +161,16 @@ accepted_outcome (Err e) = outcome.Refused e
 pub HandshakeRun-offered : {F : Type 0} (may_init : MayInit F) (page : ℕ) (fs fs1 : F) (request : Request) (offer : Offer) (f : List ℕ)
     (accepted : Result (Unit {0}) HandshakeError) (n : ℕ) (a b c : ChannelState)
     → TakesNext (Message n) a b → Offered request offer ≡ greeting (take n b.buffer)
-    → Negotiates may_init page fs request offer (f ∷ []) fs1 (end_of accepted) → DeliversOnce (Frame f) b c
+    → Negotiates may_init page fs request offer (f ∷ []) fs1 (end_after_init accepted) → DeliversOnce (Frame f) b c
     → HandshakeRun may_init page (accepted_outcome accepted) fs fs1 a.progress c.progress
 HandshakeRun-offered {F} may_init page fs fs1 request offer f accepted n a b c next is negotiates hands =
-    closes (end_of accepted) f n a b c next hands
-    (one-message may_init page fs fs1 (message next.0.turn) (Offered request offer) (f ∷ []) (end_of accepted)
+    closes (end_after_init accepted) f n a b c next hands
+    (one-message may_init page fs fs1 (message next.0.turn) (Offered request offer) (f ∷ []) (end_after_init accepted)
     (is ∙ ap greeting next.0.bytes) (refl, negotiates))
     (ends accepted)
   where
     ends : (accepted : Result (Unit {0}) HandshakeError)
-        → HandshakeEnds (accepted_outcome accepted) (end_of accepted) (NothingLeft c.progress.source) (SourceFailed a.progress.source c.progress.source)
+        → HandshakeEnds (accepted_outcome accepted) (end_after_init accepted) (NothingLeft c.progress.source) (SourceFailed a.progress.source c.progress.source)
     ends (Ok u) = refl
     ends (Err e) = refl
 
@@ -261,5 +261,5 @@ HandshakeRun-then {F} {may_init} {page} {fs} {fs1} {fs2} {found} {p} {q} {r} fir
   begins = Begins-after first.turns second.turns p.source q.source first.taken second.begins;
   taken = λ other. Takes-then first.turns second.turns p.source q.source r.source first.taken (second.taken other);
   ended = HandshakeEnds-after found second.end (NothingLeft r.source) (SourceFailed q.source r.source) (SourceFailed p.source r.source)
-      (Failed-after p.source q.source r.source first.taken.faults) second.ended;
+      (SourceFailed-after p.source q.source r.source first.taken.faults) second.ended;
 }

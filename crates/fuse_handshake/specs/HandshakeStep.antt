@@ -1,6 +1,6 @@
 -- The handshake as it is run: what it takes, what its messages get, and how it ends.
 use Rattle.std.specs.Prelude.{◌≡◌, ◌≢◌, ◌++◌, ℕ, List, [], Option, None, Some, Result, Ok, Err, map, length}
-use Rattle.fuse_wire.specs.Source.{Takes, message, NothingLeft, Failed as SourceFailed}
+use Rattle.fuse_wire.specs.Source.{Takes, message, NothingLeft, SourceFailed}
 use Rattle.fuse_reply.specs.declared.out.Out.TheVariants.{Frame}
 use Rattle.fuse_dispatch.specs.Promise.{MayInit}
 use Rattle.fuse_handshake.specs.Handshake.{HandshakeEnd, Handshake}
@@ -11,9 +11,9 @@ use Rattle.fuse_handshake.specs.declared.steps.HandshakeOutcome.{HandshakeOutcom
 use Rattle.fuse_handshake.specs.declared.steps.HandshakeOutcome.TheVariants as outcome
 
 -- the end of a handshake where `init` accepted, or why not
-abbrev pub end_of : Result (Unit {0}) HandshakeError → HandshakeEnd
-end_of (Ok u) = Accepted
-end_of (Err e) = IsFailed e
+abbrev pub end_after_init : Result (Unit {0}) HandshakeError → HandshakeEnd
+end_after_init (Ok u) = Accepted
+end_after_init (Err e) = IsFailed e
 
 -- how the outcome tells of the handshake's end
 abbrev pub HandshakeEnds : HandshakeOutcome → HandshakeEnd → (none_left failed : Type 0) → Type 0

@@ -2,7 +2,7 @@
 ghost use Rattle.std.specs.Prelude.{◌≡◌, ◌≤◌, ◌<◌, ◌∷◌, ℕ, List, [], length, take, pos};
 ghost use Rattle.fuse_reply.specs.Frame.{frame};
 ghost use Rattle.fuse_handshake.specs.Handshake.{Negotiates};
-ghost use Rattle.fuse_handshake.specs.HandshakeStep.{HandshakeRun, OneStep, end_of};
+ghost use Rattle.fuse_handshake.specs.HandshakeStep.{HandshakeRun, OneStep, end_after_init};
 
 use crate::{Greeting, HandshakeError, InvalidData, Offer};
 use fuse_config::{KernelConfig, version_reply};
@@ -49,7 +49,7 @@ fn negotiate<FS: Filesystem>(
     requires minor { 6 ≤ offer.version.1 }
     ensures { (f : List ℕ) × (result.0 ≡ Out.Frame f)
         × Negotiates FS.promise.may_init page_size filesystem.old request.now offer (f ∷ []) filesystem.new
-        (end_of result.1) }
+        (end_after_init result.1) }
 {
     let mut config = KernelConfig::new(offer.capabilities, offer.max_readahead, offer.version);
     match filesystem.init(request, &mut config) {

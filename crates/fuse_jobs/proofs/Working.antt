@@ -15,15 +15,15 @@ use Rattle.fuse_reply.specs.declared.parcel.Parcel.TheVariants.{Prompt, Notice, 
 use Rattle.fuse_core.specs.declared.state.Job.{Job}
 use Rattle.fuse_core.specs.OneEach.{Owing, number_of}
 use Rattle.fuse_sender.specs.Pairing.{InTurn, Pairs, numbered, outs_of}
-use Rattle.fuse_jobs.specs.Answered.{Answers, IsCaller, IsServed, pair_of}
+use Rattle.fuse_jobs.specs.Answered.{PromptAnswers, IsCaller, IsServed, pair_of}
 use Rattle.fuse_sender.proofs.Pairing.{InTurn-append, InTurn-one, Pairs-append, Pairs-in_turn, Pairs-left, Pairs-one}
 use Rattle.fuse_sender.proofs.Pairing.{Pairs-passing, Pairs-right, numbered-more, outs_of-append, outs_of-filtered}
 
 -- what answers is a prompt
-pub Answers-prompt : (owed : Owing) (asked : ℕ × List ℕ) (parcel : Parcel) → Answers owed asked parcel → is_prompt parcel ≡ true
-Answers-prompt owed asked (Prompt seq out) h = refl
-Answers-prompt owed asked (Notice frame) h = absurd h
-Answers-prompt owed asked (Late frame) h = absurd h
+pub PromptAnswers-prompt : (owed : Owing) (asked : ℕ × List ℕ) (parcel : Parcel) → PromptAnswers owed asked parcel → is_prompt parcel ≡ true
+PromptAnswers-prompt owed asked (Prompt seq out) h = refl
+PromptAnswers-prompt owed asked (Notice frame) h = absurd h
+PromptAnswers-prompt owed asked (Late frame) h = absurd h
 
 -- what prompts answer is owed what they hold
 module _ (owed : Owing) where
@@ -31,12 +31,12 @@ module _ (owed : Owing) where
   OutOwed asked b a parcel =
       (out : Out) × (outs_of (b ++ parcel ∷ a) ≡ outs_of b ++ out ∷ outs_of a) × owed asked.0 asked.1 out
 
-  out_owed : (asked : ℕ × List ℕ) (b a : List Parcel) (parcel : Parcel) → Answers owed asked parcel → OutOwed asked b a parcel
+  out_owed : (asked : ℕ × List ℕ) (b a : List Parcel) (parcel : Parcel) → PromptAnswers owed asked parcel → OutOwed asked b a parcel
   out_owed asked b a (Prompt seq out) h = (out, outs_of-append b (Prompt seq out ∷ a), h.1)
   out_owed asked b a (Notice frame) h = absurd h
   out_owed asked b a (Late frame) h = absurd h
 
-  pub Pairs-outs : (asked : List (ℕ × List ℕ)) (parcels : List Parcel) → Pairs (Answers owed) asked parcels
+  pub Pairs-outs : (asked : List (ℕ × List ℕ)) (parcels : List Parcel) → Pairs (PromptAnswers owed) asked parcels
       → Pairs (λ (p : ℕ × List ℕ) (o : Out). owed p.0 p.1 o) asked (outs_of parcels)
   Pairs-outs [] parcels h = ap outs_of h
   Pairs-outs (x ∷ asked) parcels h =
@@ -75,9 +75,9 @@ module _ (owed : Owing) where
     frame_kind = s.frame_kind;
     no_put = s.no_put;
     no_taken = s.no_taken;
-    each = subst (λ (l : List (ℕ × List ℕ)). InTurn (Answers owed) l (f.put ++ Prompt x.seq out ∷ [])) (sym (map_more pair_of j.taken (x ∷ [])))
-        (InTurn-append (Answers owed) (map pair_of j.taken) (pair_of x ∷ []) f.put (Prompt x.seq out ∷ []) s.each
-        (InTurn-one (Answers owed) (pair_of x) (Prompt x.seq out) (refl, pays)));
+    each = subst (λ (l : List (ℕ × List ℕ)). InTurn (PromptAnswers owed) l (f.put ++ Prompt x.seq out ∷ [])) (sym (map_more pair_of j.taken (x ∷ [])))
+        (InTurn-append (PromptAnswers owed) (map pair_of j.taken) (pair_of x ∷ []) f.put (Prompt x.seq out ∷ []) s.each
+        (InTurn-one (PromptAnswers owed) (pair_of x) (Prompt x.seq out) (refl, pays)));
   }
 
   -- a caller that has done nothing yet
@@ -134,14 +134,15 @@ module _ (owed : Owing) where
         }
 
     -- what the caller took, and more, answered
-    each_more : (s : IsCaller owed ms j f) (more : List Job) (parcels : List Parcel) → Pairs (Answers owed) (map pair_of more) parcels
-        → Pairs (Answers owed) (map pair_of (j.taken ++ more) ++ s.direct) (f.put ++ parcels)
+    each_more : (s : IsCaller owed ms j f) (more : List Job) (parcels : List Parcel) → Pairs (PromptAnswers owed) (map pair_of more) parcels
+        → Pairs (PromptAnswers owed) (map pair_of (j.taken ++ more) ++ s.direct) (f.put ++ parcels)
     each_more s more parcels pairs =
         let mine : List (ℕ × List ℕ) = map pair_of j.taken in
         let theirs : List (ℕ × List ℕ) = map pair_of more in
-        let both = Pairs-append (Answers owed) (mine ++ s.direct) theirs f.put parcels s.each pairs in
-        subst (λ (l : List (ℕ × List ℕ)). Pairs (Answers owed) (l ++ s.direct) (f.put ++ parcels)) (sym (map_more pair_of j.taken more))
-        (Pairs-left (Answers owed) ((mine ++ s.direct) ++ theirs) ((mine ++ theirs) ++ s.direct) (last_for_middle mine s.direct theirs) (f.put ++ parcels) both)
+        let both = Pairs-append (PromptAnswers owed) (mine ++ s.direct) theirs f.put parcels s.each pairs in
+        subst (λ (l : List (ℕ × List ℕ)). Pairs (PromptAnswers owed) (l ++ s.direct) (f.put ++ parcels)) (sym (map_more pair_of j.taken more))
+        (Pairs-left (PromptAnswers owed) ((mine ++ s.direct) ++ theirs) ((mine ++ theirs) ++ s.direct)
+        (last_for_middle mine s.direct theirs) (f.put ++ parcels) both)
 
     -- the caller answers the next message itself
     pub Caller-answered : (m : List ℕ) (out : Out) → IsCaller owed ms j f → owed (number_of (length ms)) m out
@@ -151,8 +152,8 @@ module _ (owed : Owing) where
         let parcel : Parcel = Prompt (number_of (length ms)) out in
         let more : IsPermutation (numbered 0 ms ++ next ∷ []) ((map pair_of j.put ++ s.direct) ++ next ∷ []) =
         IsPermutation-append_left (next ∷ []) _ _ s.all in
-        let both = Pairs-append (Answers owed) (map pair_of j.taken ++ s.direct) (next ∷ []) f.put (parcel ∷ []) s.each
-        (Pairs-one (Answers owed) next parcel (refl, pays)) in
+        let both = Pairs-append (PromptAnswers owed) (map pair_of j.taken ++ s.direct) (next ∷ []) f.put (parcel ∷ []) s.each
+        (Pairs-one (PromptAnswers owed) next parcel (refl, pays)) in
         record {
           job_kind = s.job_kind;
           frame_kind = s.frame_kind;
@@ -160,7 +161,7 @@ module _ (owed : Owing) where
           direct = s.direct ++ next ∷ [];
           all = subst (λ (l : List (ℕ × List ℕ)). IsPermutation l (map pair_of j.put ++ (s.direct ++ next ∷ []))) (sym (numbered-more ms m))
               (subst (IsPermutation (numbered 0 ms ++ next ∷ [])) (append_assoc (map pair_of j.put) s.direct (next ∷ [])) more);
-          each = subst (λ (l : List (ℕ × List ℕ)). Pairs (Answers owed) l (f.put ++ parcel ∷ []))
+          each = subst (λ (l : List (ℕ × List ℕ)). Pairs (PromptAnswers owed) l (f.put ++ parcel ∷ []))
               (append_assoc (map pair_of j.taken) s.direct (next ∷ [])) both;
         }
 
@@ -174,7 +175,7 @@ module _ (owed : Owing) where
           no_taken = ap (λ (l : List Parcel). l ++ f'.taken) s.no_taken ∙ served.no_taken;
           direct = s.direct;
           all = subst (λ (l : List Job). IsPermutation (numbered 0 ms) (map pair_of l ++ s.direct)) (sym put) s.all;
-          each = each_more s j'.taken f'.put (Pairs-in_turn (Answers owed) (map pair_of j'.taken) f'.put served.each);
+          each = each_more s j'.taken f'.put (Pairs-in_turn (PromptAnswers owed) (map pair_of j'.taken) f'.put served.each);
         }
 
     -- the caller takes a job that no worker took, and pushes what it is owed
@@ -186,7 +187,7 @@ module _ (owed : Owing) where
       no_taken = s.no_taken;
       direct = s.direct;
       all = s.all;
-      each = each_more s (x ∷ []) (Prompt x.seq out ∷ []) (Pairs-one (Answers owed) (pair_of x) (Prompt x.seq out) (refl, pays));
+      each = each_more s (x ∷ []) (Prompt x.seq out ∷ []) (Pairs-one (PromptAnswers owed) (pair_of x) (Prompt x.seq out) (refl, pays));
     }
 
     -- where all jobs and all prompts were taken, one out was taken for each message, and is owed to it
@@ -199,14 +200,15 @@ module _ (owed : Owing) where
         subst (λ (l : List Job × List Job). IsPermutation l.0 l.1) (λ i. (filter_any j.put i, filter_any j.taken i)) (settled s.job_kind alone) in
         let all : IsPermutation (numbered 0 ms) (taken ++ s.direct) =
         IsPermutation-trans _ _ _ s.all (IsPermutation-append_left s.direct _ _ (IsPermutation-map pair_of j.put j.taken moved)) in
-        let each : Pairs (Answers owed) (numbered 0 ms) f.put =
-        Pairs-left (Answers owed) (taken ++ s.direct) (numbered 0 ms) (IsPermutation-sym _ _ all) f.put s.each in
+        let each : Pairs (PromptAnswers owed) (numbered 0 ms) f.put =
+        Pairs-left (PromptAnswers owed) (taken ++ s.direct) (numbered 0 ms) (IsPermutation-sym _ _ all) f.put s.each in
         let whole : filter is_prompt v.put ≡ f.put =
-        ap (filter is_prompt) put ∙ Pairs-passing (Answers owed) is_prompt (Answers-prompt owed) (numbered 0 ms) f.put each in
+        ap (filter is_prompt) put ∙ Pairs-passing (PromptAnswers owed) is_prompt (PromptAnswers-prompt owed) (numbered 0 ms) f.put each in
         let same : IsPermutation f.put (filter is_prompt v.taken) =
         subst (λ (l : List Parcel). IsPermutation l (filter is_prompt v.taken)) whole (prompts first none) in
         subst (Pairs (λ (p : ℕ × List ℕ) (o : Out). owed p.0 p.1 o) (numbered 0 ms)) (outs_of-filtered v.taken)
-        (Pairs-outs owed (numbered 0 ms) (filter is_prompt v.taken) (Pairs-right (Answers owed) (numbered 0 ms) f.put (filter is_prompt v.taken) same each))
+        (Pairs-outs owed (numbered 0 ms) (filter is_prompt v.taken)
+        (Pairs-right (PromptAnswers owed) (numbered 0 ms) f.put (filter is_prompt v.taken) same each))
 
 -- a caller that has done nothing yet, but for the sender's pass
 pub Caller-idle : (owed : Owing) (j : Hand Job) (f : Hand Parcel) → j ≡ hand First 0 [] [] → f ≡ hand First 1 [] [] → IsCaller owed [] j f

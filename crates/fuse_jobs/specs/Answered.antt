@@ -15,10 +15,10 @@ abbrev pub pair_of : Job → ℕ × List ℕ
 pair_of job = (job.seq, job.message)
 
 -- a prompt of that number with what is owed to that message; a notice answers nothing, nor does a frame that comes later
-abbrev pub Answers : Owing → ℕ × List ℕ → Parcel → Type 0
-Answers owed asked (Prompt seq out) = (seq ≡ asked.0) × owed asked.0 asked.1 out
-Answers owed asked (Notice frame) = ⊥
-Answers owed asked (Late frame) = ⊥
+abbrev pub PromptAnswers : Owing → ℕ × List ℕ → Parcel → Type 0
+PromptAnswers owed asked (Prompt seq out) = (seq ≡ asked.0) × owed asked.0 asked.1 out
+PromptAnswers owed asked (Notice frame) = ⊥
+PromptAnswers owed asked (Late frame) = ⊥
 
 -- a worker's passes: the prompts that it pushed answer, in turn, the jobs that it took, and it pushed nothing else
 pub record IsServed (owed : Owing) (jobs : Hand Job) (frames : Hand Parcel) : Type 0 where
@@ -26,7 +26,7 @@ pub record IsServed (owed : Owing) (jobs : Hand Job) (frames : Hand Parcel) : Ty
   pub frame_kind : frames.kind ≡ Inner
   pub no_put : jobs.put ≡ []
   pub no_taken : frames.taken ≡ []
-  pub each : InTurn (Answers owed) (map pair_of jobs.taken) frames.put
+  pub each : InTurn (PromptAnswers owed) (map pair_of jobs.taken) frames.put
 
 -- the caller's passes, with those that were joined into them: each message was pushed as a job or answered directly, and one prompt
 -- was pushed for each job that was taken and for each message answered so, and nothing else
@@ -36,4 +36,4 @@ pub record IsCaller (owed : Owing) (messages : List (List ℕ)) (jobs : Hand Job
   pub no_taken : frames.taken ≡ []
   pub direct : List (ℕ × List ℕ)
   pub all : IsPermutation (numbered 0 messages) (map pair_of jobs.put ++ direct)
-  pub each : Pairs (Answers owed) (map pair_of jobs.taken ++ direct) frames.put
+  pub each : Pairs (PromptAnswers owed) (map pair_of jobs.taken ++ direct) frames.put

@@ -9,7 +9,7 @@ ghost use Rattle.fuse_line.specs.Tells.{IsSettled, Tells};
 
 use crate::gate::{Gate, Waiting};
 use crate::hand::Hand;
-use crate::moves::{Doors, Inners, Joins, Moved, Puts, Takes};
+use crate::moves::{DoorSplit, InnerSplit, Joins, LineRule, PopStep, PushStep};
 use crate::{Class, Pass};
 use crossbeam_queue::RuledArrayQueue;
 use fuse_wire::NoMemory;
@@ -29,7 +29,7 @@ pub struct Full<T> {
 /// places it has.
 #[derive(Drop)]
 pub struct Line<T: Class> {
-    queue: RuledArrayQueue<T, Hand<T>, Moved>,
+    queue: RuledArrayQueue<T, Hand<T>, LineRule>,
     pub(crate) items: Gate,
     pub(crate) places: Gate,
 }
@@ -73,9 +73,9 @@ impl<T: Class> Line<T> {
             ((pass.new.hand ≡ with_other pass.old.hand) × (result.hand ≡ hand Inner 0 [] [])) }
     {
         let seat = if door {
-            self.queue.another::<Doors>(&mut pass.seat)
+            self.queue.another::<DoorSplit>(&mut pass.seat)
         } else {
-            self.queue.another::<Inners>(&mut pass.seat)
+            self.queue.another::<InnerSplit>(&mut pass.seat)
         };
         Pass { seat }
     }
@@ -101,7 +101,7 @@ impl<T: Class> Line<T> {
             (λ full. (full.item ≡ item) × (pass.new.hand ≡ pass.old.hand)) }
         ensures full { IfErr result (λ _. Held self.now.slots (Tells T.is_inner pass.old.hand)) }
     {
-        match self.queue.push_as::<Puts, R>(rt, &mut pass.seat, item) {
+        match self.queue.push_as::<PushStep, R>(rt, &mut pass.seat, item) {
             Ok(()) => {
                 self.items.wake_one();
                 Ok(())
@@ -122,7 +122,7 @@ impl<T: Class> Line<T> {
         ensures empty { IfNone result (Held 0 (Tells T.is_inner pass.old.hand)) }
         ensures settled { IfNone result (IsSettled T.is_inner pass.new.hand) }
     {
-        match self.queue.pop_as::<Takes, R>(rt, &mut pass.seat) {
+        match self.queue.pop_as::<PopStep, R>(rt, &mut pass.seat) {
             Some(item) => {
                 self.places.wake_one();
                 Some(item)
@@ -138,7 +138,7 @@ impl<T: Class> Line<T> {
         ensures same { pass.new ≡ pass.old }
         ensures empty { result ≡ true → Held 0 (Tells T.is_inner pass.old.hand) }
     {
-        self.queue.is_empty_as::<Takes>(&mut pass.seat)
+        self.queue.is_empty_as::<PopStep>(&mut pass.seat)
     }
 
     /// Pushes the item at the back, and waits for a place while the line is full.

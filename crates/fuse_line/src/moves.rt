@@ -10,27 +10,27 @@ use crate::hand::Hand;
 use crossbeam_queue::protocol::{Join, Lesson, Outcome, Protocol, Split};
 
 /// The rule of a line.
-pub struct Moved;
+pub struct LineRule;
 
-impl<T: Class> Protocol<T, Hand<T>> for Moved {
+impl<T: Class> Protocol<T, Hand<T>> for LineRule {
     ghost holds = { MovedOnce T.is_inner };
 
     ghost first = { hand First 0 [] [] };
 }
 
 /// An inner pass comes off the first, which counts it.
-pub struct Inners;
+pub struct InnerSplit;
 
-impl<T> Split<Hand<T>> for Inners {
+impl<T> Split<Hand<T>> for InnerSplit {
     ghost left = { λ v. with_other v };
 
     ghost right = { λ v. hand Inner 0 [] [] };
 }
 
 /// A door comes off any pass.
-pub struct Doors;
+pub struct DoorSplit;
 
-impl<T> Split<Hand<T>> for Doors {
+impl<T> Split<Hand<T>> for DoorSplit {
     ghost left = { λ v. v };
 
     ghost right = { λ v. hand Door 0 [] [] };
@@ -46,23 +46,23 @@ impl<T> Join<Hand<T>> for Joins {
 }
 
 /// An item joins the line at its back.
-pub struct Puts;
+pub struct PushStep;
 
-impl<T> Outcome<T, Hand<T>> for Puts {
+impl<T> Outcome<T, Hand<T>> for PushStep {
     ghost then = { λ v x w. w ≡ with_put v x };
 }
 
-impl<T: Class> Lesson<T, Hand<T>> for Puts {
+impl<T: Class> Lesson<T, Hand<T>> for PushStep {
     ghost fact = { λ v items. Tells T.is_inner v items };
 }
 
 /// The item at the front of the line leaves it.
-pub struct Takes;
+pub struct PopStep;
 
-impl<T: Class> Outcome<T, Hand<T>> for Takes {
+impl<T: Class> Outcome<T, Hand<T>> for PopStep {
     ghost then = { λ v x w. (w ≡ with_taken v x) × ((rest : List T) × Tells T.is_inner v (x ∷ rest)) };
 }
 
-impl<T: Class> Lesson<T, Hand<T>> for Takes {
+impl<T: Class> Lesson<T, Hand<T>> for PopStep {
     ghost fact = { λ v rest. Tells T.is_inner v rest };
 }

@@ -2,7 +2,7 @@
 use Rattle.std.proofs.Common.{◌≡◌, ◌+◌, ◌++◌, ℕ, List, [], ◌∷◌, sym, ◌∙◌, ap, Option, None, Some, append-nil, arith}
 use Rattle.std.proofs.Common.{subst, refl, length, length-append, map, take, append_assoc, Bool, false, Err, Ok, zero-add}
 use Rattle.std.proofs.lemmas.List.{map-append, length-map}
-use Rattle.fuse_wire.specs.Source.{SourceState, Takes, message, NothingLeft, Failed as SourceFailed}
+use Rattle.fuse_wire.specs.Source.{SourceState, Takes, message, NothingLeft, SourceFailed}
 use Rattle.fuse_wire.specs.Sink.{Note}
 use Rattle.fuse_wire.proofs.Devices.{Takes-none, Takes-then}
 use Rattle.fuse_header.specs.declared.error.RequestError.{RequestError}
@@ -24,7 +24,7 @@ use Rattle.fuse_loop.specs.declared.taken.Taken.TheVariants.{Message, Gone as No
 use Rattle.fuse_loop.specs.declared.end.End.{End}
 use Rattle.fuse_loop.specs.declared.end.End.TheVariants.{Gone, Destroyed, Broken, Failed}
 use Rattle.fuse_loop.proofs.ItemLists.{All-append}
-use Rattle.fuse_loop.proofs.Taking.{Begins-none, Begins-from_takes, Begins-after, Failed-after}
+use Rattle.fuse_loop.proofs.Taking.{Begins-none, Begins-from_takes, Begins-after, SourceFailed-after}
 use Rattle.fuse_loop.proofs.Moving.{Moves-none, Moves-received, Moves-then, Moves-beside, moves-then, Handed, Handed-frame, Handed-note, took, lost}
 use Rattle.fuse_loop.proofs.Order.{InOrder-framed, InOrder-noted, InOrder-lost, InOrder-append}
 
@@ -307,7 +307,7 @@ Run-then {owed} {end} {p} {q} {r} first second = record {
   begins = Begins-after first.turns second.turns p.source q.source first.taken second.begins;
   taken = λ other. Takes-then first.turns second.turns p.source q.source r.source first.taken (second.taken other);
   ended = RunEnds-after end (map message first.turns) second.answered second.refused (NothingLeft r.source) (SourceFailed q.source r.source)
-      (SourceFailed p.source r.source) first.go_on (Failed-after p.source q.source r.source first.taken.faults) second.ended;
+      (SourceFailed p.source r.source) first.go_on (SourceFailed-after p.source q.source r.source first.taken.faults) second.ended;
 }
 
 -- a turn is the same beside any notices that were taken before

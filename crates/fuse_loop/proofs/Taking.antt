@@ -1,7 +1,7 @@
 -- What is taken from a source, after calls that gave nothing.
 use Rattle.std.proofs.Common.{◌≡◌, ◌≤◌, ℕ, List, [], ◌++◌, Option, sym, ◌∙◌, subst, arith, IfSome, ap, append_assoc, refl}
 use Rattle.std.specs.Prelude.{Some, None, option_map}
-use Rattle.fuse_wire.specs.Source.{SourceState, Takes, NothingLeft, Failed}
+use Rattle.fuse_wire.specs.Source.{SourceState, Takes, NothingLeft, SourceFailed}
 use Rattle.fuse_wire.proofs.Options.{option_map-front_none}
 use Rattle.fuse_wire.proofs.Faults.{Rose-after}
 use Rattle.fuse_loop.specs.Progress.{Begins}
@@ -12,8 +12,8 @@ NothingLeft-after a b none takes =
     subst (λ (o : Option (List (List ℕ))). IfSome o (λ left. left ≡ [])) (takes.turns ∙ sym (option_map-front_none b.turns)) none
 
 -- a failure after calls that did not fail
-pub Failed-after : (a b c : SourceState) → a.faults ≤ b.faults → Failed b c → Failed a c
-Failed-after a b c below failed = (omega (arith, below, failed.0), Rose-after a.faults b.faults c.faults below failed.1)
+pub SourceFailed-after : (a b c : SourceState) → a.faults ≤ b.faults → SourceFailed b c → SourceFailed a c
+SourceFailed-after a b c below failed = (omega (arith, below, failed.0), Rose-after a.faults b.faults c.faults below failed.1)
 
 -- the turns that there were begin with those that were taken, and then with what the rest begins with
 pub Begins-after : (xs ys : List (List ℕ)) (a b : SourceState) → Takes xs a b → Begins ys b → Begins (xs ++ ys) a

@@ -1,6 +1,6 @@
 -- The event loop after the handshake: which messages it takes, what they get, and how it ends.
 use Rattle.std.specs.Prelude.{◌≡◌, ◌≢◌, ◌++◌, ℕ, List, [], ◌∷◌, Option, None, Some, map, length}
-use Rattle.fuse_wire.specs.Source.{Takes, message, NothingLeft, Failed as SourceFailed}
+use Rattle.fuse_wire.specs.Source.{Takes, message, NothingLeft, SourceFailed}
 use Rattle.fuse_wire.specs.Sink.{Note}
 use Rattle.fuse_reply.specs.declared.out.Out.{Out}
 use Rattle.fuse_loop.specs.Incoming.{AllGoOn, HeaderRefused, incoming}

@@ -6,7 +6,7 @@ use Rattle.fuse_line.specs.Hand.{hand}
 use Rattle.fuse_line.specs.Seen.{Seen}
 use Rattle.fuse_line.specs.declared.hand.Kind.TheVariants.{First}
 use Rattle.fuse_notify.specs.Queueing.{fresh_door}
-use Rattle.fuse_reply.specs.EndMark.{MarkSeen, mark}
+use Rattle.fuse_reply.specs.EndMark.{EndMarkSeen, end_mark}
 use Rattle.fuse_reply.specs.Late.{LateSeen}
 use Rattle.fuse_reply.specs.Parcel.{is_prompt}
 use Rattle.fuse_reply.specs.declared.parcel.Parcel.{Parcel}
@@ -42,10 +42,10 @@ pub record IsAlone {T : Type 0} (inner : T → Bool) (line : TableId) (pass : Se
 -- what makes doors for the replies of a thread: a door to the line of frames, and a share of the mark of the run's end
 pub record DoorsSeen : Type 0 where
   pub pass : Seen Parcel
-  pub mark : MarkSeen
+  pub mark : EndMarkSeen
 
 abbrev pub fresh_doors : (frames : TableId) → (end : TableId) → DoorsSeen
-fresh_doors frames end = record { pass = fresh_door frames; mark = mark end None None }
+fresh_doors frames end = record { pass = fresh_door frames; mark = end_mark end None None }
 
 -- what a contract sees of what a thread answers with: the door of its notifier, and what makes doors for its replies
 pub record AnswererSeen : Type 0 where
@@ -57,7 +57,7 @@ pub record LinesState : Type 0 where
   pub frames : Seen Parcel
   pub jobs : Seen Job
   pub answerer : AnswererSeen
-  pub end : MarkSeen
+  pub end : EndMarkSeen
 
 -- the notices that were taken off the line of frames
 abbrev pub unasked_of : LinesState → List (List ℕ)
@@ -73,11 +73,11 @@ pub record IsUnused (lines : LinesState) : Type 0 where
   pub jobs : lines.jobs.hand ≡ hand First 0 [] []
   pub notifier : lines.answerer.notifier ≡ fresh_door lines.frames.line
   pub doors : lines.answerer.doors ≡ fresh_doors lines.frames.line lines.end.name
-  pub unmarked : lines.end ≡ mark lines.end.name None None
+  pub unmarked : lines.end ≡ end_mark lines.end.name None None
 
 -- the mark of an end, set to the number of messages that were taken, of which the last two values of a u64 count as one
-abbrev pub ended_by : MarkSeen → (taken : ℕ) → MarkSeen
-ended_by end taken = mark end.name end.known (Some (min taken (2 ^ 64 - 2)))
+abbrev pub ended_by : EndMarkSeen → (taken : ℕ) → EndMarkSeen
+ended_by end taken = end_mark end.name end.known (Some (min taken (2 ^ 64 - 2)))
 
 -- the passes are on this line of jobs and on this line of frames, and the notifier's door is one to that line of frames
 abbrev pub IsOn : (jobs frames : TableId) → LinesState → Type 0

@@ -2,7 +2,7 @@
 use Rattle.std.specs.Prelude.{◌≡◌, ◌⊎◌, ◌≤◌, ◌<◌, ◌+◌, ◌++◌, ℕ, Bool, true, false, not, List, [], ◌∷◌, IfSome, map, length, min, filter}
 use Rattle.std.specs.List.{AllByRecursion}
 use Rattle.fuse_wire.specs.Faults.{counted, last_count}
-use Rattle.fuse_wire.specs.Source.{SourceState, Takes, TakesMessage, NothingLeft, Failed as SourceFailed}
+use Rattle.fuse_wire.specs.Source.{SourceState, Takes, TakesMessage, NothingLeft, SourceFailed}
 use Rattle.fuse_wire.specs.Sink.{SinkState, Note, Appends, Sends}
 use Rattle.fuse_wire.specs.declared.sink.Sending.{Sending}
 use Rattle.fuse_reply.specs.Deliver.{Delivers, LeavesTail, NoNotice}
@@ -76,10 +76,10 @@ pub record SinkUntouched (before after : Progress) : Type 0 where
   pub unasked : after.unasked ≡ before.unasked
 
 -- a message was taken and counted; or none was left; or the source failed
-abbrev pub Receives : Taken → (before after : IntakeState) → Type 0
-Receives (Message n) before after = TakesMessage n before.source after.source after.buffer × (after.received ≡ counted before.received 1)
-Receives Gone before after = Takes [] before.source after.source × NothingLeft after.source × (after.received ≡ before.received)
-Receives Failed before after = SourceFailed before.source after.source × (after.received ≡ before.received)
+abbrev pub TakesIn : Taken → (before after : IntakeState) → Type 0
+TakesIn (Message n) before after = TakesMessage n before.source after.source after.buffer × (after.received ≡ counted before.received 1)
+TakesIn Gone before after = Takes [] before.source after.source × NothingLeft after.source × (after.received ≡ before.received)
+TakesIn Failed before after = SourceFailed before.source after.source × (after.received ≡ before.received)
 
 -- the same of a channel, whose sink and counts stay as they are
 abbrev pub TakesNext : Taken → (before after : ChannelState) → Type 0

@@ -1,7 +1,7 @@
 // What a thread answers messages with.
 ghost use Rattle.std.specs.Prelude.{◌≡◌, None, IfOk};
 ghost use Rattle.fuse_notify.specs.Queueing.{fresh_door};
-ghost use Rattle.fuse_reply.specs.EndMark.{mark};
+ghost use Rattle.fuse_reply.specs.EndMark.{end_mark};
 ghost use Rattle.fuse_loop.specs.Answering.{DoorFits, IsRequest, answering};
 
 use crate::Work;
@@ -54,7 +54,7 @@ impl Answerer {
         ensures same { (frames.new ≡ frames.old) × (ending.new ≡ ending.old) }
         ensures fresh { IfOk result (λ made. made ≡ record {
           notifier = fresh_door frames.old.line;
-          doors = record { pass = fresh_door frames.old.line; mark = mark ending.old.name ending.old.known None };
+          doors = record { pass = fresh_door frames.old.line; mark = end_mark ending.old.name ending.old.known None };
         }) }
     {
         let notifier = frames.notifier()?;
@@ -87,7 +87,7 @@ impl Answerer {
           notifier = fresh_door self.old.notifier.line;
           doors = record {
             pass = fresh_door self.old.doors.pass.line;
-            mark = mark self.old.doors.mark.name self.old.doors.mark.known None;
+            mark = end_mark self.old.doors.mark.name self.old.doors.mark.known None;
           };
         }) }
     {

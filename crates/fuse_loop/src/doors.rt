@@ -3,7 +3,7 @@ ghost use Rattle.std.specs.Prelude.{◌≡◌, None, IfOk, MatchResult};
 ghost use Rattle.std.specs.Arc.{arc_value};
 ghost use Rattle.fuse_line.specs.declared.hand.Kind.TheVariants.{Door as IsDoor};
 ghost use Rattle.fuse_notify.specs.Queueing.{fresh_door};
-ghost use Rattle.fuse_reply.specs.EndMark.{mark};
+ghost use Rattle.fuse_reply.specs.EndMark.{end_mark};
 ghost use Rattle.fuse_reply.specs.declared.door.NoDoor.TheVariants.{Starved};
 
 use fuse_line::{Line, Pass};
@@ -53,7 +53,7 @@ impl Doors {
             (λ door. door ≡ record {
               seq = seq;
               pass = fresh_door self.old.pass.line;
-              mark = mark self.old.mark.name self.old.mark.known None;
+              mark = end_mark self.old.mark.name self.old.mark.known None;
             })
             (λ none. none ≡ Starved) }
     {
@@ -69,7 +69,7 @@ impl Doors {
         ensures same { self.new ≡ self.old }
         ensures again { IfOk result (λ doors. doors ≡ record {
           pass = fresh_door self.old.pass.line;
-          mark = mark self.old.mark.name self.old.mark.known None;
+          mark = end_mark self.old.mark.name self.old.mark.known None;
         }) }
     {
         let mark = self.mark.share()?;

@@ -1,6 +1,6 @@
 // The mark of a run's end, as whoever runs it keeps it.
 ghost use Rattle.std.specs.Prelude.{◌≡◌, ◌-◌, ◌^◌, None, Some, min, IfOk};
-ghost use Rattle.fuse_reply.specs.EndMark.{mark};
+ghost use Rattle.fuse_reply.specs.EndMark.{end_mark};
 
 use fuse_reply::{EndMark, Seal};
 use fuse_wire::NoMemory;
@@ -16,9 +16,9 @@ pub struct Ending {
 
 impl Model for Ending {
     ghost use Rattle.std.specs.Prelude.{◌≡◌, ◌≢◌, None, MatchOption};
-    ghost use Rattle.fuse_reply.specs.EndMark.{MarkSeen};
+    ghost use Rattle.fuse_reply.specs.EndMark.{EndMarkSeen};
 
-    ghost Value = { MarkSeen };
+    ghost Value = { EndMarkSeen };
 
     ghost view = { λ e. e.mark };
 
@@ -29,7 +29,7 @@ impl Model for Ending {
 impl Ending {
     /// A mark that is not set. `NoMemory` where there is no memory for it.
     pub fn new(alloc: Global) -> Result<Ending, NoMemory>
-        ensures { IfOk result (λ made. made ≡ mark made.name None None) }
+        ensures { IfOk result (λ made. made ≡ end_mark made.name None None) }
     {
         let (mark, seal) = EndMark::new(alloc)?;
         Ok(Ending {
@@ -41,7 +41,7 @@ impl Ending {
     /// A share of the mark. `NoMemory` only where the count of its shares is at its end.
     pub fn share(&mut self) -> Result<EndMark, NoMemory>
         ensures same { self.new ≡ self.old }
-        ensures share { IfOk result (λ share. share ≡ mark self.old.name self.old.known None) }
+        ensures share { IfOk result (λ share. share ≡ end_mark self.old.name self.old.known None) }
     {
         self.mark.share()
     }
@@ -49,7 +49,7 @@ impl Ending {
     /// Sets the mark, to the number of messages that were taken, of which the last two values of a u64 count as one.
     pub fn set(&mut self, taken: u64)
         requires { self.old.set ≡ None }
-        ensures { self.new ≡ mark self.old.name self.old.known (Some (min taken (2 ^ 64 - 2))) }
+        ensures { self.new ≡ end_mark self.old.name self.old.known (Some (min taken (2 ^ 64 - 2))) }
     {
         let Some(seal) = self.seal.take() else {
             unreachable!()

@@ -1,6 +1,6 @@
 // The end that messages come in by.
 ghost use Rattle.std.specs.Prelude.{◌≡◌, ◌≤◌, take};
-ghost use Rattle.fuse_loop.specs.Progress.{Receives};
+ghost use Rattle.fuse_loop.specs.Progress.{TakesIn};
 
 use crate::Taken;
 use fuse_wire::consts::BUFFER_SIZE;
@@ -44,7 +44,7 @@ impl<S: Source> Intake<S> {
     /// Takes the next message, trying again where nothing came.
     #[inline(always)]
     pub fn take_message<R: Wait>(&mut self, rt: &R) -> Taken
-        ensures { Receives result self.old self.new }
+        ensures { TakesIn result self.old self.new }
     {
         for _ in rt.forever() {
             match self.source.receive(&mut self.buffer) {

@@ -1,6 +1,6 @@
 // A notice that is sent at once.
 ghost use Rattle.std.specs.Prelude.{◌≡◌};
-ghost use Rattle.fuse_notify.specs.Delivering.{Delivers, outcome_of};
+ghost use Rattle.fuse_notify.specs.Delivering.{DeliversNotice, outcome_of};
 
 use crate::Notice;
 use crate::notice::FUSE_NOTIFY_POLL;
@@ -18,7 +18,7 @@ pub enum Undelivered {
 /// Sends a notice at once. Where the kernel keeps nothing of what the notice speaks of (its ENOENT), that is well,
 /// since nothing is to be dropped; only for a poll it is an error, `Absent`. `Failed` where the device failed.
 pub fn deliver<K: Sink>(notice: &Notice, sink: &mut K) -> Result<(), Undelivered>
-    ensures { Delivers result notice.now (K.told sink.old) (K.told sink.new) }
+    ensures { DeliversNotice result notice.now (K.told sink.old) (K.told sink.new) }
 {
     let answer = notice.frame.send(sink);
     outcome(answer, notice.frame.code() == FUSE_NOTIFY_POLL)

@@ -8,7 +8,7 @@ use Rattle.fuse_wire.specs.declared.time.TimeOrNow.{TimeOrNow}
 use Rattle.fuse_operations.specs.Fields.{contents_alone, getattr_handle, flushes, read_lock_owner, release_lock_owner, write_lock_owner}
 use Rattle.fuse_operations.specs.Forgets.{rows_in}
 use Rattle.fuse_operations.specs.Operation.{Op}
-use Rattle.fuse_operations.specs.SetAttr.{atime_of, ctime_of, file_of, gid_of, mode_of, mtime_of, size_of, uid_of}
+use Rattle.fuse_operations.specs.SetAttr.{new_atime, new_ctime, file_of, new_gid, new_mode, new_mtime, new_size, new_uid}
 
 -- one call of a filesystem, with its arguments in their order; a row of `BatchForget` has the arguments of a `Forget`
 pub data Call : Type 0 where
@@ -72,7 +72,7 @@ call node (Op.Lookup name) = Some (Lookup node name)
 call node (Op.Forget nlookup) = Some (Forget node nlookup)
 call node (Op.GetAttr a) = Some (GetAttr node (getattr_handle a))
 call node (Op.SetAttr a) =
-    Some (SetAttr node (mode_of a) (uid_of a) (gid_of a) (size_of a) (atime_of a) (mtime_of a) (ctime_of a) (file_of a)
+    Some (SetAttr node (new_mode a) (new_uid a) (new_gid a) (new_size a) (new_atime a) (new_mtime a) (new_ctime a) (file_of a)
     None None None None)
 call node Op.ReadLink = Some (ReadLink node)
 call node (Op.SymLink link_name target) = Some (SymLink node link_name target)

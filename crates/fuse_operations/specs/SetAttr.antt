@@ -10,20 +10,20 @@ use Rattle.fuse_wire.specs.declared.time.TimeOrNow.TheVariants.{SpecificTime, No
 use Rattle.fuse_operations.specs.Fields.{has_flag, where_flag}
 
 -- the kind and the permissions
-abbrev pub mode_of : SetAttrArguments → Option ℕ
-mode_of a = where_flag FATTR_MODE a.valid a.mode
+abbrev pub new_mode : SetAttrArguments → Option ℕ
+new_mode a = where_flag FATTR_MODE a.valid a.mode
 
 -- the owner
-abbrev pub uid_of : SetAttrArguments → Option ℕ
-uid_of a = where_flag FATTR_UID a.valid a.uid
+abbrev pub new_uid : SetAttrArguments → Option ℕ
+new_uid a = where_flag FATTR_UID a.valid a.uid
 
 -- the group
-abbrev pub gid_of : SetAttrArguments → Option ℕ
-gid_of a = where_flag FATTR_GID a.valid a.gid
+abbrev pub new_gid : SetAttrArguments → Option ℕ
+new_gid a = where_flag FATTR_GID a.valid a.gid
 
 -- the size
-abbrev pub size_of : SetAttrArguments → Option ℕ
-size_of a = where_flag FATTR_SIZE a.valid a.size
+abbrev pub new_size : SetAttrArguments → Option ℕ
+new_size a = where_flag FATTR_SIZE a.valid a.size
 
 -- a time of so many seconds and nanoseconds
 abbrev pub time_of : ℤ → ℕ → SystemTime
@@ -34,17 +34,17 @@ abbrev pub now_or : (flag flags : ℕ) → SystemTime → TimeOrNow
 now_or flag flags time = if has_flag flag flags then Now else SpecificTime time
 
 -- when it was last read
-abbrev pub atime_of : SetAttrArguments → Option TimeOrNow
-atime_of a = where_flag FATTR_ATIME a.valid (now_or FATTR_ATIME_NOW a.valid (time_of a.atime a.atimensec))
+abbrev pub new_atime : SetAttrArguments → Option TimeOrNow
+new_atime a = where_flag FATTR_ATIME a.valid (now_or FATTR_ATIME_NOW a.valid (time_of a.atime a.atimensec))
 
 -- when it was last written
-abbrev pub mtime_of : SetAttrArguments → Option TimeOrNow
-mtime_of a = where_flag FATTR_MTIME a.valid (now_or FATTR_MTIME_NOW a.valid (time_of a.mtime a.mtimensec))
+abbrev pub new_mtime : SetAttrArguments → Option TimeOrNow
+new_mtime a = where_flag FATTR_MTIME a.valid (now_or FATTR_MTIME_NOW a.valid (time_of a.mtime a.mtimensec))
 
 -- the open file
 abbrev pub file_of : SetAttrArguments → Option ℕ
 file_of a = where_flag FATTR_FH a.valid a.fh
 
 -- when its attributes last changed
-abbrev pub ctime_of : SetAttrArguments → Option SystemTime
-ctime_of a = where_flag FATTR_CTIME a.valid (time_of a.ctime a.ctimensec)
+abbrev pub new_ctime : SetAttrArguments → Option SystemTime
+new_ctime a = where_flag FATTR_CTIME a.valid (time_of a.ctime a.ctimensec)

@@ -25,7 +25,7 @@ impl Model for SetAttr {
 
 impl SetAttr {
     ghost use Rattle.fuse_operations.specs.Call.{handle_number};
-    ghost use Rattle.fuse_operations.specs.SetAttr.{mode_of, uid_of, gid_of, size_of, atime_of, mtime_of, ctime_of};
+    ghost use Rattle.fuse_operations.specs.SetAttr.{new_mode, new_uid, new_gid, new_size, new_atime, new_mtime, new_ctime};
     ghost use Rattle.fuse_operations.specs.SetAttr.{file_of};
     ghost use Rattle.std.specs.Prelude.{None};
 
@@ -38,7 +38,7 @@ impl SetAttr {
 
     /// The kind and the permissions: `FATTR_MODE`.
     pub fn mode(&self) -> Option<u32>
-        ensures { result ≡ mode_of self.now }
+        ensures { result ≡ new_mode self.now }
     {
         self.valid()
             .contains(FattrFlags::FATTR_MODE)
@@ -47,7 +47,7 @@ impl SetAttr {
 
     /// The owner: `FATTR_UID`.
     pub fn uid(&self) -> Option<u32>
-        ensures { result ≡ uid_of self.now }
+        ensures { result ≡ new_uid self.now }
     {
         self.valid()
             .contains(FattrFlags::FATTR_UID)
@@ -56,7 +56,7 @@ impl SetAttr {
 
     /// The group: `FATTR_GID`.
     pub fn gid(&self) -> Option<u32>
-        ensures { result ≡ gid_of self.now }
+        ensures { result ≡ new_gid self.now }
     {
         self.valid()
             .contains(FattrFlags::FATTR_GID)
@@ -65,7 +65,7 @@ impl SetAttr {
 
     /// The size: `FATTR_SIZE`.
     pub fn size(&self) -> Option<u64>
-        ensures { result ≡ size_of self.now }
+        ensures { result ≡ new_size self.now }
     {
         self.valid()
             .contains(FattrFlags::FATTR_SIZE)
@@ -74,7 +74,7 @@ impl SetAttr {
 
     /// When it was last read: `FATTR_ATIME`, and the present where `FATTR_ATIME_NOW` is set too.
     pub fn atime(&self) -> Option<TimeOrNow>
-        ensures { result ≡ atime_of self.now }
+        ensures { result ≡ new_atime self.now }
     {
         if !self.valid().contains(FattrFlags::FATTR_ATIME) {
             return None;
@@ -88,7 +88,7 @@ impl SetAttr {
 
     /// When it was last written: `FATTR_MTIME`, and the present where `FATTR_MTIME_NOW` is set too.
     pub fn mtime(&self) -> Option<TimeOrNow>
-        ensures { result ≡ mtime_of self.now }
+        ensures { result ≡ new_mtime self.now }
     {
         if !self.valid().contains(FattrFlags::FATTR_MTIME) {
             return None;
@@ -102,7 +102,7 @@ impl SetAttr {
 
     /// When its attributes last changed: `FATTR_CTIME`.
     pub fn ctime(&self) -> Option<SystemTime>
-        ensures { result ≡ ctime_of self.now }
+        ensures { result ≡ new_ctime self.now }
     {
         self.valid().contains(FattrFlags::FATTR_CTIME).then_some(system_time_from_time(
             self.arguments.ctime,

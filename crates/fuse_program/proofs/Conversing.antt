@@ -8,10 +8,10 @@ use Rattle.fuse_wire.specs.Cut.{cut}
 use Rattle.fuse_wire.specs.Faults.{last_count, Rose, counted}
 use Rattle.fuse_wire.specs.Source.{message, NothingLeft}
 use Rattle.fuse_wire.specs.Sink.{SinkState, Note}
-use Rattle.fuse_wire.specs.ByteSource.{ByteSourceState, TakesBytes, NoByteLeft, Failed as InputFailed}
+use Rattle.fuse_wire.specs.ByteSource.{ByteSourceState, TakesBytes, NoByteLeft, StreamFailed}
 use Rattle.fuse_wire.specs.ByteSink.{ByteSinkState}
-use Rattle.fuse_wire.specs.StreamSource.{stream_told}
-use Rattle.fuse_wire.specs.StreamSink.{Stands, stream_told as sink_told}
+use Rattle.fuse_wire.specs.StreamSource.{stream_source_told}
+use Rattle.fuse_wire.specs.StreamSink.{Stands, stream_sink_told}
 use Rattle.fuse_reply.specs.declared.out.Out.{Out}
 use Rattle.fuse_loop.specs.Incoming.{Incoming, EndsAfter, EndsWell, incoming}
 use Rattle.fuse_loop.specs.Incoming.Incoming.{Broken, Destroy, Request}
@@ -95,7 +95,7 @@ rose-counted refused output output' sink false origin cause stands (inr is) = ab
 -- a session over the bytes of an input and an output
 pub ByteExchange-mounted : (form : ServeForm) (exit : ℕ) (outcome : Outcome) (input input' : ByteSourceState) (output output' : ByteSinkState)
     (sink : SinkState) (broken : Bool) (v : Transcript) (tree tree' : Hello)
-    → Mounted (form_setup form) tree tree' outcome (stream_told input) (stream_told input') (sink_told output output false 0) sink v
+    → Mounted (form_setup form) tree tree' outcome (stream_source_told input) (stream_source_told input') (stream_sink_told output output false 0) sink v
     → ((e : ℕ) → outcome ≢ Err (session.Init e)) → ∥ Stands sink output' broken ∥₁ → exit ≡ status outcome v.lost broken
     → ByteExchange form exit input input' output output'
 ByteExchange-mounted form exit outcome input input' output output' sink broken v tree tree' mounted accepted stands is = record {
@@ -112,7 +112,7 @@ ByteExchange-mounted form exit outcome input input' output output' sink broken v
   refused = x.moved.refused;
   broken = broken;
   status_is = is ∙ (ap (λ (n : ℕ). status outcome n broken) lost_is ∙ status-counted outcome (length x.lost) broken);
-  dialogue = Dialogue-map (NoByteLeft input') (InputFailed input input') (NoByteLeft-nothing input') (λ failed. failed) x.dialogue;
+  dialogue = Dialogue-map (NoByteLeft input') (StreamFailed input input') (NoByteLeft-nothing input') (λ failed. failed) x.dialogue;
   accepted = accepted;
   destroyed = mounted.destroyed;
   front = Fronts-begins x.turns input x.begins;
@@ -126,8 +126,8 @@ ByteExchange-mounted form exit outcome input input' output output' sink broken v
   whole = torn-none x.moved.appended x.notes output output' sink broken x.moved.written stands;
   counted = rose-counted (length x.moved.refused) output output' sink broken x.moved.written.origin x.moved.cause stands;
 } where
-  x : Exchange (form_setup form) tree mounted.fs1 outcome (progress (stream_told input) (sink_told output output false 0) nothing_yet [])
-      (progress (stream_told input') sink v mounted.unasked)
+  x : Exchange (form_setup form) tree mounted.fs1 outcome (progress (stream_source_told input) (stream_sink_told output output false 0) nothing_yet [])
+      (progress (stream_source_told input') sink v mounted.unasked)
   x = mounted.exchange
 
   lost_is : v.lost ≡ min (length x.lost) last_count
@@ -137,7 +137,8 @@ ByteExchange-mounted form exit outcome input input' output output' sink broken v
 -- each message was answered, where the session ended well and no write failed
 pub EachAnswered-headline : (form : ServeForm) (input input' : ByteSourceState) (output output' : ByteSinkState) (sink : SinkState)
     (broken : Bool) (tree : Hello)
-    → Headline tree_promise form.page form.acl form.owner tree (stream_told input) (stream_told input') (sink_told output output false 0) sink
+    → Headline tree_promise form.page form.acl form.owner tree (stream_source_told input) (stream_source_told input')
+    (stream_sink_told output output false 0) sink
     → ∥ Stands sink output' broken ∥₁ → broken ≡ false → EachAnswered form input input' output output'
 EachAnswered-headline form input input' output output' sink broken tree h stands is = record {
   tree = tree;
@@ -159,12 +160,12 @@ EachAnswered-headline form input input' output output' sink broken tree h stands
   replied = h.replied;
   set_aside = h.set_aside;
   one_each = h.one_each;
-  ended = EndsWell-map (map message h.ls) (NothingLeft (stream_told input')) (NoByteLeft input') (NoByteLeft-nothing input') h.ended;
+  ended = EndsWell-map (map message h.ls) (NothingLeft (stream_source_told input')) (NoByteLeft input') (NoByteLeft-nothing input') h.ended;
 }
 
 -- nothing is amiss with the messages where nothing is with the bytes
 pub SessionWell-bytes : (form : ServeForm) (input input' : ByteSourceState) (output output' : ByteSinkState) (tree : Hello)
-    → InputWell form input input' output output' → SessionWell tree_may_init (Some form.threads) tree (stream_told input) (stream_told input')
+    → InputWell form input input' output output' → SessionWell tree_may_init (Some form.threads) tree (stream_source_told input) (stream_source_told input')
 SessionWell-bytes form input input' output output' tree fine = record {
   turns = cut fine.bytes;
   told = ap (option_map cut) fine.told;

@@ -6,7 +6,7 @@ use Rattle.std.proofs.lemmas.List.{length-map, map-append}
 use Rattle.std.proofs.lemmas.List.FromFn.{length-range_with_len}
 use Rattle.fuse_wire.specs.Faults.{last_count}
 use Rattle.fuse_wire.specs.Sink.{Note}
-use Rattle.fuse_wire.specs.Source.{message as received}
+use Rattle.fuse_wire.specs.Source.{message}
 use Rattle.fuse_config.specs.declared.session_acl.SessionACL.TheVariants.{All}
 use Rattle.fuse_session.specs.Exchange.{Exchange, Mounted, setup_of}
 use Rattle.fuse_run.specs.SessionEnd.{Outcome}
@@ -17,9 +17,9 @@ use Rattle.fuse_loop.specs.Progress.{nothing_yet, progress, replies}
 use Rattle.fuse_run.specs.declared.error.SessionError.{SessionError}
 use Rattle.fuse_run.specs.declared.error.SessionError.TheVariants as session
 use Rattle.fuse_loop.specs.declared.transcript.Transcript.{Transcript}
-use Rattle.fuse_tree.specs.Generated.{destroy, init, request_at, requests, stream}
+use Rattle.fuse_tree.specs.Generated.{destroy_message, init_message, request_at, requests, stream}
 use Rattle.fuse_tree.specs.Store.{Stored, messages_told, stored_told, summary_of}
-use Rattle.fuse_program.specs.Load.{Answers, IsNoLine, Summarizes}
+use Rattle.fuse_program.specs.Load.{AnsweredByTree, IsNoLine, Summarizes}
 use Rattle.fuse_tree.specs.Tree.{tree_promise}
 use Rattle.fuse_program.specs.declared.arguments.LoadForm.{LoadForm}
 use Rattle.fuse_tree.specs.declared.hello.Hello.{Hello}
@@ -41,7 +41,7 @@ stream-length : (seed count : ℕ) → length (stream seed count) ≡ count + 2
 stream-length seed count =
     omega (
       arith,
-      length-append (requests seed count) (destroy (count + 2) ∷ []),
+      length-append (requests seed count) (destroy_message (count + 2) ∷ []),
       length-map (range_with_len 0 count) (request_at seed),
       length-range_with_len 0 count,
     )
@@ -74,18 +74,18 @@ tail-nil m last [] ys is = let same : [] ≡ ys = cc in sym same
 tail-nil m last (x ∷ xs) ys is = absurd (let no : ⊥ = cc in no)
 
 later-whole : (front : List (List ℕ)) (last : List ℕ) (ls left : List (List ℕ)) → AllByRecursion Goes front
-    → front ++ last ∷ [] ≡ ls ++ left → EndsWell (map received ls) (left ≡ []) → left ≡ []
+    → front ++ last ∷ [] ≡ ls ++ left → EndsWell (map message ls) (left ≡ []) → left ≡ []
 later-whole front last [] left each is ends = ends
 later-whole [] last (m ∷ ls) left each is ends = tail-nil m last ls left is
 later-whole (f ∷ front) last (m ∷ ls) left each is ends =
     let first : m ≡ f = cc in
     let rest : front ++ last ∷ [] ≡ ls ++ left = cc in
-    let goes : incoming (received m) ≡ Request =
-    ap (λ (x : List ℕ). incoming (received x)) first ∙ (ap incoming (fits-buffer f each.0.1) ∙ each.0.0) in
-    later-whole front last ls left each.1 rest (goes-on (incoming (received m)) (map received ls) (EndsWell (map received ls) (left ≡ [])) goes ends)
+    let goes : incoming (message m) ≡ Request =
+    ap (λ (x : List ℕ). incoming (message x)) first ∙ (ap incoming (fits-buffer f each.0.1) ∙ each.0.0) in
+    later-whole front last ls left each.1 rest (goes-on (incoming (message m)) (map message ls) (EndsWell (map message ls) (left ≡ [])) goes ends)
 
 all-taken : (front : List (List ℕ)) (last : List ℕ) (hs ls left : List (List ℕ)) → AllByRecursion Goes front
-    → front ++ last ∷ [] ≡ (hs ++ ls) ++ left → EndsWell (map received ls) (left ≡ []) → left ≡ []
+    → front ++ last ∷ [] ≡ (hs ++ ls) ++ left → EndsWell (map message ls) (left ≡ []) → left ≡ []
 all-taken front last [] ls left each is ends = later-whole front last ls left each is ends
 all-taken [] last (h ∷ hs) ls left each is ends = tail-nil h last (hs ++ ls) left is
 all-taken (f ∷ front) last (h ∷ hs) ls left each is ends =
@@ -118,7 +118,8 @@ Summarizes-ok form tree tree' left k v summary few h mounted is = (
 
     none_left : left ≡ []
     none_left =
-        all-taken (init ∷ requests form.seed form.count) (destroy (form.count + 2)) h.hs h.ls left (front-goes form.seed form.count) taken h.ended
+        all-taken (init_message ∷ requests form.seed form.count) (destroy_message (form.count + 2)) h.hs h.ls left
+        (front-goes form.seed form.count) taken h.ended
 
     all : stream form.seed form.count ≡ h.hs ++ h.ls
     all = taken ∙ (ap (λ (rest : List (List ℕ)). (h.hs ++ h.ls) ++ rest) none_left ∙ append-nil (h.hs ++ h.ls))
@@ -141,15 +142,15 @@ Summarizes-ok form tree tree' left k v summary few h mounted is = (
     noted : k.notes ≡ h.notes
     noted = let some : Some k.notes ≡ Some h.notes = h.written.noted in cc
 
-    answers : Answers (stream form.seed form.count) (h.handshake_replies ++ h.later_replies) h.notes
+    answers : AnsweredByTree (stream form.seed form.count) (h.handshake_replies ++ h.later_replies) h.notes
     answers = record {
       tree = tree;
       tree1 = h.fs1;
-      hs = map received h.hs;
-      ls = map received h.ls;
+      hs = map message h.hs;
+      ls = map message h.ls;
       handshake_replies = h.handshake_replies;
       later_replies = h.later_replies;
-      heard = sym (stream-received form.seed form.count) ∙ (ap (map received) all ∙ map-append received h.hs h.ls);
+      heard = sym (stream-received form.seed form.count) ∙ (ap (map message) all ∙ map-append message h.hs h.ls);
       said = refl;
       handshake = h.handshake;
       one_each = h.one_each;

@@ -7,7 +7,7 @@ use Rattle.std.specs.Prelude.{nat_lt, replicate}
 use Rattle.std.proofs.lemmas.Bool.{le-ltb}
 use Rattle.std.proofs.lemmas.List.{take_all}
 use Rattle.fuse_wire.specs.Numbers.{number}
-use Rattle.fuse_wire.specs.Source.{message as received}
+use Rattle.fuse_wire.specs.Source.{message}
 use Rattle.fuse_wire.specs.declared.consts.TheConstants.{BUFFER_SIZE}
 use Rattle.fuse_wire.proofs.NumberLaws.{number-append_right, number-to_le_bytes_4}
 use Rattle.fuse_header.specs.Header.{header, header_fields, body}
@@ -21,30 +21,31 @@ use Rattle.fuse_header.specs.declared.error.RequestError.TheVariants.{ShortReadH
 use Rattle.fuse_loop.specs.Incoming.{incoming, incoming_by}
 use Rattle.fuse_loop.specs.Incoming.Incoming.{Destroy, Request}
 use Rattle.fuse_session.specs.Complete.{GoodHeaders, HandshakeWell, IsInit, OpensAtLeast, OpensWell, SessionWell}
-use Rattle.fuse_tree.specs.Generated.{destroy, init, init_body, message, name_body, read_body, request, request_at, requests, stream, write_body, x_after}
+use Rattle.fuse_tree.specs.Generated.{destroy_message, generated_message, init_message, init_body, name_body, read_body, request, request_at, requests, stream}
+use Rattle.fuse_tree.specs.Generated.{write_body, x_after}
 use Rattle.fuse_tree.specs.Store.{messages_told}
 use Rattle.fuse_tree.specs.Tree.{tree_may_init}
 use Rattle.fuse_tree.specs.declared.hello.Hello.{Hello}
 use Rattle.fuse_program.proofs.Conversing.{AcceptsAll-tree}
 
 -- the field of the length
-pub size_field : (opcode id node : ℕ) (rest : List ℕ) → length rest ≤ 64 → number (message opcode id node rest) 0 4 ≡ 40 + length rest
-unfolding message
+pub size_field : (opcode id node : ℕ) (rest : List ℕ) → length rest ≤ 64 → number (generated_message opcode id node rest) 0 4 ≡ 40 + length rest
+unfolding generated_message
 size_field opcode id node rest short =
     number-to_le_bytes_4 (40 + length rest)
     (to_le_bytes w32 opcode ++ to_le_bytes w64 id ++ to_le_bytes w64 node ++ replicate 16 0 ++ rest) (omega arith)
 
 -- the field of the opcode
-pub opcode_field : (opcode id node : ℕ) (rest : List ℕ) → opcode < 2 ^ 32 → number (message opcode id node rest) 4 4 ≡ opcode
-unfolding message
+pub opcode_field : (opcode id node : ℕ) (rest : List ℕ) → opcode < 2 ^ 32 → number (generated_message opcode id node rest) 4 4 ≡ opcode
+unfolding generated_message
 opcode_field opcode id node rest fits =
     number-append_right (to_le_bytes w32 (40 + length rest))
     (to_le_bytes w32 opcode ++ to_le_bytes w64 id ++ to_le_bytes w64 node ++ replicate 16 0 ++ rest) 0 4
     ∙ number-to_le_bytes_4 opcode (to_le_bytes w64 id ++ to_le_bytes w64 node ++ replicate 16 0 ++ rest) fits
 
 -- header and body
-whole_length : (opcode id node : ℕ) (rest : List ℕ) → length (message opcode id node rest) ≡ 40 + length rest
-unfolding message
+whole_length : (opcode id node : ℕ) (rest : List ℕ) → length (generated_message opcode id node rest) ≡ 40 + length rest
+unfolding generated_message
 whole_length opcode id node rest = omega arith
 
 chosen : (a b c : Bool) (x y z : RequestError) (f : Header) → a ≡ false → b ≡ false → c ≡ false
@@ -62,14 +63,14 @@ good_header m itself there =
     (le-ltb (length m) 40 (omega (arith, itself, there))) (le-ltb (length m) (number m 0 4) there) (le-ltb (number m 0 4) 40 itself)
 
 pub good_message : (opcode id node : ℕ) (rest : List ℕ) → length rest ≤ 64
-    → header (message opcode id node rest) ≡ Ok (header_fields (message opcode id node rest))
+    → header (generated_message opcode id node rest) ≡ Ok (header_fields (generated_message opcode id node rest))
 good_message opcode id node rest short =
-    good_header (message opcode id node rest) (omega (arith, size_field opcode id node rest short))
+    good_header (generated_message opcode id node rest) (omega (arith, size_field opcode id node rest short))
     (omega (arith, size_field opcode id node rest short, whole_length opcode id node rest))
 
 -- what a message is to the event loop is a matter of its opcode
 incoming_message : (opcode id node : ℕ) (rest : List ℕ) → length rest ≤ 64 → opcode < 2 ^ 32
-    → incoming (message opcode id node rest) ≡ (if opcode == FUSE_DESTROY then Destroy else Request)
+    → incoming (generated_message opcode id node rest) ≡ (if opcode == FUSE_DESTROY then Destroy else Request)
 incoming_message opcode id node rest short fits =
     ap incoming_by (good_message opcode id node rest short)
     ∙ ap (λ (n : ℕ). if n == FUSE_DESTROY then Destroy else Request) (opcode_field opcode id node rest fits)
@@ -79,7 +80,7 @@ abbrev pub Goes : List ℕ → Type 0
 Goes m = (incoming m ≡ Request) × (length m ≤ 104)
 
 goes : (opcode id node : ℕ) (rest : List ℕ) → length rest ≤ 64 → opcode < 2 ^ 32
-    → (if opcode == FUSE_DESTROY then Destroy else Request) ≡ Request → Goes (message opcode id node rest)
+    → (if opcode == FUSE_DESTROY then Destroy else Request) ≡ Request → Goes (generated_message opcode id node rest)
 goes opcode id node rest short fits other =
     (incoming_message opcode id node rest short fits ∙ other, omega (arith, whole_length opcode id node rest))
 
@@ -99,14 +100,14 @@ init_length major minor max_readahead = refl
 pub request-goes : (id v w : ℕ) → Goes (request id v w)
 request-goes id v w = by_tests (v % 8 == 0) (v % 8 == 1) (v % 8 == 2) (v % 8 == 3) (v % 8 == 4) (v % 8 == 5) (v % 8 == 6) where
   by_tests : (a b c d e f g : Bool) → Goes (
-      if a then message FUSE_LOOKUP id 1 (name_body (codes "hello.txt"))
-      else if b then message FUSE_LOOKUP id 1 (name_body (codes "none"))
-      else if c then message FUSE_GETATTR id (1 + w % 4) (replicate 16 0)
-      else if d then message FUSE_READ id 3 (read_body (w % 256) 100)
-      else if e then message FUSE_READDIR id 1 (read_body 0 4096)
-      else if f then message FUSE_FORGET id 2 (to_le_bytes w64 1)
-      else if g then message FUSE_WRITE id 2 (write_body (codes "hello"))
-      else message 7 id 1 [])
+      if a then generated_message FUSE_LOOKUP id 1 (name_body (codes "hello.txt"))
+      else if b then generated_message FUSE_LOOKUP id 1 (name_body (codes "none"))
+      else if c then generated_message FUSE_GETATTR id (1 + w % 4) (replicate 16 0)
+      else if d then generated_message FUSE_READ id 3 (read_body (w % 256) 100)
+      else if e then generated_message FUSE_READDIR id 1 (read_body 0 4096)
+      else if f then generated_message FUSE_FORGET id 2 (to_le_bytes w64 1)
+      else if g then generated_message FUSE_WRITE id 2 (write_body (codes "hello"))
+      else generated_message 7 id 1 [])
   by_tests true b c d e f g = goes FUSE_LOOKUP id 1 (name_body (codes "hello.txt")) (omega arith) (omega arith) refl
   by_tests false true c d e f g = goes FUSE_LOOKUP id 1 (name_body (codes "none")) (omega arith) (omega arith) refl
   by_tests false false true d e f g = goes FUSE_GETATTR id (1 + w % 4) (replicate 16 0) (omega arith) (omega arith) refl
@@ -118,45 +119,45 @@ request-goes id v w = by_tests (v % 8 == 0) (v % 8 == 1) (v % 8 == 2) (v % 8 == 
       goes FUSE_WRITE id 2 (write_body (codes "hello")) (omega (arith, write_length (codes "hello"))) (omega arith) refl
   by_tests false false false false false false false = goes 7 id 1 [] (omega arith) (omega arith) refl
 
-pub init-goes : Goes init
-init-goes = goes FUSE_INIT 1 0 (init_body 7 40 131072) (omega (arith, init_length 7 40 131072)) (omega arith) refl
+pub init_message-goes : Goes init_message
+init_message-goes = goes FUSE_INIT 1 0 (init_body 7 40 131072) (omega (arith, init_length 7 40 131072)) (omega arith) refl
 
 pub All-map : {A : Type 0} (P : List ℕ → Type 0) (f : A → List ℕ) (xs : List A) → ((x : A) → P (f x)) → AllByRecursion P (map f xs)
 All-map P f [] each = tt
 All-map P f (x ∷ xs) each = (each x, All-map P f xs each)
 
 -- and so after INIT and all requests
-pub front-goes : (seed count : ℕ) → AllByRecursion Goes (init ∷ requests seed count)
+pub front-goes : (seed count : ℕ) → AllByRecursion Goes (init_message ∷ requests seed count)
 front-goes seed count = (
-  init-goes,
+  init_message-goes,
   All-map Goes (request_at seed) (range_with_len 0 count)
       (λ place. request-goes (place + 2) (x_after seed (place + 1) / 65536) (x_after seed (place + 1) / 65536 / 8)),
 )
 
 -- DESTROY ends it
-pub destroy-ends : (id : ℕ) → incoming (destroy id) ≡ Destroy
-destroy-ends id = incoming_message FUSE_DESTROY id 0 [] (omega arith) (omega arith)
+pub destroy_message-ends : (id : ℕ) → incoming (destroy_message id) ≡ Destroy
+destroy_message-ends id = incoming_message FUSE_DESTROY id 0 [] (omega arith) (omega arith)
 
 -- so short a message fits a receive buffer
-pub fits-buffer : (m : List ℕ) → length m ≤ 104 → received m ≡ m
+pub fits-buffer : (m : List ℕ) → length m ≤ 104 → message m ≡ m
 fits-buffer m short = take_all BUFFER_SIZE m (omega arith)
 
-map-received : (ms : List (List ℕ)) → AllByRecursion Goes ms → map received ms ≡ ms
+map-received : (ms : List (List ℕ)) → AllByRecursion Goes ms → map message ms ≡ ms
 map-received [] each = refl
 map-received (m ∷ ms) each =
-    ap (λ (first : List ℕ). first ∷ map received ms) (fits-buffer m each.0.1) ∙ ap (λ (later : List (List ℕ)). m ∷ later) (map-received ms each.1)
+    ap (λ (first : List ℕ). first ∷ map message ms) (fits-buffer m each.0.1) ∙ ap (λ (later : List (List ℕ)). m ∷ later) (map-received ms each.1)
 
 map-received-last : (ms : List (List ℕ)) (last : List ℕ) → AllByRecursion Goes ms → length last ≤ 104
-    → map received (ms ++ last ∷ []) ≡ ms ++ last ∷ []
+    → map message (ms ++ last ∷ []) ≡ ms ++ last ∷ []
 map-received-last [] last each short = ap (λ (m : List ℕ). m ∷ []) (fits-buffer last short)
 map-received-last (m ∷ ms) last each short =
-    ap (λ (first : List ℕ). first ∷ map received (ms ++ last ∷ [])) (fits-buffer m each.0.1)
+    ap (λ (first : List ℕ). first ∷ map message (ms ++ last ∷ [])) (fits-buffer m each.0.1)
     ∙ ap (λ (later : List (List ℕ)). m ∷ later) (map-received-last ms last each.1 short)
 
 -- the messages are received whole
-pub stream-received : (seed count : ℕ) → map received (stream seed count) ≡ stream seed count
+pub stream-received : (seed count : ℕ) → map message (stream seed count) ≡ stream seed count
 stream-received seed count =
-    map-received-last (init ∷ requests seed count) (destroy (count + 2)) (front-goes seed count)
+    map-received-last (init_message ∷ requests seed count) (destroy_message (count + 2)) (front-goes seed count)
     (omega (arith, whole_length FUSE_DESTROY (count + 2) 0 []))
 
 -- good headers up to DESTROY
@@ -165,30 +166,30 @@ good-until [] last each ends = inl ends
 good-until (m ∷ ms) last each ends = inr (each.0.0, good-until ms last each.1 ends)
 
 -- what INIT decodes to
-init-decodes : operation (header_fields init).opcode (body init)
+init_message-decodes : operation (header_fields init_message).opcode (body init_message)
     ≡ Ok (Init (record { major = 7; minor = 40; max_readahead = 131072; flags = 0; flags2 = 0 }))
-unfolding message init_body number decoding.init_to_bmap
-init-decodes = refl
+unfolding generated_message init_body number decoding.init_to_bmap
+init_message-decodes = refl
 
-pub init-is : IsInit init (record { major = 7; minor = 40; max_readahead = 131072; flags = 0; flags2 = 0 })
-init-is = record {
-  head = header_fields init;
+pub init_message-is : IsInit init_message (record { major = 7; minor = 40; max_readahead = 131072; flags = 0; flags2 = 0 })
+init_message-is = record {
+  head = header_fields init_message;
   good = good_message FUSE_INIT 1 0 (init_body 7 40 131072) (omega (arith, init_length 7 40 131072));
-  decodes = init-decodes;
+  decodes = init_message-decodes;
 }
 
 -- the stream opens well
 stream-opens : (seed count : ℕ) → OpensWell (stream seed count)
 stream-opens seed count = (
   record { major = 7; minor = 40; max_readahead = 131072; flags = 0; flags2 = 0 },
-  init-is,
-  inr (refl, omega arith, good-until (requests seed count) (destroy (count + 2)) (front-goes seed count).1 (destroy-ends (count + 2))),
+  init_message-is,
+  inr (refl, omega arith, good-until (requests seed count) (destroy_message (count + 2)) (front-goes seed count).1 (destroy_message-ends (count + 2))),
 )
 
 stream-opens_at_least : (seed count : ℕ) → OpensAtLeast (stream seed count)
 stream-opens_at_least seed count = (
   record { major = 7; minor = 40; max_readahead = 131072; flags = 0; flags2 = 0 },
-  init-is,
+  init_message-is,
   inr (refl, omega arith, tt),
 )
 

@@ -27,14 +27,14 @@ use Rattle.fuse_handshake.specs.Handshake.{Greets, Handshake, HandshakeEnd, Nego
 use Rattle.fuse_handshake.specs.Handshake.{greeting, greeting_by_header, greeting_by_operation, offer_of}
 use Rattle.fuse_handshake.specs.Handshake.HandshakeEnd.{Accepted}
 use Rattle.fuse_dispatch.specs.Owed.{Owed}
-use Rattle.fuse_tree.specs.Generated.{init, stream}
+use Rattle.fuse_tree.specs.Generated.{init_message, stream}
 use Rattle.fuse_tree.specs.Store.{is_error, line, summary_of}
-use Rattle.fuse_program.specs.Load.{Answers, Loads, SameStream, Summarizes, WritesOneLine}
+use Rattle.fuse_program.specs.Load.{AnsweredByTree, Loads, SameStream, Summarizes, WritesOneLine}
 use Rattle.fuse_tree.specs.Tree.{tree_may_init, tree_promise}
 use Rattle.fuse_program.specs.declared.arguments.LoadForm.{LoadForm}
 use Rattle.fuse_tree.specs.declared.hello.Hello.{Hello}
 use Rattle.fuse_tree.specs.declared.summary.Summary.{Summary}
-use Rattle.fuse_program.proofs.Messages.{init-is}
+use Rattle.fuse_program.proofs.Messages.{init_message-is}
 use Rattle.fuse_program.proofs.OneOut.{IsOwedOne, later, later-one, out_of}
 
 -- a list is the item at some place and the others, up to order
@@ -94,7 +94,7 @@ module _ (owed : Owing) (broken : List ℕ → Type 0) (out : List ℕ → Out) 
 
 -- the reply to the stream's INIT, where this was negotiated
 abbrev reply_of : Configuration → List ℕ
-reply_of config = frame init-is.head.unique.0 (pos 0) (init_payload config config.offered config.kernel_abi.1 4096)
+reply_of config = frame init_message-is.head.unique.0 (pos 0) (init_payload config config.offered config.kernel_abi.1 4096)
 
 -- the tree leaves it as it is offered
 abbrev init_reply : List ℕ
@@ -102,30 +102,30 @@ init_reply = reply_of (start (offered (record { major = 7; minor = 40; max_reada
 
 by_result : (config : Configuration) (result : Result (Unit {0}) ℕ) (frames : List (List ℕ)) (end : HandshakeEnd)
     → result ≡ Ok tt
-    → NegotiationReply init-is.head.unique.0 (offer_of (record { major = 7; minor = 40; max_readahead = 131072; flags = 0; flags2 = 0 })) 4096
+    → NegotiationReply init_message-is.head.unique.0 (offer_of (record { major = 7; minor = 40; max_readahead = 131072; flags = 0; flags2 = 0 })) 4096
     config result frames end
     → config ≡ start (offered (record { major = 7; minor = 40; max_readahead = 131072; flags = 0; flags2 = 0 })) 131072 (record { 0 = 7; 1 = 40 })
     → frames ≡ init_reply ∷ []
 by_result config (Err e) frames end ok reply is = absurd (let no : ⊥ = cc in no)
 by_result config (Ok u) frames end ok reply is =
-    reply.0 ∙ ap (λ (c : Configuration). frame init-is.head.unique.0 (pos 0) (init_payload c
+    reply.0 ∙ ap (λ (c : Configuration). frame init_message-is.head.unique.0 (pos 0) (init_payload c
     (offered (record { major = 7; minor = 40; max_readahead = 131072; flags = 0; flags2 = 0 })) 40 4096) ∷ []) is
 
 -- what follows the stream's INIT does not belong to the handshake
 greets : (tree tree1 : Hello) (ms frames : List (List ℕ)) (more : List (List ℕ) → Type 0)
-    → Greets tree_may_init 4096 tree (greeting init) ms frames tree1 Accepted more → (frames ≡ init_reply ∷ []) × (ms ≡ [])
+    → Greets tree_may_init 4096 tree (greeting init_message) ms frames tree1 Accepted more → (frames ≡ init_reply ∷ []) × (ms ≡ [])
 greets tree tree1 ms frames more shake =
     let offers =
     subst (λ g. Greets tree_may_init 4096 tree g ms frames tree1 Accepted more)
-    (ap (λ (h : Result Header RequestError). greeting_by_header h (body init)) init-is.good
-    ∙ ap (greeting_by_operation init-is.head) init-is.decodes) shake in
+    (ap (λ (h : Result Header RequestError). greeting_by_header h (body init_message)) init_message-is.good
+    ∙ ap (greeting_by_operation init_message-is.head) init_message-is.decodes) shake in
     (by_result offers.1.config offers.1.result frames Accepted offers.1.allowed.0 offers.1.replies offers.1.allowed.1, offers.0)
 
-shaken : (tree tree1 : Hello) (others hs ls frames : List (List ℕ)) → init ∷ others ≡ hs ++ ls
+shaken : (tree tree1 : Hello) (others hs ls frames : List (List ℕ)) → init_message ∷ others ≡ hs ++ ls
     → Handshake tree_may_init 4096 tree hs frames tree1 Accepted → (frames ≡ init_reply ∷ []) × (ls ≡ others)
 shaken tree tree1 others [] ls frames heard shake = absurd (let open_end = shake.2 in let no : ⊥ = cc in no)
 shaken tree tree1 others (h ∷ hs) ls frames heard shake = (done.0, sym (rest ∙ ap (λ (l : List (List ℕ)). l ++ ls) done.1)) where
-  first : h ≡ init
+  first : h ≡ init_message
   first = cc heard
 
   rest : others ≡ hs ++ ls
@@ -154,7 +154,7 @@ later_order tree seed count frames notes one_each =
     (All-at {P = IsOwedOne} {Q = OwesOne (Owed tree_promise tree All 0) IsBroken out_of} (later seed count) (λ m one. one tree) (later-one seed count))
     one_each
 
-ordered : (seed count : ℕ) (frames : List (List ℕ)) (notes : List Noted) → Answers (stream seed count) frames notes → Ordered seed count frames notes
+ordered : (seed count : ℕ) (frames : List (List ℕ)) (notes : List Noted) → AnsweredByTree (stream seed count) frames notes → Ordered seed count frames notes
 ordered seed count frames notes a =
     let first = shaken a.tree a.tree1 (later seed count) a.hs a.ls a.handshake_replies a.heard a.handshake in
     let order = later_order a.tree1 seed count a.later_replies notes
@@ -166,10 +166,10 @@ ordered seed count frames notes a =
     )
 
 -- any two answers to a stream have the same replies and notes, up to order
-pub Answers-order : (seed count : ℕ) (frames others : List (List ℕ)) (notes noted : List Noted)
-    → Answers (stream seed count) frames notes → Answers (stream seed count) others noted
+pub AnsweredByTree-order : (seed count : ℕ) (frames others : List (List ℕ)) (notes noted : List Noted)
+    → AnsweredByTree (stream seed count) frames notes → AnsweredByTree (stream seed count) others noted
     → IsPermutation frames others × IsPermutation notes noted
-Answers-order seed count frames others notes noted a b =
+AnsweredByTree-order seed count frames others notes noted a b =
     let p = ordered seed count frames notes a in
     let q = ordered seed count others noted b in (
       IsPermutation-trans frames _ others p.0 (IsPermutation-sym others _ q.0),
@@ -204,7 +204,7 @@ summary_of-order messages frames others notes noted p q =
 
 abbrev IsSummary : (seed count : ℕ) → Summary → Type 0
 IsSummary seed count summary =
-    (frames : List (List ℕ)) × (notes : List Noted) × Answers (stream seed count) frames notes
+    (frames : List (List ℕ)) × (notes : List Noted) × AnsweredByTree (stream seed count) frames notes
     × (summary ≡ summary_of (length (stream seed count)) frames (length notes))
 
 -- the summary of a stream is one, whatever the numbers of threads
@@ -212,7 +212,7 @@ pub Summarizes-one : (form other : LoadForm) (summary another : Summary) → Sam
     → summary ≡ another
 Summarizes-one form other summary another same s t =
     let u = subst (λ (p : ℕ × ℕ). IsSummary p.0 p.1 another) (λ i. (sym same.0 i, sym same.1 i)) t in
-    let order = Answers-order form.seed form.count s.0 u.0 s.1 u.1 s.2 u.2 in
+    let order = AnsweredByTree-order form.seed form.count s.0 u.0 s.1 u.1 s.2 u.2 in
     s.3 ∙ (summary_of-order (length (stream form.seed form.count)) s.0 u.0 s.1 u.1 order.0 order.1 ∙ sym u.3)
 
 -- with the status 0 the line of each summary was written, since there is one

@@ -8,6 +8,7 @@ use Rattle.std.specs.Prelude.{replicate}
 use Rattle.std.proofs.lemmas.List.{take_all}
 use Rattle.fuse_wire.specs.ErrorNumbers.{EACCES, ENOENT}
 use Rattle.fuse_wire.specs.Numbers.{number}
+use Rattle.fuse_wire.specs.Times.{nanos_per_second}
 use Rattle.fuse_wire.specs.declared.file_attr.FileAttr.{FileAttr}
 use Rattle.fuse_operations.specs.Call.{Call, call}
 use Rattle.fuse_operations.specs.Call.Call.{Lookup, GetAttr, Read, ReadDir, Poll}
@@ -29,11 +30,12 @@ use Rattle.fuse_reply.specs.declared.out.Out.{Out}
 use Rattle.fuse_reply.specs.declared.out.Out.TheVariants.{Frame, Note}
 use Rattle.fuse_config.specs.declared.session_acl.SessionACL.TheVariants.{All}
 use Rattle.fuse_loop.specs.Incoming.{id_of}
+use Rattle.fuse_dispatch.specs.Found.{found_attributes, found_entry}
 use Rattle.fuse_dispatch.specs.Owed.{IsPoll, Owed, OwedBy, OwedCall}
 use Rattle.fuse_dispatch.specs.Verdict.{Verdict, admitted, admitted_operation, asking, fixed_error, fixed_or, is_forget, serving, verdict, verdict_by}
 use Rattle.fuse_dispatch.specs.Verdict.Verdict.{Broken, Ends, Fixed, Forgets, Calls}
-use Rattle.fuse_tree.specs.Generated.{destroy, message, name_body, read_body, request, request_at, requests, write_body, x_after}
-use Rattle.fuse_tree.specs.Tree.{attributes, bytes, contents, entry, members, named, node_attr, tree_answer, tree_mark, tree_promise}
+use Rattle.fuse_tree.specs.Generated.{destroy_message, generated_message, name_body, read_body, request, request_at, requests, write_body, x_after}
+use Rattle.fuse_tree.specs.Tree.{tree_bytes, contents, members, tree_named, node_attr, tree_answer, tree_mark, tree_promise}
 use Rattle.fuse_tree.specs.declared.hello.Hello.{Hello}
 use Rattle.fuse_program.proofs.Messages.{All-map, good_message, opcode_field, size_field, read_length, write_length}
 
@@ -47,26 +49,26 @@ not-poll : (c : Call) → Small c → ¬ (IsPoll c)
 not-poll (Poll ino fh kh events flags) small poll = small
 not-poll c small poll = poll
 
-entry-short : (found : Option FileAttr) → ¬ (IsLong (entry found))
+entry-short : (found : Option FileAttr) → ¬ (IsLong (found_entry nanos_per_second found))
 entry-short None long = long
 entry-short (Some attr) long = long
 
-attributes-short : (found : Option FileAttr) → ¬ (IsLong (attributes found))
+attributes-short : (found : Option FileAttr) → ¬ (IsLong (found_attributes nanos_per_second found))
 attributes-short None long = long
 attributes-short (Some attr) long = long
 
-bytes-short : (offset size : ℕ) (found : Option (List ℕ)) → size ≤ inline_size → ¬ (IsLong (bytes offset size found))
-bytes-short offset size None small long = long
-bytes-short offset size (Some all) small long = omega (arith, length-take size (drop offset all))
+tree_bytes-short : (offset size : ℕ) (found : Option (List ℕ)) → size ≤ inline_size → ¬ (IsLong (tree_bytes offset size found))
+tree_bytes-short offset size None small long = long
+tree_bytes-short offset size (Some all) small long = omega (arith, length-take size (drop offset all))
 
 listed-short : (b : Bool) (entries : List DirEntry) → ¬ (IsLong (if b then Directory entries else Error ENOENT))
 listed-short true entries long = long
 listed-short false entries long = long
 
 not-long : (c : Call) → Small c → ¬ (IsLong (tree_answer c))
-not-long (Lookup parent name) small long = entry-short (if parent == 1 then named name else None) long
+not-long (Lookup parent name) small long = entry-short (if parent == 1 then tree_named name else None) long
 not-long (GetAttr ino fh) small long = attributes-short (node_attr ino) long
-not-long (Read ino fh offset size flags lock_owner) small long = bytes-short offset size (contents ino) small long
+not-long (Read ino fh offset size flags lock_owner) small long = tree_bytes-short offset size (contents ino) small long
 not-long (ReadDir ino fh offset size) small long = listed-short (ino == 1) (fitting size 0 (drop offset members)) long
 not-long c small long = long
 
@@ -153,26 +155,26 @@ verdict-short m good small =
     by_test false = decoded-short (header_fields m) (number m 16 8) (operation (number m 4 4) (body m)) small
 
 -- what stands after the header
-after_header : (opcode id node : ℕ) (rest : List ℕ) → drop 40 (message opcode id node rest) ≡ rest
-unfolding message
+after_header : (opcode id node : ℕ) (rest : List ℕ) → drop 40 (generated_message opcode id node rest) ≡ rest
+unfolding generated_message
 after_header opcode id node rest = refl
 
-body-message : (opcode id node : ℕ) (rest : List ℕ) → length rest ≤ 64 → body (message opcode id node rest) ≡ rest
-body-message opcode id node rest short =
-    ap (λ (n : ℕ). take (n - 40) (drop 40 (message opcode id node rest))) (size_field opcode id node rest short)
+body-generated_message : (opcode id node : ℕ) (rest : List ℕ) → length rest ≤ 64 → body (generated_message opcode id node rest) ≡ rest
+body-generated_message opcode id node rest short =
+    ap (λ (n : ℕ). take (n - 40) (drop 40 (generated_message opcode id node rest))) (size_field opcode id node rest short)
     ∙ (ap (λ (b : List ℕ). take (40 + length rest - 40) b) (after_header opcode id node rest)
     ∙ take_all (40 + length rest - 40) rest (omega arith))
 
-message-short : (opcode id node : ℕ) (rest : List ℕ) → length rest ≤ 64 → opcode < 2 ^ 32 → ((n : ℕ) → IsSmall n (operation opcode rest))
-    → Short (verdict All 0 (message opcode id node rest))
-message-short opcode id node rest short fits small =
+generated_message-short : (opcode id node : ℕ) (rest : List ℕ) → length rest ≤ 64 → opcode < 2 ^ 32 → ((n : ℕ) → IsSmall n (operation opcode rest))
+    → Short (verdict All 0 (generated_message opcode id node rest))
+generated_message-short opcode id node rest short fits small =
     verdict-short m (good_message opcode id node rest short)
     (subst (λ (o : ℕ). IsSmall (number m 16 8) (operation o (body m))) (sym (opcode_field opcode id node rest fits))
-    (subst (λ (b : List ℕ). IsSmall (number m 16 8) (operation opcode b)) (sym (body-message opcode id node rest short))
+    (subst (λ (b : List ℕ). IsSmall (number m 16 8) (operation opcode b)) (sym (body-generated_message opcode id node rest short))
     (small (number m 16 8))))
   where
     m : List ℕ
-    m = message opcode id node rest
+    m = generated_message opcode id node rest
 
 -- what each kind of request decodes to
 found-small : (n : ℕ) → IsSmall n (operation FUSE_LOOKUP (name_body (codes "hello.txt")))
@@ -207,40 +209,40 @@ unknown-small : (n : ℕ) → IsSmall n (operation 7 [])
 unfolding decoding.lookup_to_link
 unknown-small n = tt
 
-destroy-small : (n : ℕ) → IsSmall n (operation FUSE_DESTROY [])
+destroy_message-small : (n : ℕ) → IsSmall n (operation FUSE_DESTROY [])
 unfolding decoding.destroy_to_cuse_init
-destroy-small n = tt
+destroy_message-small n = tt
 
 -- each request is owed one out
 request-short : (id v w : ℕ) → Short (verdict All 0 (request id v w))
 request-short id v w = by_tests (v % 8 == 0) (v % 8 == 1) (v % 8 == 2) (v % 8 == 3) (v % 8 == 4) (v % 8 == 5) (v % 8 == 6) where
   by_tests : (a b c d e f g : Bool) → Short (verdict All 0 (
-      if a then message FUSE_LOOKUP id 1 (name_body (codes "hello.txt"))
-      else if b then message FUSE_LOOKUP id 1 (name_body (codes "none"))
-      else if c then message FUSE_GETATTR id (1 + w % 4) (replicate 16 0)
-      else if d then message FUSE_READ id 3 (read_body (w % 256) 100)
-      else if e then message FUSE_READDIR id 1 (read_body 0 4096)
-      else if f then message FUSE_FORGET id 2 (to_le_bytes w64 1)
-      else if g then message FUSE_WRITE id 2 (write_body (codes "hello"))
-      else message 7 id 1 []))
-  by_tests true b c d e f g = message-short FUSE_LOOKUP id 1 (name_body (codes "hello.txt")) (omega arith) (omega arith) found-small
-  by_tests false true c d e f g = message-short FUSE_LOOKUP id 1 (name_body (codes "none")) (omega arith) (omega arith) missed-small
-  by_tests false false true d e f g = message-short FUSE_GETATTR id (1 + w % 4) (replicate 16 0) (omega arith) (omega arith) getattr-small
+      if a then generated_message FUSE_LOOKUP id 1 (name_body (codes "hello.txt"))
+      else if b then generated_message FUSE_LOOKUP id 1 (name_body (codes "none"))
+      else if c then generated_message FUSE_GETATTR id (1 + w % 4) (replicate 16 0)
+      else if d then generated_message FUSE_READ id 3 (read_body (w % 256) 100)
+      else if e then generated_message FUSE_READDIR id 1 (read_body 0 4096)
+      else if f then generated_message FUSE_FORGET id 2 (to_le_bytes w64 1)
+      else if g then generated_message FUSE_WRITE id 2 (write_body (codes "hello"))
+      else generated_message 7 id 1 []))
+  by_tests true b c d e f g = generated_message-short FUSE_LOOKUP id 1 (name_body (codes "hello.txt")) (omega arith) (omega arith) found-small
+  by_tests false true c d e f g = generated_message-short FUSE_LOOKUP id 1 (name_body (codes "none")) (omega arith) (omega arith) missed-small
+  by_tests false false true d e f g = generated_message-short FUSE_GETATTR id (1 + w % 4) (replicate 16 0) (omega arith) (omega arith) getattr-small
   by_tests false false false true e f g =
-      message-short FUSE_READ id 3 (read_body (w % 256) 100) (omega (arith, read_length (w % 256) 100)) (omega arith) (read-small (w % 256))
+      generated_message-short FUSE_READ id 3 (read_body (w % 256) 100) (omega (arith, read_length (w % 256) 100)) (omega arith) (read-small (w % 256))
   by_tests false false false false true f g =
-      message-short FUSE_READDIR id 1 (read_body 0 4096) (omega (arith, read_length 0 4096)) (omega arith) readdir-small
-  by_tests false false false false false true g = message-short FUSE_FORGET id 2 (to_le_bytes w64 1) (omega arith) (omega arith) forget-small
+      generated_message-short FUSE_READDIR id 1 (read_body 0 4096) (omega (arith, read_length 0 4096)) (omega arith) readdir-small
+  by_tests false false false false false true g = generated_message-short FUSE_FORGET id 2 (to_le_bytes w64 1) (omega arith) (omega arith) forget-small
   by_tests false false false false false false true =
-      message-short FUSE_WRITE id 2 (write_body (codes "hello")) (omega (arith, write_length (codes "hello"))) (omega arith) write-small
-  by_tests false false false false false false false = message-short 7 id 1 [] (omega arith) (omega arith) unknown-small
+      generated_message-short FUSE_WRITE id 2 (write_body (codes "hello")) (omega (arith, write_length (codes "hello"))) (omega arith) write-small
+  by_tests false false false false false false false = generated_message-short 7 id 1 [] (omega arith) (omega arith) unknown-small
 
-destroy-short : (id : ℕ) → Short (verdict All 0 (destroy id))
-destroy-short id = message-short FUSE_DESTROY id 0 [] (omega arith) (omega arith) destroy-small
+destroy_message-short : (id : ℕ) → Short (verdict All 0 (destroy_message id))
+destroy_message-short id = generated_message-short FUSE_DESTROY id 0 [] (omega arith) (omega arith) destroy_message-small
 
 -- all messages after INIT
 abbrev pub later : (seed count : ℕ) → List (List ℕ)
-later seed count = requests seed count ++ destroy (count + 2) ∷ []
+later seed count = requests seed count ++ destroy_message (count + 2) ∷ []
 
 All-last : (P : List ℕ → Type 0) (ms : List (List ℕ)) (last : List ℕ) → AllByRecursion P ms → P last → AllByRecursion P (ms ++ last ∷ [])
 All-last P [] last each one = (one, tt)
@@ -248,8 +250,8 @@ All-last P (m ∷ ms) last each one = (each.0, All-last P ms last each.1 one)
 
 pub later-one : (seed count : ℕ) → AllByRecursion IsOwedOne (later seed count)
 later-one seed count =
-    All-last IsOwedOne (requests seed count) (destroy (count + 2))
+    All-last IsOwedOne (requests seed count) (destroy_message (count + 2))
     (All-map IsOwedOne (request_at seed) (range_with_len 0 count) (λ place.
     one-out (request_at seed place)
     (request-short (place + 2) (x_after seed (place + 1) / 65536) (x_after seed (place + 1) / 65536 / 8))))
-    (one-out (destroy (count + 2)) (destroy-short (count + 2)))
+    (one-out (destroy_message (count + 2)) (destroy_message-short (count + 2)))

@@ -6,7 +6,7 @@ use Rattle.std.proofs.lemmas.List.Folds.{concat-append}
 use Rattle.fuse_wire.specs.Cut.{cut, IsMessage}
 use Rattle.fuse_wire.specs.Source.{Takes, message, NothingLeft}
 use Rattle.fuse_wire.specs.ByteSource.{ByteSourceState, TakesBytes, NoByteLeft}
-use Rattle.fuse_wire.specs.StreamSource.{stream_told}
+use Rattle.fuse_wire.specs.StreamSource.{stream_source_told}
 use Rattle.fuse_wire.proofs.Cut.{concat-cut, IsMessage-cut}
 use Rattle.fuse_loop.specs.Progress.{Begins}
 use Rattle.fuse_program.specs.Program.{Fronts}
@@ -30,7 +30,7 @@ pub front-whole : (bytes : List ℕ) (turns rest : List (List ℕ)) → cut byte
 front-whole bytes turns rest e = messages-whole turns rest (subst (AllByRecursion IsMessage) e (IsMessage-cut bytes))
 
 -- the turns that there were begin with these
-pub Fronts-begins : (turns : List (List ℕ)) (a : ByteSourceState) → Begins turns (stream_told a) → Fronts (map message turns) a
+pub Fronts-begins : (turns : List (List ℕ)) (a : ByteSourceState) → Begins turns (stream_source_told a) → Fronts (map message turns) a
 Fronts-begins turns a begins = at_front a.bytes begins where
   at_front : (bytes : Option (List ℕ)) → IfSome (option_map cut bytes) (λ all. (rest : List (List ℕ)) × (all ≡ turns ++ rest))
       → IfSome bytes (λ bytes. (later : List (List ℕ)) × (cut bytes ≡ map message turns ++ later))
@@ -38,7 +38,7 @@ Fronts-begins turns a begins = at_front a.bytes begins where
   at_front (Some bytes) h = (h.0, h.1 ∙ ap (λ (ms : List (List ℕ)). ms ++ h.0) (sym (front-whole bytes turns h.0 h.1)))
 
 -- the turns that there were begin with those that were taken
-pub Fronts-takes : (turns : List (List ℕ)) (a b : ByteSourceState) → Takes turns (stream_told a) (stream_told b) → Fronts (map message turns) a
+pub Fronts-takes : (turns : List (List ℕ)) (a b : ByteSourceState) → Takes turns (stream_source_told a) (stream_source_told b) → Fronts (map message turns) a
 Fronts-takes turns a b takes = at_front a.bytes b.bytes takes.turns where
   at_front : (before after : Option (List ℕ)) → option_map cut before ≡ option_map (λ left. turns ++ left) (option_map cut after)
       → IfSome before (λ bytes. (later : List (List ℕ)) × (cut bytes ≡ map message turns ++ later))
@@ -49,7 +49,7 @@ Fronts-takes turns a b takes = at_front a.bytes b.bytes takes.turns where
       (cut left, split ∙ ap (λ (ms : List (List ℕ)). ms ++ cut left) (sym (front-whole all turns (cut left) split)))
 
 -- the bytes of the turns that were taken
-pub TakesBytes-takes : (turns : List (List ℕ)) (a b : ByteSourceState) → Takes turns (stream_told a) (stream_told b)
+pub TakesBytes-takes : (turns : List (List ℕ)) (a b : ByteSourceState) → Takes turns (stream_source_told a) (stream_source_told b)
     → TakesBytes (concat (map message turns)) a b
 TakesBytes-takes turns a b takes = record { bytes = joined a.bytes b.bytes takes.turns; faults = takes.faults } where
   joined : (before after : Option (List ℕ)) → option_map cut before ≡ option_map (λ left. turns ++ left) (option_map cut after)
@@ -64,7 +64,7 @@ TakesBytes-takes turns a b takes = record { bytes = joined a.bytes b.bytes takes
       ∙ (ap (λ (rest : List ℕ). concat turns ++ rest) (concat-cut left) ∙ ap (λ (ms : List (List ℕ)). concat ms ++ left) (sym whole)))))
 
 -- where no message is left no byte is
-pub NoByteLeft-nothing : (a : ByteSourceState) → NothingLeft (stream_told a) → NoByteLeft a
+pub NoByteLeft-nothing : (a : ByteSourceState) → NothingLeft (stream_source_told a) → NoByteLeft a
 NoByteLeft-nothing a nothing = none a.bytes nothing where
   none : (bytes : Option (List ℕ)) → IfSome (option_map cut bytes) (λ left. left ≡ []) → IfSome bytes (λ left. left ≡ [])
   none None h = tt

@@ -11,7 +11,7 @@ use Rattle.fuse_wire.specs.Frames.{frames}
 use Rattle.fuse_wire.specs.Sink.{SinkState, Tail, Note, Appends}
 use Rattle.fuse_wire.specs.Sink.Tail.{Whole, Torn}
 use Rattle.fuse_wire.specs.ByteSink.{ByteSinkState}
-use Rattle.fuse_wire.specs.StreamSink.{IsTorn, Stands, frames_since, tail_of, tail_since, stream_told}
+use Rattle.fuse_wire.specs.StreamSink.{IsTorn, Stands, frames_since, tail_of, tail_since, stream_sink_told}
 use Rattle.fuse_wire.proofs.Frames.{IsTorn-nil, frames-concat_torn}
 use Rattle.fuse_reply.specs.Deliver.{LeavesTail}
 use Rattle.fuse_reply.specs.declared.out.Out.{Out}
@@ -44,7 +44,7 @@ torn_in-tail_of true torn whole = refl
 torn_in-tail_of false torn whole = sym (whole refl)
 
 parts : (written : List (List ℕ)) (notes : List Note) (origin now : ByteSinkState) (sink : SinkState) (broken : Bool)
-    → Appends written notes (stream_told origin origin false 0) sink → Stands sink now broken
+    → Appends written notes (stream_sink_told origin origin false 0) sink → Stands sink now broken
     → Parts written (torn_in sink.tail) broken origin.bytes now.bytes
 parts written notes origin now sink broken appends s =
     by_first origin.bytes now.bytes (ap (λ (o : ByteSinkState). o.bytes) appends.origin) appends.framed s.told s.tail s.bytes where
@@ -72,7 +72,7 @@ parts written notes origin now sink broken appends s =
 
 -- the frames that were appended stand on the output, and at most a part of one more
 pub WritesFrames-stands : (written : List (List ℕ)) (notes : List Note) (output output' : ByteSinkState) (sink : SinkState) (broken : Bool)
-    → Appends written notes (stream_told output output false 0) sink → ∥ Stands sink output' broken ∥₁
+    → Appends written notes (stream_sink_told output output false 0) sink → ∥ Stands sink output' broken ∥₁
     → WritesFrames written (torn_in sink.tail) output output'
 WritesFrames-stands written notes output output' sink broken appends stands = record {
   joined = record {
@@ -91,7 +91,7 @@ WritesFrames-stands written notes output output' sink broken appends stands = re
 
 -- nothing is torn where no write failed
 pub torn-none : (written : List (List ℕ)) (notes : List Note) (output output' : ByteSinkState) (sink : SinkState) (broken : Bool)
-    → Appends written notes (stream_told output output false 0) sink → ∥ Stands sink output' broken ∥₁ → broken ≡ false
+    → Appends written notes (stream_sink_told output output false 0) sink → ∥ Stands sink output' broken ∥₁ → broken ≡ false
     → torn_in sink.tail ≡ []
 torn-none written notes output output' sink broken appends stands is =
     ∥∥₁_elim stands (hlevel props) (λ s. (parts written notes output output' sink broken appends s).3 is)

@@ -19,7 +19,7 @@ use Rattle.fuse_tree.specs.declared.summary.Summary.{Summary}
 use Rattle.fuse_program.specs.declared.arguments.LoadForm.{LoadForm}
 
 -- The frames and notes that the tree is owed to give for these messages: those of the handshake, and one for each later message.
-pub record Answers (messages frames : List (List ℕ)) (notes : List Note) : Type 0 where
+pub record AnsweredByTree (messages frames : List (List ℕ)) (notes : List Note) : Type 0 where
   pub tree : Hello
   pub tree1 : Hello
   -- the messages of the handshake, and the later ones
@@ -36,7 +36,7 @@ pub record Answers (messages frames : List (List ℕ)) (notes : List Note) : Typ
 -- the summary of the stream, whose every message has what it is owed
 abbrev pub Summarizes : LoadForm → Summary → Type 0
 Summarizes form summary =
-    (reply_frames : List (List ℕ)) × (notes : List Note) × Answers (stream form.seed form.count) reply_frames notes
+    (reply_frames : List (List ℕ)) × (notes : List Note) × AnsweredByTree (stream form.seed form.count) reply_frames notes
     × (summary ≡ summary_of (length (stream form.seed form.count)) reply_frames (length notes))
 
 -- why there is none: there was no memory, or no thread was to serve

@@ -6,7 +6,7 @@ use Rattle.fuse_wire.specs.Faults.{last_count, Rose}
 use Rattle.fuse_wire.specs.Cut.{cut}
 use Rattle.fuse_wire.specs.Frames.{frames}
 use Rattle.fuse_wire.specs.Sink.{Note as Noted, IsTornFrom}
-use Rattle.fuse_wire.specs.ByteSource.{ByteSourceState, TakesBytes, NoByteLeft, Failed}
+use Rattle.fuse_wire.specs.ByteSource.{ByteSourceState, TakesBytes, NoByteLeft, StreamFailed}
 use Rattle.fuse_wire.specs.ByteSink.{ByteSinkState, PutsBytes}
 use Rattle.fuse_wire.specs.StreamSink.{IsTorn}
 use Rattle.fuse_reply.specs.declared.out.Out.{Out}
@@ -92,7 +92,7 @@ pub record ByteExchange (form : ServeForm) (exit : ℕ) (input input' : ByteSour
   -- whether a write failed
   pub broken : Bool
   pub status_is : exit ≡ status outcome (length lost) broken
-  pub dialogue : Dialogue (form_setup form) tree tree1 outcome (NoByteLeft input') (Failed input input') messages sent notes lost
+  pub dialogue : Dialogue (form_setup form) tree tree1 outcome (NoByteLeft input') (StreamFailed input input') messages sent notes lost
   pub accepted : (e : ℕ) → outcome ≢ Err (Init e)
   pub destroyed : tree_promise.may_destroy tree1 tree'
   -- The messages are the first of the input, and the bytes read are these, joined; but where the input failed nothing is said of what

@@ -1,7 +1,7 @@
 -- What contracts see of a door, and what goes through it.
 use Rattle.std.specs.Prelude.{◌≡◌, ℕ, List, Result, Ok, Err}
 use Rattle.fuse_line.specs.Seen.{Seen}
-use Rattle.fuse_reply.specs.EndMark.{MarkSeen}
+use Rattle.fuse_reply.specs.EndMark.{EndMarkSeen}
 use Rattle.fuse_reply.specs.Late.{late}
 use Rattle.fuse_reply.specs.Queueing.{with_parcel, FoundFull}
 use Rattle.fuse_reply.specs.declared.parcel.Parcel.{Parcel}
@@ -11,7 +11,7 @@ use Rattle.fuse_reply.specs.declared.parcel.Parcel.TheVariants.{Late}
 pub record DoorSeen : Type 0 where
   pub seq : ℕ
   pub pass : Seen Parcel
-  pub mark : MarkSeen
+  pub mark : EndMarkSeen
 
 -- just this frame was queued, with the door's number; or it came back, and nothing was, since the line was full
 abbrev pub PushesLate : Result (Unit {0}) (List ℕ) → (id : ℕ) → (frame : List ℕ) → (before after : DoorSeen) → Type 0

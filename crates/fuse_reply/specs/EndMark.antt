@@ -7,16 +7,16 @@ use Rattle.fuse_reply.specs.declared.sight.Sight.TheVariants.{Storing, Reading}
 use Rattle.fuse_reply.specs.SetOnce.{known_of}
 
 -- a share of a mark: which mark it is, what the share has read, and what the Seal that it keeps has set
-pub record MarkSeen : Type 0 where
+pub record EndMarkSeen : Type 0 where
   pub name : TableId
   pub known : Option ℕ
   pub set : Option ℕ
 
-abbrev pub mark : (name : TableId) → (known set : Option ℕ) → MarkSeen
-mark name known set = record { name = name; known = known; set = set }
+abbrev pub end_mark : (name : TableId) → (known set : Option ℕ) → EndMarkSeen
+end_mark name known set = record { name = name; known = known; set = set }
 
 -- a note: which mark it is of, and the number that was read
-pub record NoteSeen : Type 0 where
+pub record EndNoteSeen : Type 0 where
   pub name : TableId
   pub taken : ℕ
 

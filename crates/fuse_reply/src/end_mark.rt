@@ -1,8 +1,8 @@
 // The mark of a run's end.
 ghost use Rattle.std.specs.Prelude.{◌≡◌, ◌-◌, ◌^◌, ◌⊎◌, Some, None, min, IfOk, IfSome, IfNone};
-ghost use Rattle.fuse_reply.specs.EndMark.{mark};
+ghost use Rattle.fuse_reply.specs.EndMark.{end_mark};
 
-use crate::sight::{FirstReader, Loads, SetOnce, Shares, Sight, Stores};
+use crate::sight::{FirstReader, SeatLoads, SeatStores, SetOnce, Shares, Sight};
 use crate::{EndNote, Seal};
 use atomic_table::{Seat, Table};
 use fuse_wire::NoMemory;
@@ -23,12 +23,12 @@ pub struct EndMark {
 impl Model for EndMark {
     ghost use Rattle.std.specs.Prelude.{◌≡◌};
     ghost use Rattle.std.specs.Arc.{arc_value};
-    ghost use Rattle.fuse_reply.specs.EndMark.{IsReader, MarkSeen, mark, set_by};
+    ghost use Rattle.fuse_reply.specs.EndMark.{IsReader, EndMarkSeen, end_mark, set_by};
     ghost use Rattle.fuse_reply.specs.SetOnce.{known_of};
 
-    ghost Value = { MarkSeen };
+    ghost Value = { EndMarkSeen };
 
-    ghost view = { λ m. mark m.seat.table_id (known_of m.seat.me.0) (set_by m.kept.me.0) };
+    ghost view = { λ m. end_mark m.seat.table_id (known_of m.seat.me.0) (set_by m.kept.me.0) };
 
     ghost invariant = { λ m. (m.seat.table_id.words ≡ 1) × IsReader (arc_value m.table).shared.table_id m.seat
         × (m.kept.table_id ≡ m.seat.table_id) };
@@ -37,7 +37,7 @@ impl Model for EndMark {
 impl EndMark {
     /// A mark that is not set, and its Seal. `NoMemory` where there is no memory for it.
     pub fn new(alloc: Global) -> Result<(EndMark, Seal), NoMemory>
-        ensures { IfOk result (λ made. made.0 ≡ mark made.1 None None) }
+        ensures { IfOk result (λ made. made.0 ≡ end_mark made.1 None None) }
     {
         let Ok((table, mut storing)) = Table::of_words(alloc, &[0], &()) else {
             return Err(NoMemory);
@@ -54,7 +54,7 @@ impl EndMark {
     /// where the count of the shares is at its end.
     pub fn share(&mut self) -> Result<EndMark, NoMemory>
         ensures same { self.new ≡ self.old }
-        ensures share { IfOk result (λ share. share ≡ mark self.old.name self.old.known None) }
+        ensures share { IfOk result (λ share. share ≡ end_mark self.old.name self.old.known None) }
     {
         let Ok(table) = Arc::try_clone(&self.table) else {
             return Err(NoMemory);
@@ -68,12 +68,12 @@ impl EndMark {
     /// The Seal is this mark's own, and this share keeps it.
     pub fn set(&mut self, seal: Seal, taken: u64)
         requires { seal ≡ self.old.name }
-        ensures { self.new ≡ mark self.old.name self.old.known (Some (min taken (2 ^ 64 - 2))) }
+        ensures { self.new ≡ end_mark self.old.name self.old.known (Some (min taken (2 ^ 64 - 2))) }
     {
         let Seal { seat: mut storing } = seal;
         self.table
             .shared
-            .store::<Stores>(&mut storing, 0, taken.min(u64::MAX - 1) + 1);
+            .store::<SeatStores>(&mut storing, 0, taken.min(u64::MAX - 1) + 1);
         self.kept = storing;
     }
 
@@ -84,7 +84,7 @@ impl EndMark {
         ensures unset { IfNone result (self.new.known ≡ None) }
         ensures again { (self.old.known ≡ None) ⊎ (self.new.known ≡ self.old.known) }
     {
-        let found = self.table.shared.load::<Loads>(&mut self.seat, 0);
+        let found = self.table.shared.load::<SeatLoads>(&mut self.seat, 0);
         if found == 0 {
             return None;
         }

@@ -14,10 +14,10 @@ pub struct EndNote {
 
 impl Model for EndNote {
     ghost use Rattle.std.specs.Prelude.{◌≡◌, [], Some};
-    ghost use Rattle.fuse_reply.specs.EndMark.{NoteSeen};
+    ghost use Rattle.fuse_reply.specs.EndMark.{EndNoteSeen};
     ghost use Rattle.fuse_reply.specs.declared.sight.Sight.TheVariants.{Reading};
 
-    ghost Value = { NoteSeen };
+    ghost Value = { EndNoteSeen };
 
     ghost view = { λ n. record { name = n.seat.table_id; taken = n.taken } };
 

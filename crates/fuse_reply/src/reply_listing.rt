@@ -40,9 +40,9 @@ pub struct ReplyListing<Kind: EntryKind> {
 impl<Kind: EntryKind> Model for ReplyListing<Kind> {
     ghost use Rattle.std.specs.Prelude.{◌≤◌, length, min};
     ghost use Rattle.fuse_reply.specs.Sizes.{max_payload};
-    ghost use Rattle.fuse_reply.specs.Adding.{Listing};
+    ghost use Rattle.fuse_reply.specs.Adding.{ListingSeen};
 
-    ghost Value = { Listing };
+    ghost Value = { ListingSeen };
 
     ghost view = { λ r. record { id = r.reply.id; door = r.reply.door; size = r.size; held = r.held.items } };
 

@@ -23,9 +23,9 @@ impl TableRule<(), Sight, ()> for SetOnce {
 }
 
 /// The Seal stores, once.
-pub struct Stores;
+pub struct SeatStores;
 
-impl Play<(), Sight> for Stores {
+impl Play<(), Sight> for SeatStores {
     ghost use Rattle.std.specs.Prelude.{◌≡◌, []};
     ghost use Rattle.fuse_reply.specs.SetOnce.{told};
     ghost use Rattle.fuse_reply.specs.declared.sight.Sight.TheVariants.{Storing};
@@ -34,9 +34,9 @@ impl Play<(), Sight> for Stores {
 }
 
 /// A reading seat loads.
-pub struct Loads;
+pub struct SeatLoads;
 
-impl Play<(), Sight> for Loads {
+impl Play<(), Sight> for SeatLoads {
     ghost use Rattle.fuse_reply.specs.SetOnce.{HasRead};
 
     ghost then = { λ _ before word after. HasRead before word after };

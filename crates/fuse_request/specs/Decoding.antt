@@ -40,12 +40,12 @@ after None go = Err InsufficientData
 after (Some front) go = go front.0 front.1
 
 -- an operation of that part and of the name after it
-abbrev pub named : {X : Type 0} → Option (X × List ℕ) → (X → List ℕ → Op) → Result Op RequestError
-named part make = after part (λ front rest. taking (name_at rest) (λ name. make front name))
+abbrev pub once_named : {X : Type 0} → Option (X × List ℕ) → (X → List ℕ → Op) → Result Op RequestError
+once_named part make = after part (λ front rest. taking (name_at rest) (λ name. make front name))
 
 -- an operation of that part and of the two names after it
 abbrev pub twice_named : {X : Type 0} → Option (X × List ℕ) → (X → List ℕ → List ℕ → Op) → Result Op RequestError
-twice_named part make = after part (λ front rest. named (name_at rest) (λ name other. make front name other))
+twice_named part make = after part (λ front rest. once_named (name_at rest) (λ name other. make front name other))
 
 -- an operation of that part, and of a name and a value after it, which is as long as the part says
 abbrev pub valued : Option (SetXAttrArguments × List ℕ) → (SetXAttrArguments → List ℕ → List ℕ → Op)
@@ -61,13 +61,13 @@ lookup_to_link opcode body =
     else if opcode == FUSE_GETATTR then taking (getattr_at body) (λ getattr. GetAttr getattr)
     else if opcode == FUSE_SETATTR then taking (setattr_at body) (λ setattr. SetAttr setattr)
     else if opcode == FUSE_READLINK then Ok ReadLink
-    else if opcode == FUSE_SYMLINK then named (name_at body) (λ link_name target. SymLink link_name target)
-    else if opcode == FUSE_MKNOD then named (mknod_at body) (λ mknod name. MkNod mknod name)
-    else if opcode == FUSE_MKDIR then named (mkdir_at body) (λ mkdir name. MkDir mkdir name)
+    else if opcode == FUSE_SYMLINK then once_named (name_at body) (λ link_name target. SymLink link_name target)
+    else if opcode == FUSE_MKNOD then once_named (mknod_at body) (λ mknod name. MkNod mknod name)
+    else if opcode == FUSE_MKDIR then once_named (mkdir_at body) (λ mkdir name. MkDir mkdir name)
     else if opcode == FUSE_UNLINK then taking (name_at body) (λ name. Unlink name)
     else if opcode == FUSE_RMDIR then taking (name_at body) (λ name. RmDir name)
     else if opcode == FUSE_RENAME then twice_named (u64_first body) (λ newdir old_name new_name. Rename newdir old_name new_name)
-    else if opcode == FUSE_LINK then named (u64_first body) (λ oldnodeid name. Link oldnodeid name)
+    else if opcode == FUSE_LINK then once_named (u64_first body) (λ oldnodeid name. Link oldnodeid name)
     else Err (UnknownOperation opcode)
 
 -- what the opcodes from OPEN to FLUSH ask
@@ -80,7 +80,7 @@ open_to_flush opcode body =
     else if opcode == FUSE_RELEASE then taking (release_at body) (λ release. Release release)
     else if opcode == FUSE_FSYNC then taking (fsync_at body) (λ fsync. FSync fsync)
     else if opcode == FUSE_SETXATTR then valued (setxattr_at body) (λ setxattr name value. SetXAttr setxattr name value)
-    else if opcode == FUSE_GETXATTR then named (getxattr_at body) (λ getxattr name. GetXAttr getxattr name)
+    else if opcode == FUSE_GETXATTR then once_named (getxattr_at body) (λ getxattr name. GetXAttr getxattr name)
     else if opcode == FUSE_LISTXATTR then taking (getxattr_at body) (λ listxattr. ListXAttr listxattr)
     else if opcode == FUSE_REMOVEXATTR then taking (name_at body) (λ name. RemoveXAttr name)
     else if opcode == FUSE_FLUSH then taking (flush_at body) (λ flush. Flush flush)
@@ -98,7 +98,7 @@ init_to_bmap opcode body =
     else if opcode == FUSE_SETLK then taking (getlk_at body) (λ setlk. SetLk setlk false)
     else if opcode == FUSE_SETLKW then taking (getlk_at body) (λ setlk. SetLk setlk true)
     else if opcode == FUSE_ACCESS then taking (access_at body) (λ access. Access access)
-    else if opcode == FUSE_CREATE then named (create_at body) (λ create name. Create create name)
+    else if opcode == FUSE_CREATE then once_named (create_at body) (λ create name. Create create name)
     else if opcode == FUSE_INTERRUPT then taking (u64_first body) (λ unique. Interrupt unique)
     else if opcode == FUSE_BMAP then taking (bmap_at body) (λ bmap. BMap bmap)
     else Err (UnknownOperation opcode)

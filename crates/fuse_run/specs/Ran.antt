@@ -25,8 +25,8 @@ pub record Opened (F : Type 0) : Type 0 where
   pub line : TableId
 
 -- How the later messages were served: where no thread was to serve none was taken; and else they were answered.
-abbrev pub Ends : {F : Type 0} → Promise F → F → SessionACL → (owner : ℕ) → (threads : Option ℕ) → Outcome → (before after : Progress) → Type 0
-Ends promise fs acl owner threads outcome before after =
+abbrev pub LaterServed : {F : Type 0} → Promise F → F → SessionACL → (owner : ℕ) → (threads : Option ℕ) → Outcome → (before after : Progress) → Type 0
+LaterServed promise fs acl owner threads outcome before after =
     ((threads ≡ Some 0) × (outcome ≡ Err Threads) × (after ≡ before))
     ⊎ ((threads ≢ Some 0) × ((end : End) × (outcome ≡ run_outcome end) × Run (Accounted threads promise.defers (Owed promise fs acl owner)) end before after))
 
@@ -34,7 +34,7 @@ Ends promise fs acl owner threads outcome before after =
 pub record Ran {F : Type 0} (promise : Promise F) (session : Opened F) (fs' : F) (outcome : Outcome)
     (source' : SourceState) (sink' : SinkState) (counts : Transcript) : Type 0 where
   pub unasked : List (List ℕ)
-  pub ends : Ends promise session.filesystem session.acl session.owner session.threads outcome session.progress
+  pub ends : LaterServed promise session.filesystem session.acl session.owner session.threads outcome session.progress
       (progress source' sink' counts unasked)
   pub recorded : NeverLater session.threads promise.defers → counts.unrecorded ≡ 0
   pub destroyed : promise.may_destroy session.filesystem fs'

@@ -2,7 +2,7 @@
 ghost use Rattle.std.specs.Prelude.{◌≡◌, ℕ, List, [], Some};
 ghost use Rattle.fuse_run.specs.Accounted.{Accounted, NeverLater};
 ghost use Rattle.fuse_dispatch.specs.Owed.{Owed};
-ghost use Rattle.fuse_run.specs.Ran.{Ends, Ran};
+ghost use Rattle.fuse_run.specs.Ran.{LaterServed, Ran};
 ghost use Rattle.fuse_run.specs.SessionEnd.{run_outcome};
 ghost use Rattle.fuse_loop.specs.EventLoop.{Run};
 ghost use Rattle.fuse_loop.specs.Lines.{IsUnused, unasked_of};
@@ -52,7 +52,7 @@ impl<FS, S: Source, K: Sink> Model for Runnable<FS, S, K> {
 }
 
 /// How the later messages were served.
-struct Served<S, K> {
+struct ServedRun<S, K> {
     outcome: Result<(), SessionError>,
     transcript: Transcript,
     source: S,
@@ -82,7 +82,7 @@ fn answer_all<R: Threads + Wait + AllocGlobal + Sync, FS: Filesystem, S: Source,
 }
 
 /// What is left of a run, after a handshake with these counts. Its memory is let go.
-fn conclude<S: Source, K: Sink>(shaken: Transcript, run: RunEnd<S, K>) -> Served<S, K>
+fn conclude<S: Source, K: Sink>(shaken: Transcript, run: RunEnd<S, K>) -> ServedRun<S, K>
     ensures outcome { result.outcome ≡ run_outcome run.end }
     ensures transcript { result.transcript ≡ added shaken run.transcript }
     ensures devices { (result.source ≡ run.source) × (result.sink ≡ run.sink) }
@@ -95,7 +95,7 @@ fn conclude<S: Source, K: Sink>(shaken: Transcript, run: RunEnd<S, K>) -> Served
         buffers,
     } = run;
     drop(buffers);
-    Served {
+    ServedRun {
         outcome: run_outcome(end),
         transcript: shaken.and(transcript),
         source,
@@ -112,10 +112,10 @@ fn serve<R: Threads + Wait + AllocGlobal + Sync, FS: Filesystem, S: Source, K: S
     source: S,
     sink: K,
     buffers: Buffers,
-) -> Served<S, K>
+) -> ServedRun<S, K>
     requires unused { IsUnused buffers }
     requires shaken { shaken.unrecorded ≡ 0 }
-    ensures ends { (unasked : List (List ℕ)) × Ends FS.promise shared.now.service.handler.filesystem
+    ensures ends { (unasked : List (List ℕ)) × LaterServed FS.promise shared.now.service.handler.filesystem
         shared.now.service.rule.acl shared.now.service.rule.owner n_threads result.outcome
         (progress (S.told source) (K.told sink) shaken [])
         (progress (S.told result.source) (K.told result.sink) result.transcript unasked) }
@@ -123,7 +123,7 @@ fn serve<R: Threads + Wait + AllocGlobal + Sync, FS: Filesystem, S: Source, K: S
 {
     if n_threads == Some(0) {
         drop(buffers);
-        return Served {
+        return ServedRun {
             outcome: Err(SessionError::Threads),
             transcript: shaken,
             source,
@@ -147,7 +147,7 @@ impl<FS: Filesystem, S: Source, K: Sink + Send> Runnable<FS, S, K> {
             lines,
         } = self;
         let (source, sink, buffers, shaken) = channel.close(lines);
-        let Served {
+        let ServedRun {
             outcome,
             transcript,
             source,

@@ -2,7 +2,7 @@
 use Rattle.std.proofs.Common.{◌≡◌, ◌∙◌, ◌+◌, ◌++◌, ℕ, List, [], ◌∷◌, Err, ap, arith, length, length-append, map, refl, subst, sym, take}
 use Rattle.std.proofs.lemmas.List.{map-append}
 use Rattle.fuse_wire.specs.Faults.{counted}
-use Rattle.fuse_wire.specs.Source.{message, NothingLeft, Failed as SourceFailed}
+use Rattle.fuse_wire.specs.Source.{message, NothingLeft, SourceFailed}
 use Rattle.fuse_wire.proofs.Devices.{Takes-none, Takes-then}
 use Rattle.fuse_wire.specs.declared.newtypes.RequestId.{RequestId}
 use Rattle.fuse_header.specs.Header.{header}
@@ -11,12 +11,12 @@ use Rattle.fuse_sender.specs.Hearing.{HearsLast, HearsOn, StopsWith}
 use Rattle.fuse_loop.specs.Incoming.{id_of, incoming}
 use Rattle.fuse_loop.specs.Incoming.Incoming.{Destroy as IsDestroy, Request}
 use Rattle.fuse_core.specs.OneEach.{number_of}
-use Rattle.fuse_loop.specs.Progress.{IntakeState, Receives}
+use Rattle.fuse_loop.specs.Progress.{IntakeState, TakesIn}
 use Rattle.fuse_sender.specs.declared.stopped.Stopped.{Stopped}
 use Rattle.fuse_sender.specs.declared.stopped.Stopped.TheVariants.{Gone, Destroy, Broken, Failed}
 use Rattle.fuse_loop.specs.declared.taken.Taken.TheVariants.{Message, Gone as NoneLeft, Failed as NoneCame}
 use Rattle.fuse_loop.proofs.ItemLists.{All-append}
-use Rattle.fuse_loop.proofs.Taking.{Begins-none, Begins-from_takes, Begins-after, Failed-after}
+use Rattle.fuse_loop.proofs.Taking.{Begins-none, Begins-from_takes, Begins-after, SourceFailed-after}
 
 -- nothing was taken yet
 pub HearsOn-none : (a : IntakeState) → HearsOn [] a a
@@ -33,7 +33,7 @@ received-one : (n : ℕ) (a b : IntakeState) → b.received ≡ counted a.receiv
 received-one n a b one is = omega (arith, one, is)
 
 -- one request was taken
-pub HearsOn-one : (count : ℕ) (a b : IntakeState) → Receives (Message count) a b → incoming (take count b.buffer) ≡ Request
+pub HearsOn-one : (count : ℕ) (a b : IntakeState) → TakesIn (Message count) a b → incoming (take count b.buffer) ≡ Request
     → (m : List ℕ) → m ≡ take count b.buffer → HearsOn (m ∷ []) a b
 HearsOn-one count a b received goes m is = record {
   turns = received.0.turn ∷ [];
@@ -55,7 +55,7 @@ HearsOn-then ms more a b c first second = record {
 }
 
 -- no message was left
-pub HearsLast-gone : (number : ℕ) (a b : IntakeState) → Receives NoneLeft a b → HearsLast Gone number [] a b
+pub HearsLast-gone : (number : ℕ) (a b : IntakeState) → TakesIn NoneLeft a b → HearsLast Gone number [] a b
 HearsLast-gone number a b gone = record {
   turns = [];
   last = [];
@@ -68,7 +68,7 @@ HearsLast-gone number a b gone = record {
 }
 
 -- the source failed
-pub HearsLast-failed : (number : ℕ) (a b : IntakeState) → Receives NoneCame a b → HearsLast Failed number [] a b
+pub HearsLast-failed : (number : ℕ) (a b : IntakeState) → TakesIn NoneCame a b → HearsLast Failed number [] a b
 HearsLast-failed number a b failed = record {
   turns = [];
   last = [];
@@ -81,7 +81,7 @@ HearsLast-failed number a b failed = record {
 }
 
 -- a last message was taken
-last-taken : (stopped : Stopped) (number n : ℕ) (a b : IntakeState) (received : Receives (Message n) a b)
+last-taken : (stopped : Stopped) (number n : ℕ) (a b : IntakeState) (received : TakesIn (Message n) a b)
     → StopsWith stopped number (message received.0.turn ∷ []) (NothingLeft b.source) (SourceFailed a.source b.source)
     → HearsLast stopped number [] a b
 last-taken stopped number n a b received stops = record {
@@ -96,14 +96,14 @@ last-taken stopped number n a b received stops = record {
 }
 
 -- a message without a good header
-pub HearsLast-broken : (number n : ℕ) (e : RequestError) (a b : IntakeState) → Receives (Message n) a b → header (take n b.buffer) ≡ Err e
+pub HearsLast-broken : (number n : ℕ) (e : RequestError) (a b : IntakeState) → TakesIn (Message n) a b → header (take n b.buffer) ≡ Err e
     → HearsLast (Broken e) number [] a b
 HearsLast-broken number n e a b received broken =
     last-taken (Broken e) number n a b received
     (message received.0.turn, refl, subst (λ (m : List ℕ). header m ≡ Err e) received.0.bytes broken)
 
 -- DESTROY
-pub HearsLast-destroy : (seq n : ℕ) (id : RequestId) (a b : IntakeState) → Receives (Message n) a b → incoming (take n b.buffer) ≡ IsDestroy
+pub HearsLast-destroy : (seq n : ℕ) (id : RequestId) (a b : IntakeState) → TakesIn (Message n) a b → incoming (take n b.buffer) ≡ IsDestroy
     → id.0 ≡ id_of (take n b.buffer) → HearsLast (Destroy seq id) seq [] a b
 HearsLast-destroy seq n id a b received is id_is =
     last-taken (Destroy seq id) seq n a b received (
@@ -135,7 +135,7 @@ HearsLast-then stopped number ms a b c first stop = record {
   taken = λ other. Takes-then first.turns stop.turns a.source b.source c.source first.taken (stop.taken other);
   received = λ n is. stop.received (n + length first.turns) (first.received n is) ∙ ap number_of (omega (arith, length-append first.turns stop.turns));
   stops = StopsWith-after stopped number stop.last (NothingLeft c.source) (SourceFailed b.source c.source) (SourceFailed a.source c.source)
-      (Failed-after a.source b.source c.source first.taken.faults) stop.stops;
+      (SourceFailed-after a.source b.source c.source first.taken.faults) stop.stops;
 }
 
 -- with the same last message

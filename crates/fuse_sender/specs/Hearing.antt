@@ -1,6 +1,6 @@
 -- What whoever takes messages for workers has taken, and why no more are.
 use Rattle.std.specs.Prelude.{◌≡◌, ◌≢◌, ◌+◌, ◌++◌, ℕ, List, [], ◌∷◌, length, map}
-use Rattle.fuse_wire.specs.Source.{Takes, message, NothingLeft, Failed as SourceFailed}
+use Rattle.fuse_wire.specs.Source.{Takes, message, NothingLeft, SourceFailed}
 use Rattle.fuse_loop.specs.Incoming.{AllGoOn, HeaderRefused, id_of, incoming}
 use Rattle.fuse_loop.specs.Incoming.Incoming.{Destroy as IsDestroy}
 use Rattle.fuse_core.specs.OneEach.{number_of}

@@ -4,7 +4,7 @@ use Rattle.std.proofs.Common.{false, Option, None, Some, option_map, IfSome, Res
 use Rattle.std.specs.Prelude.{if◌then◌else◌, nat_lt, ◌==◌, ◌&&◌, ◌||◌}
 use Rattle.std.proofs.lemmas.List.{map-append}
 use Rattle.fuse_wire.specs.Faults.{last_count}
-use Rattle.fuse_wire.specs.Source.{SourceState, Takes, message, NothingLeft, Failed as SourceFailed}
+use Rattle.fuse_wire.specs.Source.{SourceState, Takes, message, NothingLeft, SourceFailed}
 use Rattle.fuse_config.specs.Values.{Configuration}
 use Rattle.fuse_config.specs.Configuration.{start}
 use Rattle.fuse_args.specs.declared.fixed.InitArguments.{InitArguments}

@@ -2,7 +2,7 @@
 use Rattle.std.proofs.Common.{◌≡◌, ◌≢◌, ◌++◌, ℕ, List, [], ◌∷◌, sym, ◌∙◌, ap, subst}
 use Rattle.std.proofs.Common.{refl, map, Option, Some, Err, inl, inr, append-nil}
 use Rattle.std.proofs.lemmas.List.{map-append}
-use Rattle.fuse_wire.specs.Source.{Takes, message, NothingLeft, Failed as SourceFailed}
+use Rattle.fuse_wire.specs.Source.{Takes, message, NothingLeft, SourceFailed}
 use Rattle.fuse_wire.proofs.Devices.{Takes-then}
 use Rattle.fuse_reply.specs.declared.out.Out.TheVariants.{Frame}
 use Rattle.fuse_loop.specs.Incoming.{Incoming, EndsAfter, EndsWell, AllGoOn, incoming}
@@ -23,7 +23,7 @@ use Rattle.fuse_handshake.specs.declared.greeting.HandshakeError.{HandshakeError
 use Rattle.fuse_handshake.specs.declared.greeting.HandshakeError.TheVariants as refusal
 use Rattle.fuse_handshake.specs.declared.steps.HandshakeOutcome.{HandshakeOutcome}
 use Rattle.fuse_handshake.specs.declared.steps.HandshakeOutcome.TheVariants as outcome
-use Rattle.fuse_loop.proofs.Taking.{Begins-after, Failed-after}
+use Rattle.fuse_loop.proofs.Taking.{Begins-after, SourceFailed-after}
 use Rattle.fuse_loop.proofs.Moving.{moves-then}
 
 -- messages after which the run goes on, and then others
@@ -152,7 +152,7 @@ Exchange-ran {F} {setup} {fs} {fs1} {end} {p} {q} {r} some shook run = record {
     missed = refl;
     ended = ended-run end setup.threads shook.end run.answered run.refused
         (NothingLeft r.source) (SourceFailed q.source r.source)
-        (SourceFailed p.source r.source) (shook.ended, some) (Failed-after p.source q.source r.source took.faults) run.ended;
+        (SourceFailed p.source r.source) (shook.ended, some) (SourceFailed-after p.source q.source r.source took.faults) run.ended;
   };
   begins = Begins-after shook.turns run.turns p.source q.source took run.begins;
   taken = λ other. Takes-then shook.turns run.turns p.source q.source r.source took (run.taken (λ is. other (ap run_outcome is)));

@@ -3,7 +3,7 @@ use Rattle.std.proofs.Common.{◌≡◌, ◌+◌, ◌≤◌, ◌++◌, ℕ, List
 use Rattle.std.proofs.Common.{subst, arith, map, length, length-append, Ok, inl, inr, min, append-nil, not}
 use Rattle.std.proofs.lemmas.List.{length-map, nil_from_length}
 use Rattle.fuse_wire.specs.Faults.{last_count}
-use Rattle.fuse_wire.specs.Source.{Takes, message, NothingLeft, Failed as SourceFailed}
+use Rattle.fuse_wire.specs.Source.{Takes, message, NothingLeft, SourceFailed}
 use Rattle.fuse_wire.specs.Sink.{Note}
 use Rattle.fuse_reply.specs.declared.out.Out.{Out}
 use Rattle.fuse_reply.specs.declared.out.Out.TheVariants.{Frame}

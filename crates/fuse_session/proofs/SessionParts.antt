@@ -13,7 +13,7 @@ use Rattle.fuse_dispatch.specs.Owed.{Owed}
 use Rattle.fuse_core.specs.OneEach.{Accounting}
 use Rattle.fuse_loop.specs.Progress.{Progress, nothing_yet, progress}
 use Rattle.fuse_dispatch.specs.Promise.{Promise}
-use Rattle.fuse_run.specs.Ran.{Ends, Opened, Ran}
+use Rattle.fuse_run.specs.Ran.{LaterServed, Opened, Ran}
 use Rattle.fuse_session.specs.Session.{EndsRun, IsOpened, OpensNone, setup_for}
 use Rattle.fuse_run.specs.declared.error.SessionError.TheVariants.{Threads}
 use Rattle.fuse_loop.specs.declared.end.End.{End}
@@ -29,7 +29,7 @@ use Rattle.fuse_session.proofs.Headlining.{Headline-from_exchange, LaterHeadline
 -- a handshake that was accepted and a run after it are a session
 pub Exchange-opened : {F : Type 0} (promise : Promise F) (page : ℕ) (fs : F) (source : SourceState) (sink : SinkState) (session : Opened F)
     (outcome : Outcome) (after : Progress) → IsOpened promise page fs source sink session
-    → Ends promise session.filesystem session.acl session.owner session.threads outcome session.progress after
+    → LaterServed promise session.filesystem session.acl session.owner session.threads outcome session.progress after
     → Exchange (setup_for promise page session) fs session.filesystem outcome (progress source sink nothing_yet []) after
 Exchange-opened {F} promise page fs source sink session outcome after opened (inl none) =
     subst (λ (p : Progress). Exchange (setup_for promise page session) fs session.filesystem outcome (progress source sink nothing_yet []) p)
@@ -99,7 +99,7 @@ pub Ok-from_run : {F : Type 0} (promise : Promise F) (session : Opened F) (fs' :
 Ok-from_run promise session fs' outcome source' sink' counts ran well =
     by_end ran.ends
   where
-    by_end : Ends promise session.filesystem session.acl session.owner session.threads outcome session.progress
+    by_end : LaterServed promise session.filesystem session.acl session.owner session.threads outcome session.progress
         (progress source' sink' counts ran.unasked) → outcome ≡ Ok tt
     by_end (inl none) = absurd (well.served none.0)
     by_end (inr some) =
@@ -119,7 +119,7 @@ pub EndsRun-ran : {F : Type 0} {promise : Promise F} {session : Opened F} {fs' :
 EndsRun-ran {F} {promise} {session} {fs'} {outcome} {source'} {sink'} {counts} ran =
     by_end ran.ends
   where
-    by_end : Ends promise session.filesystem session.acl session.owner session.threads outcome session.progress
+    by_end : LaterServed promise session.filesystem session.acl session.owner session.threads outcome session.progress
         (progress source' sink' counts ran.unasked) → EndsRun outcome
     by_end (inl none) = subst (λ (o : Outcome). EndsRun o) (sym none.1) tt
     by_end (inr some) = subst (λ (o : Outcome). EndsRun o) (sym some.1.1) (ends_run-outcome some.1.0)
@@ -136,7 +136,7 @@ pub Threads-ran : {F : Type 0} {promise : Promise F} {session : Opened F} {fs' :
 Threads-ran {F} {promise} {session} {fs'} {outcome} {source'} {sink'} {counts} ran =
     by_end ran.ends
   where
-    by_end : Ends promise session.filesystem session.acl session.owner session.threads outcome session.progress
+    by_end : LaterServed promise session.filesystem session.acl session.owner session.threads outcome session.progress
         (progress source' sink' counts ran.unasked) → (outcome ≡ Err Threads) ↔ (session.threads ≡ Some 0)
     by_end (inl none) = (λ _. none.0, λ _. none.1)
     by_end (inr some) = (λ is. absurd (not_threads-outcome some.1.0 (sym some.1.1 ∙ is)), λ is. absurd (some.0 is))

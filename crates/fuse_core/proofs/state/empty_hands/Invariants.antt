@@ -1,5 +1,5 @@
 use Rattle.std.proofs.Common.{◌≡◌, replicate}
-use Rattle.fuse_core.specs.declared.state.Hand.TheVariants.{Empty}
+use Rattle.fuse_core.specs.declared.state.WorkerHand.TheVariants.{Empty}
 use Rattle.fuse_core.proofs.state.empty_hands.Given as goal
 
 abbrev pub invariant-loop-worker : goal.invariant-loop-worker

@@ -7,7 +7,7 @@ use Rattle.fuse_reply.specs.declared.out.Out.{Out}
 use Rattle.fuse_reply.specs.declared.out.Out.TheVariants.{Frame}
 use Rattle.fuse_reply.specs.declared.parcel.Parcel.{Parcel}
 use Rattle.fuse_reply.specs.declared.parcel.Parcel.TheVariants.{Prompt}
-use Rattle.fuse_wire.specs.Source.{NothingLeft, Failed as SourceFailed}
+use Rattle.fuse_wire.specs.Source.{NothingLeft, SourceFailed}
 use Rattle.fuse_sender.specs.HandingOn.{answered_last}
 use Rattle.fuse_sender.specs.Hearing.{StopsWith}
 use Rattle.fuse_loop.specs.Incoming.{id_of}

@@ -3,8 +3,8 @@ use Rattle.fuse_wire.specs.Source.{SourceState}
 use Rattle.fuse_wire.specs.Sink.{SinkState}
 use Rattle.fuse_wire.specs.ByteSource.{ByteSourceState}
 use Rattle.fuse_wire.specs.ByteSink.{ByteSinkState}
-use Rattle.fuse_wire.specs.StreamSource.{stream_told}
-use Rattle.fuse_wire.specs.StreamSink.{Stands, stream_told as sink_told}
+use Rattle.fuse_wire.specs.StreamSource.{stream_source_told}
+use Rattle.fuse_wire.specs.StreamSink.{Stands, stream_sink_told}
 use Rattle.fuse_session.specs.Complete.{SessionWell}
 use Rattle.fuse_session.specs.Exchange.{Mounted}
 use Rattle.fuse_session.specs.Headline.{Headline, Lossless}
@@ -36,13 +36,13 @@ last_out g c = g.O.ByteSink.told c.into_inner-2.result
 -- what the sink tells at last
 abbrev sink_at : (g : Over) → goal.After-drop-config g → SinkState
 sink_at g c =
-    let m = c.mount-source.result in sink_told (g.O.ByteSink.told m.sink.origin.value) (g.O.ByteSink.told m.sink.inner) m.sink.broken m.sink.refused
+    let m = c.mount-source.result in stream_sink_told (g.O.ByteSink.told m.sink.origin.value) (g.O.ByteSink.told m.sink.inner) m.sink.broken m.sink.refused
 
 -- what holds of the streams that were mounted holds of what the program was given and hands back
 over_streams : (g : Over) (c : goal.After-drop-config g) (P : SourceState → SourceState → SinkState → Type 0)
-    → P (stream_told (g.I.ByteSource.told c.new.result.inner)) (stream_told (g.I.ByteSource.told c.mount-source.result.source.inner))
-    (sink_told (g.O.ByteSink.told c.new-2.result.origin.value) (g.O.ByteSink.told c.new-2.result.inner) c.new-2.result.broken c.new-2.result.refused)
-    → P (stream_told (first_in g c)) (stream_told (last_in g c)) (sink_told (first_out g c) (first_out g c) false 0)
+    → P (stream_source_told (g.I.ByteSource.told c.new.result.inner)) (stream_source_told (g.I.ByteSource.told c.mount-source.result.source.inner))
+    (stream_sink_told (g.O.ByteSink.told c.new-2.result.origin.value) (g.O.ByteSink.told c.new-2.result.inner) c.new-2.result.broken c.new-2.result.refused)
+    → P (stream_source_told (first_in g c)) (stream_source_told (last_in g c)) (stream_sink_told (first_out g c) (first_out g c) false 0)
 over_streams g c P p =
     let told_in = g.I.ByteSource.told in
     carried P _ _ _ _ _ _ (source-same told_in c.new.result.inner c.args.input c.new.ensures)
