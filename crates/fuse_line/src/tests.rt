@@ -285,38 +285,50 @@ fn rests_until<R: Wait>(rt: &R, mut waiting: Waiting<'_>, stop: &AtomicBool) -> 
     rests
 }
 
-// Of two that sleep the push wakes one, which sleeps again, and the flag wakes both. So they come to sleep three times, and
+// Where those sleep that wait for an item, or for a place.
+fn gate_of(line: &Line<Item>, for_item: bool) -> &Gate {
+    if for_item { &line.items } else { &line.places }
+}
+
+// Of two that sleep a move wakes one, which sleeps again, and the flag wakes both. So they come to sleep three times, and
 // each time it is the rest after the one that makes them be counted.
 #[test]
-fn a_push_wakes_one_and_a_flag_wakes_all(rt: HostRuntime) {
-    let (line, mut pass) = line_of(&rt, 1);
-    let stop = AtomicBool::new(false);
-    let (found, (first, second)): ([bool; 3], (u64, u64)) = thread::join(
-        &rt,
-        ||
-            requires { (pass.line ≡ line) × (pass.hand.kind ≡ First) }
-        {
-            let slept = sleep_at(&rt, &line.items, 2);
-            let pushed = line.push(&rt, &mut pass, job(1)).is_ok();
-            let sleep_again = sleep_at(&rt, &line.items, 2);
-            stop.store(true, Ordering::SeqCst);
-            line.wake();
-            [slept, pushed, sleep_again]
-        },
-        || {
-            thread::join(
-                &rt,
-                || rests_until(&rt, line.wait_for_item(), &stop),
-                || rests_until(&rt, line.wait_for_item(), &stop),
-            )
-        },
-    );
-    let until_counted = line
-        .items
-        .rests_until_counted(&rt, &mut line.wait_for_item());
-    let rests = first.wrapping_add(second);
-    let at_most = u64::from(until_counted).wrapping_add(1).wrapping_mul(3);
-    expect_same(&rt, &(found, rests <= at_most), &([true; 3], true));
+fn a_move_wakes_one_and_a_flag_wakes_all(rt: HostRuntime) {
+    for for_item in [true, false] {
+        let (line, mut pass) = line_of(&rt, 1);
+        let gate = gate_of(&line, for_item);
+        let filled = for_item || line.push(&rt, &mut pass, job(1)).is_ok();
+        let stop = AtomicBool::new(false);
+        let (found, (first, second)): ([bool; 3], (u64, u64)) = thread::join(
+            &rt,
+            ||
+                requires { (pass.line ≡ line) × (pass.hand.kind ≡ First) }
+            {
+                let slept = sleep_at(&rt, gate, 2);
+                let moved = if for_item {
+                    line.push(&rt, &mut pass, job(1)).is_ok()
+                } else {
+                    line.pop(&rt, &mut pass).is_some()
+                };
+                let sleep_again = sleep_at(&rt, gate, 2);
+                stop.store(true, Ordering::SeqCst);
+                line.wake();
+                [slept, moved, sleep_again]
+            },
+            || {
+                thread::join(
+                    &rt,
+                    || rests_until(&rt, gate.wait(), &stop),
+                    || rests_until(&rt, gate.wait(), &stop),
+                )
+            },
+        );
+        let until_counted = gate.rests_until_counted(&rt, &mut gate.wait());
+        let rests = first.wrapping_add(second);
+        let at_most = u64::from(until_counted).wrapping_add(1).wrapping_mul(3);
+        let found = (for_item, filled, found, rests <= at_most);
+        expect_same(&rt, &found, &(for_item, true, [true; 3], true));
+    }
 }
 
 // The gate counts its wakes in 64 bits, and a thread sleeps on 32 of them.
@@ -348,8 +360,8 @@ fn wakes(line: &Line<Item>) -> (u64, u64) {
 }
 
 #[test]
-fn a_move_wakes_and_a_refusal_does_not(rt: HostRuntime) {
-    let (line, mut pass) = line_of(&rt, 1);
+fn each_move_wakes_and_a_refusal_does_not(rt: HostRuntime) {
+    let (line, mut pass) = line_of(&rt, 2);
     let mut for_item = line.wait_for_item();
     line.items.rests_until_counted(&rt, &mut for_item);
     let mut for_place = line.wait_for_place();
@@ -357,15 +369,19 @@ fn a_move_wakes_and_a_refusal_does_not(rt: HostRuntime) {
     let found = [
         (line.push(&rt, &mut pass, job(1)).is_ok(), wakes(&line)),
         (line.push(&rt, &mut pass, job(2)).is_ok(), wakes(&line)),
+        (line.push(&rt, &mut pass, job(3)).is_ok(), wakes(&line)),
+        (line.pop(&rt, &mut pass).is_some(), wakes(&line)),
         (line.pop(&rt, &mut pass).is_some(), wakes(&line)),
         (line.pop(&rt, &mut pass).is_some(), wakes(&line)),
     ];
     line.wake();
     let expected = [
         (true, (1, 0)),
-        (false, (1, 0)),
-        (true, (1, 1)),
-        (false, (1, 1)),
+        (true, (2, 0)),
+        (false, (2, 0)),
+        (true, (2, 1)),
+        (true, (2, 2)),
+        (false, (2, 2)),
     ];
-    expect_same(&rt, &(found, wakes(&line)), &(expected, (2, 2)));
+    expect_same(&rt, &(found, wakes(&line)), &(expected, (3, 3)));
 }

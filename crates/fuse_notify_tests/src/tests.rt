@@ -44,14 +44,19 @@ enum News {
     Delete(&'static [u8]),
 }
 
-/// The five, in the order of their codes, that of a range twice, and what comes of each at a sink that is absent.
+/// The five, in the order of their codes, with ranges, names and data of several kinds, and what comes of each at a sink
+/// that is absent.
 const EACH: &[(News, Result<(), Undelivered>)] = &[
     (News::Poll, Err(Undelivered::Absent)),
     (News::InvalInode(FROM, LENGTH), Ok(())),
     (News::InvalInode(-1, -2), Ok(())),
+    (News::InvalInode(0, 0), Ok(())),
     (News::InvalEntry(b"abc"), Ok(())),
+    (News::InvalEntry(b""), Ok(())),
     (News::Store(&[0xde, 0xad, 0xbe, 0xef]), Ok(())),
+    (News::Store(&[]), Ok(())),
     (News::Delete(b"abc"), Ok(())),
+    (News::Delete(b""), Ok(())),
 ];
 
 const POLL: &[u8] = &[
@@ -73,11 +78,25 @@ const NEGATIVE_RANGE: &[u8] = &[
     0xfe, 0xff, 0xff, 0xff, 0xff, 0xff, 0xff, 0xff, // len
 ];
 
+/// All bytes of a file.
+const WHOLE: &[u8] = &[
+    0x28, 0, 0, 0, 2, 0, 0, 0, 0, 0, 0, 0, 0, 0, 0, 0, // header
+    0x88, 0x87, 0x86, 0x85, 0x84, 0x83, 0x82, 0x91, // ino
+    0, 0, 0, 0, 0, 0, 0, 0, 0, 0, 0, 0, 0, 0, 0, 0, // off, len
+];
+
 const INVAL_ENTRY: &[u8] = &[
     0x24, 0, 0, 0, 3, 0, 0, 0, 0, 0, 0, 0, 0, 0, 0, 0, // header
     0x88, 0x87, 0x86, 0x85, 0x84, 0x83, 0x82, 0x91, // parent
     3, 0, 0, 0, 0, 0, 0, 0, // namelen
     0x61, 0x62, 0x63, 0, // name
+];
+
+const NO_ENTRY: &[u8] = &[
+    0x21, 0, 0, 0, 3, 0, 0, 0, 0, 0, 0, 0, 0, 0, 0, 0, // header
+    0x88, 0x87, 0x86, 0x85, 0x84, 0x83, 0x82, 0x91, // parent
+    0, 0, 0, 0, 0, 0, 0, 0, // namelen
+    0, // name
 ];
 
 const STORE: &[u8] = &[
@@ -88,6 +107,13 @@ const STORE: &[u8] = &[
     0xde, 0xad, 0xbe, 0xef,
 ];
 
+const NO_DATA: &[u8] = &[
+    0x28, 0, 0, 0, 4, 0, 0, 0, 0, 0, 0, 0, 0, 0, 0, 0, // header
+    0x88, 0x87, 0x86, 0x85, 0x84, 0x83, 0x82, 0x91, // nodeid
+    0xb8, 0xb7, 0xb6, 0xb5, 0xb4, 0xb3, 0xb2, 0xb1, // offset
+    0, 0, 0, 0, 0, 0, 0, 0, // size
+];
+
 const DELETE: &[u8] = &[
     0x2c, 0, 0, 0, 6, 0, 0, 0, 0, 0, 0, 0, 0, 0, 0, 0, // header
     0x88, 0x87, 0x86, 0x85, 0x84, 0x83, 0x82, 0x91, // parent
@@ -96,17 +122,29 @@ const DELETE: &[u8] = &[
     0x61, 0x62, 0x63, 0, // name
 ];
 
+const NO_CHILD: &[u8] = &[
+    0x29, 0, 0, 0, 6, 0, 0, 0, 0, 0, 0, 0, 0, 0, 0, 0, // header
+    0x88, 0x87, 0x86, 0x85, 0x84, 0x83, 0x82, 0x91, // parent
+    0xa8, 0xa7, 0xa6, 0xa5, 0xa4, 0xa3, 0xa2, 0xa1, // child
+    0, 0, 0, 0, 0, 0, 0, 0, // namelen
+    0, // name
+];
+
 /// How long frames are, and what they begin with.
 type Frames = &'static [(usize, &'static [u8])];
 
-/// The frames of the five.
+/// Their frames.
 const FRAMES: Frames = &[
     (24, POLL),
     (40, INVAL_INODE),
     (40, NEGATIVE_RANGE),
+    (40, WHOLE),
     (36, INVAL_ENTRY),
+    (33, NO_ENTRY),
     (44, STORE),
+    (40, NO_DATA),
     (44, DELETE),
+    (41, NO_CHILD),
 ];
 
 /// The notice of this.
@@ -366,9 +404,13 @@ const QUEUED: &[Step] = &[
     Step::Notify(News::Poll, Ok(())),
     Step::Notify(News::InvalInode(FROM, LENGTH), Ok(())),
     Step::Notify(News::InvalInode(-1, -2), Ok(())),
+    Step::Notify(News::InvalInode(0, 0), Ok(())),
     Step::Notify(News::InvalEntry(b"abc"), Ok(())),
+    Step::Notify(News::InvalEntry(b""), Ok(())),
     Step::Notify(News::Store(&[0xde, 0xad, 0xbe, 0xef]), Ok(())),
+    Step::Notify(News::Store(&[]), Ok(())),
     Step::Notify(News::Delete(b"abc"), Ok(())),
+    Step::Notify(News::Delete(b""), Ok(())),
     Step::Drain(FRAMES),
 ];
 
@@ -438,7 +480,7 @@ const LONG: &[Step] = &[
 fn a_line_takes_notices_while_it_has_room(rt: HostRuntime) {
     let prompt = Parcel::Prompt(0, Out::note(RequestId(2), 3));
     expect_same(&rt, &prompt.inner(), &true);
-    take_all(&rt, 8, QUEUED);
+    take_all(&rt, 10, QUEUED);
     take_all(&rt, 65_536, QUEUED);
     take_all(&rt, 1, REFUSED);
     take_all(&rt, 1, &[Step::Poll]);

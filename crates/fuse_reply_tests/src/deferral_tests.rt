@@ -148,6 +148,7 @@ fn a_reply_without_a_door_comes_back(rt: HostRuntime) {
         put_off(&rt, starved),
     ];
     expect_same(&rt, &found, &[Err(NoDoor::Shut), Err(NoDoor::Starved)]);
+    expect_same(&rt, &(NoDoor::Shut == NoDoor::Starved), &false);
 }
 
 /// The number and id of the late frame that waits, and whether it counts as an inner item.

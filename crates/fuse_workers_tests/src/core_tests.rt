@@ -3,7 +3,7 @@ use crate::asserts::expect_same;
 use fuse_loop::{Doors, Ending, RunLine};
 use fuse_reply::{LateFrame, NoticeFrame, Out, Parcel, ReplyData, ReplyEmpty};
 use fuse_wire::{Errno, Items, PollHandle, RequestId};
-use fuse_workers::{Event, State, run, step};
+use fuse_workers::{Event, Mark, State, run, step};
 use std::process::Abort;
 use std::sync::Wait;
 
@@ -70,12 +70,12 @@ fn tag_of(letter: u8) -> (u64, RequestId) {
     }
 }
 
-/// What goes out by a letter: a mark, or of `a`, `A` and `o` the reply that the message failed, of `w` one of many bytes,
-/// and of `i` a note.
+/// What goes out by a letter: a mark, or of `a`, `A`, `o` and `c` the reply that the message failed, of `w` one of many
+/// bytes, and of `i` a note.
 fn out_of<R: AllocGlobal>(rt: &R, letter: u8) -> Out {
     let (seq, id) = tag_of(letter);
     match letter {
-        b'a' | b'A' | b'o' => ReplyEmpty::new(rt.alloc(), id)
+        b'a' | b'A' | b'o' | b'c' => ReplyEmpty::new(rt.alloc(), id)
             .error(Errno::ENOENT)
             .into_out(),
         b'w' => ReplyData::new(rt.alloc(), id).data(&[7; 200]).into_out(),
@@ -125,13 +125,19 @@ fn step_of<R: AllocGlobal>(rt: &R, workers: usize, letter: u8) -> Event {
     }
 }
 
+/// A message without a byte.
+fn nothing<R: AllocGlobal>(rt: &R) -> Items<u8> {
+    Items::from_vec(Vec::new(rt.alloc()))
+}
+
 /// The event that a letter stands for, with so many workers.
 fn event<R: Wait + AllocGlobal + Abort>(rt: &R, workers: usize, letter: u8) -> Event {
     let (seq, id) = tag_of(letter);
     match letter {
         b'r' => Event::Receive(message(rt)),
+        b'v' => Event::Receive(nothing(rt)),
         b'o' | b'm' => Event::Own(message(rt), out_of(rt, letter)),
-        b'b' => Event::Own(Items::from_vec(Vec::new(rt.alloc())), out_of(rt, letter)),
+        b'b' | b'c' => Event::Own(nothing(rt), out_of(rt, letter)),
         b'l' | b'L' | b'M' => Event::Late(late(rt, seq, id).expect(rt, "the frame waits")),
         b'n' => Event::Notify(notice(rt).expect(rt, "the notice waits")),
         _ => step_of(rt, workers, letter),
@@ -177,11 +183,25 @@ const PROMPT: &[Row] = &[
     ("o", Some([1, 0, 1, 0, 0, 0, 0])),
     ("rotaps", Some([2, 0, 1, 1, 0, 0, 0])),
     ("b", None),
+    ("c", Some([1, 0, 1, 0, 0, 0, 0])),
+    ("vtaps", Some([1, 0, 0, 1, 0, 0, 0])),
+    ("vtd", None),
     ("rtips", Some([1, 0, 0, 1, 0, 0, 0])),
     ("rtwps", Some([1, 0, 0, 1, 0, 0, 0])),
     ("n", Some([0, 0, 1, 0, 0, 0, 0])),
     ("ns", Some([0, 0, 0, 0, 0, 0, 0])),
     ("rtapns", Some([1, 0, 1, 1, 0, 0, 0])),
+];
+
+/// No worker.
+const NOBODY: &[Row] = &[
+    ("", Some([0, 0, 0, 0, 0, 0, 0])),
+    ("r", Some([1, 1, 0, 0, 0, 0, 0])),
+    ("rt", None),
+    ("a", None),
+    ("x", None),
+    ("p", None),
+    ("osns", Some([1, 0, 0, 1, 0, 0, 0])),
 ];
 
 /// Two workers, or the first and the last of more.
@@ -309,6 +329,7 @@ fn events_happen_where_they_may(rt: HostRuntime) {
     expect_rows(&rt, 1, PROMPT);
     expect_rows(&rt, 1, MARKS);
     expect_rows(&rt, 1, LATE);
+    expect_rows(&rt, 0, NOBODY);
     expect_rows(&rt, 2, TWO);
     expect_rows(&rt, 64, TWO);
 }
@@ -344,4 +365,22 @@ fn a_line_has_64_places(rt: HostRuntime) {
         );
         expect_same(&rt, &found, &(seen_by(counts), None));
     }
+}
+
+/// Whether the mark of this number and id is that of the number 1 and the id 2.
+fn is_the_mark(seq: u64, id: u64) -> bool {
+    let mark = Mark {
+        seq,
+        id: RequestId(id),
+    };
+    mark == Mark {
+        seq: 1,
+        id: RequestId(2),
+    }
+}
+
+#[test]
+fn marks_are_equal_where_number_and_id_are(rt: HostRuntime) {
+    let found = [is_the_mark(1, 2), is_the_mark(0, 2), is_the_mark(1, 3)];
+    expect_same(&rt, &found, &[true, false, false]);
 }

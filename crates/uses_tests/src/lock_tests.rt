@@ -41,6 +41,35 @@ const THIRD_WRITES: Bytes = (48, &[(8, 0x72), (15, 0x11), (32, F_WRLCK)], b"");
 
 const THIRD_READS: Bytes = (48, &[(8, 0x72), (15, 0x11), (32, F_RDLCK)], b"");
 
+// The same with a file handle, a range and a process, and of another file: it is the one lock.
+const OTHER_WRITES_ELSEWHERE: Bytes = (
+    48,
+    &[
+        (0, 0x71),
+        (8, 0x71),
+        (15, 0x12),
+        (16, 5),
+        (24, 9),
+        (32, F_WRLCK),
+        (36, 7),
+    ],
+    b"",
+);
+
+const ONE_UNLOCKS_ELSEWHERE: Bytes = (
+    48,
+    &[
+        (0, 0x72),
+        (8, 0x71),
+        (15, 0x11),
+        (16, 5),
+        (24, 9),
+        (32, F_UNLCK),
+        (36, 7),
+    ],
+    b"",
+);
+
 // `struct fuse_flush_in` of the one and of the other.
 const ONE_CLOSES: Bytes = (24, &[(16, 0x71), (23, 0x11)], b"");
 
@@ -91,6 +120,20 @@ const HOLDER_GIVES_UP: &[Row] = &[
     (SETLK, 6, 1, OTHER_WRITES, EAGAIN, NOTHING),
     (FLUSH, 7, 1, ONE_CLOSES, 0, NOTHING),
     (SETLK, 8, 1, OTHER_WRITES, 0, NOTHING),
+];
+
+/// There is one lock, whatever file, range and process a call names.
+const ELSEWHERE: &[Row] = &[
+    OPENING,
+    (SETLK, 2, 1, ONE_WRITES, 0, NOTHING),
+    (SETLK, 3, 2, OTHER_WRITES_ELSEWHERE, EAGAIN, NOTHING),
+    (SETLKW, 4, 2, OTHER_WRITES_ELSEWHERE, EDEADLK, NOTHING),
+    (SETLK, 5, 2, ONE_UNLOCKS_ELSEWHERE, 0, NOTHING),
+    (SETLK, 6, 2, OTHER_WRITES_ELSEWHERE, 0, NOTHING),
+    (FLUSH, 7, 3, ONE_CLOSES, 0, NOTHING),
+    (SETLK, 8, 1, ONE_WRITES, EAGAIN, NOTHING),
+    (FLUSH, 9, 3, OTHER_CLOSES, 0, NOTHING),
+    (SETLK, 10, 1, ONE_WRITES, 0, NOTHING),
 ];
 
 /// The one takes the lock, and owners that differ from it in one byte each do not get it.
@@ -190,6 +233,11 @@ fn nobody_waits_on_one_thread(rt: HostRuntime) {
 #[test]
 fn an_owner_is_all_eight_bytes(rt: HostRuntime) {
     serves_from_free(rt, EACH_BYTE).close();
+}
+
+#[test]
+fn there_is_one_lock(rt: HostRuntime) {
+    serves_from_free(rt, ELSEWHERE).close();
 }
 
 #[test]

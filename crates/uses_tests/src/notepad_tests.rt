@@ -110,6 +110,86 @@ const WRITTEN: &[Row] = &[
         0,
         (0, &[], b"\0Yellow!"),
     ),
+    // the file by its name, as it is: `struct fuse_entry_out`, whose attributes begin at 40
+    (
+        LOOKUP,
+        13,
+        1,
+        (0, &[], b"note\0"),
+        0,
+        (
+            128,
+            &[
+                (0, 2),
+                (16, 1),
+                (24, 1),
+                (40, 2),
+                (48, 8),
+                (56, 1),
+                (100, 0xa4),
+                (101, 0x81),
+                (104, 1),
+                (121, 2),
+            ],
+            b"",
+        ),
+    ),
+    // no bytes, behind the end: nothing changes
+    (WRITE, 14, 2, (40, &[(8, 0x20)], b""), 0, (8, &[], b"")),
+    (
+        READ,
+        15,
+        2,
+        (40, &[(16, 99)], b""),
+        0,
+        (0, &[], b"\0Yellow!"),
+    ),
+    // the last byte, and then the file is full: 4096 bytes are 8 blocks
+    (
+        WRITE,
+        16,
+        2,
+        (40, &[(8, 0xff), (9, 0x0f), (16, 1)], b"."),
+        0,
+        (8, &[(0, 1)], b""),
+    ),
+    (
+        READ,
+        17,
+        2,
+        (40, &[(8, 0xfd), (9, 0x0f), (16, 99)], b""),
+        0,
+        (0, &[], b"\0\0."),
+    ),
+    (
+        GETATTR,
+        18,
+        2,
+        (16, &[], b""),
+        0,
+        (
+            104,
+            &[
+                (0, 1),
+                (16, 2),
+                (25, 0x10),
+                (32, 8),
+                (76, 0xa4),
+                (77, 0x81),
+                (80, 1),
+                (97, 2),
+            ],
+            b"",
+        ),
+    ),
+    (
+        READ,
+        19,
+        2,
+        (40, &[(16, 9)], b""),
+        0,
+        (0, &[], b"\0Yellow!\0"),
+    ),
 ];
 
 /// A size that is set: `struct fuse_setattr_in` with the flag 8 of `valid`, and the size from byte 16 on. And what the nodes

@@ -1,14 +1,14 @@
-// A small tree: a directory with two files.
+// A small tree: a directory with two files, and a symbolic link.
 ghost use Rattle.std.specs.Prelude.{◌==◌, ◌&&◌, [], ◌∷◌, ◌++◌, None, Some, codes, if◌then◌else◌};
 ghost use Rattle.std.specs.Str.{bytes_eq};
-ghost use Rattle.fuse_wire.specs.declared.file_attr.FileType.TheVariants.{Directory, RegularFile};
-ghost use Rattle.fuse_read_only.specs.Tree.{root_attr};
+ghost use Rattle.fuse_wire.specs.declared.file_attr.FileType.TheVariants.{Directory, RegularFile, Symlink};
+ghost use Rattle.fuse_wire.specs.FileAttr.{root_attr};
 
-use fuse_read_only::{Entry, Files, root_attr};
-use fuse_wire::{Duration, FileAttr, FileType, INodeNo};
+use fuse_read_only::{Entry, Files};
+use fuse_wire::{Duration, FileAttr, FileType, INodeNo, root_attr};
 
 /// The directory 1 with two files: `one`, which is node 2, and node 3, whose entry and whose contents are long. Its
-/// attributes say that it has more.
+/// attributes say that it has more. Node 4 is a symbolic link without a name.
 #[derive(Clone, Copy, Debug, PartialEq, Eq)]
 pub(crate) struct Pair;
 
@@ -25,6 +25,7 @@ impl Files for Pair {
           if ino == 1 then Some (root_attr 1 Directory 493 2 0)
           else if ino == 2 then Some (root_attr 2 RegularFile 292 1 6)
           else if ino == 3 then Some (root_attr 3 RegularFile 292 1 513)
+          else if ino == 4 then Some (root_attr 4 Symlink 511 1 3)
           else None;
       names = λ parent name.
           if (parent == 1) && bytes_eq name (codes "one") then Some (root_attr 2 RegularFile 292 1 6) else None;
@@ -32,6 +33,7 @@ impl Files for Pair {
           if ino == 2 then Some (codes "first\n")
           else if ino == 3 then Some (codes "01234567890123456789012345678901234567890123456789012345678901234567890123456789"
           ++ codes "01234567890123456789012345678901234567890123456789012345678901234567890123456789")
+          else if ino == 4 then Some (codes "one")
           else None;
       entries = λ ino. if ino == 1 then
           record { ino = 1; kind = Directory; name = codes "." }
@@ -47,6 +49,7 @@ impl Files for Pair {
             1 => Some(root_attr(ino, FileType::Directory, 0o755, 2, 0)),
             2 => Some(root_attr(ino, FileType::RegularFile, 0o444, 1, 6)),
             3 => Some(root_attr(ino, FileType::RegularFile, 0o444, 1, 513)),
+            4 => Some(root_attr(ino, FileType::Symlink, 0o777, 1, 3)),
             _ => None,
         }
     }
@@ -63,6 +66,7 @@ impl Files for Pair {
         match ino.0 {
             2 => Some(b"first\n"),
             3 => Some(DIGITS),
+            4 => Some(b"one"),
             _ => None,
         }
     }

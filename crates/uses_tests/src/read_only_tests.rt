@@ -16,6 +16,8 @@ const GETATTR: u8 = 3;
 
 const READLINK: u8 = 5;
 
+const EINVAL: u8 = 22;
+
 const ENOSYS: u8 = 38;
 
 /// INIT of version 7.8, as long as a kernel of a later version sends it.
@@ -115,7 +117,7 @@ const LOOKED_AT: &[Row] = &[
             b"",
         ),
     ),
-    (GETATTR, 2, 4, (16, &[], b""), ENOENT, NOTHING),
+    (GETATTR, 2, 5, (16, &[], b""), ENOENT, NOTHING),
     (OPEN, 2, 2, (8, &[], b""), 0, (16, &[], b"")),
     WHOLE,
     (
@@ -142,7 +144,10 @@ const LOOKED_AT: &[Row] = &[
         ),
     ),
     (READ, 2, 1, (40, &[(16, 1)], b""), ENOENT, NOTHING),
-    (READLINK, 2, 2, NOTHING, ENOSYS, NOTHING),
+    (READLINK, 2, 4, NOTHING, 0, (0, &[], b"one")),
+    (READLINK, 2, 2, NOTHING, EINVAL, NOTHING),
+    (READLINK, 2, 1, NOTHING, EINVAL, NOTHING),
+    (READLINK, 2, 5, NOTHING, ENOENT, NOTHING),
 ];
 
 /// The whole file is read.
@@ -249,7 +254,7 @@ const LISTED: &[Row] = &[
     (READDIR, 2, 1, (40, &[(8, 4), (16, 255)], b""), 0, NOTHING),
     (READDIR, 2, 1, (40, FARTHEST, b""), 0, NOTHING),
     (READDIR, 2, 2, (40, &[(16, 255)], b""), 0, NOTHING),
-    (READDIR, 2, 4, (40, &[(16, 255)], b""), ENOENT, NOTHING),
+    (READDIR, 2, 5, (40, &[(16, 255)], b""), ENOENT, NOTHING),
     (OPENDIR, 2, 1, (8, &[], b""), 0, (16, &[], b"")),
 ];
 

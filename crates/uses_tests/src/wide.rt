@@ -1,10 +1,10 @@
 // A tree whose directory and whose file are long.
 ghost use Rattle.std.specs.Prelude.{◌==◌, [], None, Some, map, if◌then◌else◌};
 ghost use Rattle.fuse_wire.specs.declared.file_attr.FileType.TheVariants.{Directory, RegularFile};
-ghost use Rattle.fuse_read_only.specs.Tree.{root_attr};
+ghost use Rattle.fuse_wire.specs.FileAttr.{root_attr};
 
-use fuse_read_only::{Entry, Files, root_attr};
-use fuse_wire::{Duration, FileAttr, FileType, INodeNo};
+use fuse_read_only::{Entry, Files};
+use fuse_wire::{Duration, FileAttr, FileType, INodeNo, root_attr};
 
 /// The directory 1, in which node 2, the one file, has many names.
 #[derive(Drop)]

@@ -2,7 +2,7 @@
 use Rattle.std.proofs.Common.{◌≡◌, ◌++◌, ◌∙◌, ap, append-nil, rules, subst, sym, ℕ, Bool, false, Ok, List, [], ◌∷◌}
 use Rattle.fuse_wire.specs.declared.file_attr.FileType.TheVariants.{RegularFile}
 use Rattle.fuse_wire.specs.declared.no_memory.NoMemory.{NoMemory}
-use Rattle.fuse_reply.specs.Adding.{Adds, Listing}
+use Rattle.fuse_reply.specs.Adding.{Adds, ListingSeen}
 use Rattle.fuse_reply.specs.Answer.Answer.{Directory}
 use Rattle.fuse_reply.specs.Listing.{DirEntry, dirent, listing}
 use Rattle.fuse_reply_tests.proofs.Answered.{answered}
@@ -11,7 +11,7 @@ use Rattle.fuse_reply_tests.proofs.deferral_tests.list_later.Goals as goal
 abbrev entry : DirEntry
 entry = record { ino = 5; offset = 1; kind = RegularFile; name = 97 ∷ [] }
 
-abbrev bytes : Listing → List ℕ
+abbrev bytes : ListingSeen → List ℕ
 bytes l = l.held
 
 pub send_or_retire-requires : goal.send_or_retire-requires
