@@ -1,3 +1,4 @@
+pub mod Blank
 pub mod KeeperOnly
 pub mod Notepad
 pub mod OneFile

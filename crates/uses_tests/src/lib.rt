@@ -1,9 +1,11 @@
-//! The tests of `uses` and of `fuse_read_only`: sessions of the one file, of the one lock, of a layer, of a small
+//! The tests of `uses` and of `fuse_read_only`: sessions of the one file, of the one lock, of a layer, of a blank, of a small
 //! tree and of a wide one, from memory to memory.
 #![tactic(auto)]
 
 #[cfg(test)]
 mod asserts;
+#[cfg(test)]
+mod blank_tests;
 #[cfg(test)]
 mod layer_tests;
 #[cfg(test)]
