@@ -1,8 +1,6 @@
 // The runner of the vectors: what each makes is compared with its bytes.
-ghost use Rattle.std.specs.Prelude.{◌≡◌, bit_and, IfOk};
+ghost use Rattle.std.specs.Prelude.{◌≡◌, bit_and};
 ghost use Rattle.fuse_wire.specs.Flags.{FOPEN_PASSTHROUGH};
-ghost use Rattle.std.specs.Arc.{arc_value};
-ghost use Rattle.fuse_line.specs.declared.hand.Kind.TheVariants.{First};
 
 use crate::asserts::expect_same;
 use crate::vectors::{
@@ -12,11 +10,10 @@ use crate::vectors::{
 use bitflags::Flags;
 use fuse_args::ArgumentIterator;
 use fuse_config::{Config, MountOption, OptionText, check_option_conflicts, option_to_string};
-use fuse_line::{Line, Pass};
-use fuse_notify::{Notice, NoticeError, Notifier, NotifyError, deliver};
+use fuse_notify::{Notice, NoticeError, deliver};
 use fuse_reply::{
-    OutEnd, Parcel, Replied, ReplyAttr, ReplyBmap, ReplyCreate, ReplyData, ReplyDirectory,
-    ReplyEmpty, ReplyEntry, ReplyLock, ReplyOpen, ReplyStatfs, ReplyWrite, ReplyXattr,
+    OutEnd, Replied, ReplyAttr, ReplyBmap, ReplyCreate, ReplyData, ReplyDirectory, ReplyEmpty,
+    ReplyEntry, ReplyLock, ReplyOpen, ReplyStatfs, ReplyWrite, ReplyXattr,
 };
 use fuse_request::{AnyRequest, Init, MkNod, Operation};
 use fuse_wire::{
@@ -26,7 +23,6 @@ use fuse_wire::{
 };
 use std::alloc::{AllocError, Global};
 use std::process::Abort;
-use std::sync::{Arc, Wait};
 
 #[test]
 fn each_vector_makes_its_bytes(rt: HostRuntime) -> Result<(), NoMemory> {
@@ -49,7 +45,7 @@ fn joined(alloc: Global, parts: &[&[u8]]) -> Result<Vec<u8>, AllocError> {
 }
 
 /// Each of the vectors makes its bytes.
-fn expect_bytes<R: Wait + Abort + AllocGlobal>(rt: &R, vectors: &[Vector]) -> Result<(), NoMemory> {
+fn expect_bytes<R: Abort + AllocGlobal>(rt: &R, vectors: &[Vector]) -> Result<(), NoMemory> {
     for (name, made, parts) in vectors {
         let expected = joined(rt.alloc(), parts)?;
         let bytes = make(rt, rt.alloc(), made)?;
@@ -63,15 +59,10 @@ fn expect_bytes<R: Wait + Abort + AllocGlobal>(rt: &R, vectors: &[Vector]) -> Re
 }
 
 /// The bytes that this makes.
-fn make<R: Wait + Abort + AllocGlobal>(
-    rt: &R,
-    alloc: Global,
-    made: &Made,
-) -> Result<Vec<u8>, NoMemory> {
+fn make<R: Abort + AllocGlobal>(rt: &R, alloc: Global, made: &Made) -> Result<Vec<u8>, NoMemory> {
     match made {
         Made::Reply(answer) => bytes_of(alloc, answered(rt, alloc, answer)),
-        Made::Sent(news) => bytes_of(alloc, sent(rt, alloc, news)),
-        Made::Queued(news) => queued(rt, alloc, news),
+        Made::Notice(news) => bytes_of(alloc, sent(rt, alloc, news)),
         Made::Request(message, length) => asked(alloc, message.get(..*length).unwrap_or(&[])),
         Made::Fetched(bytes, fetches) => fetched(alloc, bytes, fetches),
         Made::Time(nanos) => seconds_and_nanoseconds(alloc, *nanos),
@@ -219,72 +210,12 @@ fn notice(alloc: Global, news: &News) -> Result<Notice, NoticeError> {
     }
 }
 
-/// A sink that took the notice at once.
+/// A sink that took the notice.
 fn sent(rt: &impl Abort, alloc: Global, news: &News) -> MemorySink {
     let mut sink = MemorySink::new(alloc, Vec::new(alloc));
     let notice = notice(alloc, news).expect(rt, "there is memory");
     expect_same(rt, &deliver(&notice, &mut sink), &Ok(()));
     sink
-}
-
-/// Queues the notice.
-fn notify<R: Wait + AllocGlobal>(
-    rt: &R,
-    notifier: &mut Notifier,
-    news: &News,
-) -> Result<(), NotifyError> {
-    match news {
-        News::Poll(handle) => notifier.poll(rt, PollHandle(*handle)),
-        News::InvalInode(ino, offset, len) => {
-            notifier.inval_inode(rt, INodeNo(*ino), *offset, *len)
-        }
-        News::InvalEntry(parent, name) => notifier.inval_entry(rt, INodeNo(*parent), name),
-        News::Store(ino, offset, bytes) => notifier.store(rt, INodeNo(*ino), *offset, bytes),
-        News::Delete(parent, child, name) => {
-            notifier.delete(rt, INodeNo(*parent), INodeNo(*child), name)
-        }
-    }
-}
-
-/// A line, its first pass, and a notifier of it.
-fn line_of(alloc: Global) -> Result<(Arc<Line<Parcel>, Global>, Pass<Parcel>, Notifier), NoMemory>
-    ensures { IfOk result (λ r. (r.1.line ≡ arc_value r.0) × (r.1.hand.kind ≡ First)) }
-{
-    let (line, mut first) = Line::new(alloc, 1)?;
-    let door = line.split(&mut first, true);
-    let Ok(line) = Arc::new(alloc, line) else {
-        return Err(NoMemory);
-    };
-    let notifier = Notifier::new(Arc::try_clone(&line)?, door);
-    Ok((line, first, notifier))
-}
-
-/// The bytes of a notice that came off a line. Of any other parcel, or of none, there are none.
-fn notice_bytes(alloc: Global, parcel: Option<Parcel>) -> Result<Vec<u8>, NoMemory> {
-    let mut sink = MemorySink::new(alloc, Vec::new(alloc));
-    match parcel {
-        Some(Parcel::Notice(frame)) => {
-            frame.send(&mut sink);
-        }
-        Some(other) => drop(other),
-        None => {}
-    }
-    bytes_of(alloc, sink)
-}
-
-/// The bytes of the notice that goes through a line.
-fn queued<R: Wait + Abort + AllocGlobal>(
-    rt: &R,
-    alloc: Global,
-    news: &News,
-) -> Result<Vec<u8>, NoMemory> {
-    let (line, mut first, mut notifier) = line_of(alloc)?;
-    expect_same(rt, &notify(rt, &mut notifier, news), &Ok(()));
-    let parcel = line.pop(rt, &mut first);
-    drop(notifier);
-    drop(first);
-    drop(line);
-    notice_bytes(alloc, parcel)
 }
 
 /// Who asks, and what INIT or MKNOD says, as a text; or why the message is no request.

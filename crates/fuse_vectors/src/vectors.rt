@@ -9,10 +9,8 @@ pub(crate) type Vector = (&'static str, Made, &'static [&'static [u8]]);
 pub(crate) enum Made {
     /// The frame of a reply to the request 0xdeadbeef.
     Reply(Answer),
-    /// The frame of a notice that is sent at once.
-    Sent(News),
-    /// The frame of a notice that goes through a line.
-    Queued(News),
+    /// The frame of a notice.
+    Notice(News),
     /// What the first so many bytes of this message ask, or why they are no request.
     Request(&'static [u8], usize),
     /// What is fetched from these bytes, one after the other, and how many are left.
@@ -316,48 +314,27 @@ pub(crate) fn replies() -> &'static [Vector] {
     REPLIES
 }
 
-/// Notices, sent at once and through a line.
+/// Notices.
 const NOTICES: &[Vector] = &[
-    ("poll, sent", Made::Sent(News::Poll(0x4321)), &[POLL]),
-    ("poll, queued", Made::Queued(News::Poll(0x4321)), &[POLL]),
+    ("poll", Made::Notice(News::Poll(0x4321)), &[POLL]),
     (
-        "inode, sent",
-        Made::Sent(News::InvalInode(0x42, 100, 200)),
+        "inode",
+        Made::Notice(News::InvalInode(0x42, 100, 200)),
         &[INVAL_INODE],
     ),
     (
-        "inode, queued",
-        Made::Queued(News::InvalInode(0x42, 100, 200)),
-        &[INVAL_INODE],
-    ),
-    (
-        "name, sent",
-        Made::Sent(News::InvalEntry(0x42, b"abc")),
+        "name",
+        Made::Notice(News::InvalEntry(0x42, b"abc")),
         &[INVAL_ENTRY],
     ),
     (
-        "name, queued",
-        Made::Queued(News::InvalEntry(0x42, b"abc")),
-        &[INVAL_ENTRY],
-    ),
-    (
-        "data to keep, sent",
-        Made::Sent(News::Store(0x42, 50, &[0xde, 0xad, 0xbe, 0xef])),
+        "data to keep",
+        Made::Notice(News::Store(0x42, 50, &[0xde, 0xad, 0xbe, 0xef])),
         &[STORE],
     ),
     (
-        "data to keep, queued",
-        Made::Queued(News::Store(0x42, 50, &[0xde, 0xad, 0xbe, 0xef])),
-        &[STORE],
-    ),
-    (
-        "name that is gone, sent",
-        Made::Sent(News::Delete(0x42, 0x43, b"abc")),
-        &[DELETE],
-    ),
-    (
-        "name that is gone, queued",
-        Made::Queued(News::Delete(0x42, 0x43, b"abc")),
+        "name that is gone",
+        Made::Notice(News::Delete(0x42, 0x43, b"abc")),
         &[DELETE],
     ),
 ];
