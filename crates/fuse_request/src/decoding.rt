@@ -33,6 +33,16 @@ macro_rules! whole {
     };
 }
 
+/// The operation whose fields are these parts of a body, read in their order, and what stands behind the semicolon.
+macro_rules! operation {
+    ($parts:ident => $name:ident {
+        $($field:ident: $fetch:ident($($size:expr)?)),* $(; $($rest:tt)*)?
+    }) => {{
+        $(whole!($field = $parts.$fetch($($size)?));)*
+        Operation::$name($name { $($field,)* $($($rest)*)? })
+    }};
+}
+
 /// What the opcodes from LOOKUP to LINK ask.
 #[inline(always)]
 #[tactic(auto, unfolding(crate::specs::Decoding::lookup_to_link))]
@@ -45,66 +55,30 @@ pub(crate) fn lookup_to_link<'a>(
 {
     let mut parts = ArgumentIterator::new(body);
     let operation = match opcode {
-        FUSE_LOOKUP => {
-            whole!(name = parts.fetch_str());
-            Operation::Lookup(Lookup { name })
-        }
-        FUSE_FORGET => {
-            whole!(nlookup = parts.fetch_u64());
-            Operation::Forget(Forget { nlookup })
-        }
-        FUSE_GETATTR => {
-            whole!(arguments = parts.fetch_getattr());
-            Operation::GetAttr(GetAttr { arguments })
-        }
-        FUSE_SETATTR => {
-            whole!(arguments = parts.fetch_setattr());
-            Operation::SetAttr(SetAttr { arguments })
-        }
+        FUSE_LOOKUP => operation!(parts => Lookup { name: fetch_str() }),
+        FUSE_FORGET => operation!(parts => Forget { nlookup: fetch_u64() }),
+        FUSE_GETATTR => operation!(parts => GetAttr { arguments: fetch_getattr() }),
+        FUSE_SETATTR => operation!(parts => SetAttr { arguments: fetch_setattr() }),
         FUSE_READLINK => Operation::ReadLink(ReadLink),
-        FUSE_SYMLINK => {
-            whole!(link_name = parts.fetch_str());
-            whole!(target = parts.fetch_str());
-            Operation::SymLink(SymLink { link_name, target })
-        }
-        FUSE_MKNOD => {
-            whole!(arguments = parts.fetch_mknod());
-            whole!(name = parts.fetch_str());
-            Operation::MkNod(MkNod { arguments, name })
-        }
-        FUSE_MKDIR => {
-            whole!(arguments = parts.fetch_mkdir());
-            whole!(name = parts.fetch_str());
-            Operation::MkDir(MkDir { arguments, name })
-        }
-        FUSE_UNLINK => {
-            whole!(name = parts.fetch_str());
-            Operation::Unlink(Unlink { name })
-        }
-        FUSE_RMDIR => {
-            whole!(name = parts.fetch_str());
-            Operation::RmDir(RmDir { name })
-        }
-        FUSE_RENAME => {
-            whole!(newdir = parts.fetch_u64());
-            whole!(old_name = parts.fetch_str());
-            whole!(new_name = parts.fetch_str());
-            Operation::Rename(Rename {
-                node,
-                newdir,
-                old_name,
-                new_name,
-            })
-        }
-        FUSE_LINK => {
-            whole!(oldnodeid = parts.fetch_u64());
-            whole!(new_name = parts.fetch_str());
-            Operation::Link(Link {
-                node,
-                oldnodeid,
-                new_name,
-            })
-        }
+        FUSE_SYMLINK => operation!(parts => SymLink {
+            link_name: fetch_str(),
+            target: fetch_str()
+        }),
+        FUSE_MKNOD => operation!(parts => MkNod { arguments: fetch_mknod(), name: fetch_str() }),
+        FUSE_MKDIR => operation!(parts => MkDir { arguments: fetch_mkdir(), name: fetch_str() }),
+        FUSE_UNLINK => operation!(parts => Unlink { name: fetch_str() }),
+        FUSE_RMDIR => operation!(parts => RmDir { name: fetch_str() }),
+        FUSE_RENAME => operation!(parts => Rename {
+            newdir: fetch_u64(),
+            old_name: fetch_str(),
+            new_name: fetch_str();
+            node
+        }),
+        FUSE_LINK => operation!(parts => Link {
+            oldnodeid: fetch_u64(),
+            new_name: fetch_str();
+            node
+        }),
         unknown => return Err(RequestError::UnknownOperation(unknown)),
     };
     Ok(operation)
@@ -118,64 +92,30 @@ pub(crate) fn open_to_flush(opcode: u32, body: &[u8]) -> Result<Operation<'_>, R
 {
     let mut parts = ArgumentIterator::new(body);
     let operation = match opcode {
-        FUSE_OPEN => {
-            whole!(arguments = parts.fetch_open());
-            Operation::Open(Open {
-                arguments,
-                kind: PhantomData,
-            })
-        }
-        FUSE_READ => {
-            whole!(arguments = parts.fetch_read());
-            Operation::Read(Read { arguments })
-        }
-        FUSE_WRITE => {
-            whole!(arguments = parts.fetch_write());
-            whole!(written = parts.fetch_exactly(arguments.size));
-            Operation::Write(Write { arguments, written })
-        }
+        FUSE_OPEN => operation!(parts => Open { arguments: fetch_open(); kind: PhantomData }),
+        FUSE_READ => operation!(parts => Read { arguments: fetch_read() }),
+        FUSE_WRITE => operation!(parts => Write {
+            arguments: fetch_write(),
+            written: fetch_exactly(arguments.size)
+        }),
         FUSE_STATFS => Operation::StatFs(StatFs),
-        FUSE_RELEASE => {
-            whole!(arguments = parts.fetch_release());
-            Operation::Release(Release {
-                arguments,
-                kind: PhantomData,
-            })
-        }
-        FUSE_FSYNC => {
-            whole!(arguments = parts.fetch_fsync());
-            Operation::FSync(FSync {
-                arguments,
-                kind: PhantomData,
-            })
-        }
-        FUSE_SETXATTR => {
-            whole!(arguments = parts.fetch_setxattr());
-            whole!(name = parts.fetch_str());
-            whole!(value = parts.fetch_exactly(arguments.size));
-            Operation::SetXAttr(SetXAttr {
-                arguments,
-                name,
-                value,
-            })
-        }
-        FUSE_GETXATTR => {
-            whole!(arguments = parts.fetch_getxattr());
-            whole!(name = parts.fetch_str());
-            Operation::GetXAttr(GetXAttr { arguments, name })
-        }
-        FUSE_LISTXATTR => {
-            whole!(arguments = parts.fetch_getxattr());
-            Operation::ListXAttr(ListXAttr { arguments })
-        }
-        FUSE_REMOVEXATTR => {
-            whole!(name = parts.fetch_str());
-            Operation::RemoveXAttr(RemoveXAttr { name })
-        }
-        FUSE_FLUSH => {
-            whole!(arguments = parts.fetch_flush());
-            Operation::Flush(Flush { arguments })
-        }
+        FUSE_RELEASE => operation!(parts => Release {
+            arguments: fetch_release();
+            kind: PhantomData
+        }),
+        FUSE_FSYNC => operation!(parts => FSync { arguments: fetch_fsync(); kind: PhantomData }),
+        FUSE_SETXATTR => operation!(parts => SetXAttr {
+            arguments: fetch_setxattr(),
+            name: fetch_str(),
+            value: fetch_exactly(arguments.size)
+        }),
+        FUSE_GETXATTR => operation!(parts => GetXAttr {
+            arguments: fetch_getxattr(),
+            name: fetch_str()
+        }),
+        FUSE_LISTXATTR => operation!(parts => ListXAttr { arguments: fetch_getxattr() }),
+        FUSE_REMOVEXATTR => operation!(parts => RemoveXAttr { name: fetch_str() }),
+        FUSE_FLUSH => operation!(parts => Flush { arguments: fetch_flush() }),
         unknown => return Err(RequestError::UnknownOperation(unknown)),
     };
     Ok(operation)
@@ -189,76 +129,24 @@ pub(crate) fn init_to_bmap(opcode: u32, body: &[u8]) -> Result<Operation<'_>, Re
 {
     let mut parts = ArgumentIterator::new(body);
     let operation = match opcode {
-        FUSE_INIT => {
-            whole!(arguments = parts.fetch_init());
-            Operation::Init(Init { arguments })
-        }
-        FUSE_OPENDIR => {
-            whole!(arguments = parts.fetch_open());
-            Operation::OpenDir(OpenDir {
-                arguments,
-                kind: PhantomData,
-            })
-        }
-        FUSE_READDIR => {
-            whole!(arguments = parts.fetch_read());
-            Operation::ReadDir(ReadDir {
-                arguments,
-                kind: PhantomData,
-            })
-        }
-        FUSE_RELEASEDIR => {
-            whole!(arguments = parts.fetch_release());
-            Operation::ReleaseDir(ReleaseDir {
-                arguments,
-                kind: PhantomData,
-            })
-        }
-        FUSE_FSYNCDIR => {
-            whole!(arguments = parts.fetch_fsync());
-            Operation::FSyncDir(FSyncDir {
-                arguments,
-                kind: PhantomData,
-            })
-        }
-        FUSE_GETLK => {
-            whole!(arguments = parts.fetch_getlk());
-            Operation::GetLk(GetLk {
-                arguments,
-                sleep: (),
-            })
-        }
-        FUSE_SETLK => {
-            whole!(arguments = parts.fetch_getlk());
-            Operation::SetLk(SetLk {
-                arguments,
-                sleep: false,
-            })
-        }
-        FUSE_SETLKW => {
-            whole!(arguments = parts.fetch_getlk());
-            Operation::SetLk(SetLk {
-                arguments,
-                sleep: true,
-            })
-        }
-        FUSE_ACCESS => {
-            whole!(arguments = parts.fetch_access());
-            Operation::Access(Access { arguments })
-        }
-        FUSE_CREATE => {
-            whole!(arguments = parts.fetch_create());
-            whole!(name = parts.fetch_str());
-            Operation::Create(Create { arguments, name })
-        }
-        FUSE_INTERRUPT => {
-            whole!(unique = parts.fetch_u64());
-            Operation::Interrupt(Interrupt { unique })
-        }
-        FUSE_BMAP => {
-            whole!(arguments = parts.fetch_bmap());
-            Operation::BMap(BMap { arguments })
-        }
+        FUSE_INIT => operation!(parts => Init { arguments: fetch_init() }),
+        FUSE_OPENDIR => operation!(parts => OpenDir { arguments: fetch_open(); kind: PhantomData }),
+        FUSE_READDIR => operation!(parts => ReadDir { arguments: fetch_read(); kind: PhantomData }),
+        FUSE_RELEASEDIR => operation!(parts => ReleaseDir {
+            arguments: fetch_release();
+            kind: PhantomData
+        }),
+        FUSE_FSYNCDIR => operation!(parts => FSyncDir {
+            arguments: fetch_fsync();
+            kind: PhantomData
+        }),
+        FUSE_GETLK => operation!(parts => GetLk { arguments: fetch_getlk(); sleep: () }),
+        FUSE_SETLK => operation!(parts => SetLk { arguments: fetch_getlk(); sleep: false }),
+        FUSE_SETLKW => operation!(parts => SetLk { arguments: fetch_getlk(); sleep: true }),
+        FUSE_ACCESS => operation!(parts => Access { arguments: fetch_access() }),
+        FUSE_CREATE => operation!(parts => Create { arguments: fetch_create(), name: fetch_str() }),
+        FUSE_INTERRUPT => operation!(parts => Interrupt { unique: fetch_u64() }),
+        FUSE_BMAP => operation!(parts => BMap { arguments: fetch_bmap() }),
         unknown => return Err(RequestError::UnknownOperation(unknown)),
     };
     Ok(operation)
@@ -277,54 +165,32 @@ pub(crate) fn destroy_to_cuse_init<'a>(
     let mut parts = ArgumentIterator::new(body);
     let operation = match opcode {
         FUSE_DESTROY => Operation::Destroy(Destroy),
-        FUSE_IOCTL => {
-            whole!(arguments = parts.fetch_ioctl());
-            whole!(in_bytes = parts.fetch_at_least(arguments.in_size));
-            Operation::IoCtl(IoCtl {
-                arguments,
-                in_bytes,
-            })
-        }
-        FUSE_POLL => {
-            whole!(arguments = parts.fetch_poll());
-            Operation::Poll(Poll { arguments })
-        }
+        FUSE_IOCTL => operation!(parts => IoCtl {
+            arguments: fetch_ioctl(),
+            in_bytes: fetch_at_least(arguments.in_size)
+        }),
+        FUSE_POLL => operation!(parts => Poll { arguments: fetch_poll() }),
         FUSE_NOTIFY_REPLY => Operation::NotifyReply(NotifyReply),
         FUSE_BATCH_FORGET => {
             whole!(arguments = parts.fetch_batch_forget());
-            whole!(rows = parts.fetch_slice(arguments.count as usize));
-            Operation::BatchForget(BatchForget { rows })
+            operation!(parts => BatchForget { rows: fetch_slice(arguments.count as usize) })
         }
-        FUSE_FALLOCATE => {
-            whole!(arguments = parts.fetch_fallocate());
-            Operation::FAllocate(FAllocate { arguments })
-        }
-        FUSE_READDIRPLUS => {
-            whole!(arguments = parts.fetch_read());
-            Operation::ReadDirPlus(ReadDirPlus {
-                arguments,
-                kind: PhantomData,
-            })
-        }
-        FUSE_RENAME2 => {
-            whole!(arguments = parts.fetch_rename2());
-            whole!(old_name = parts.fetch_str());
-            whole!(new_name = parts.fetch_str());
-            Operation::Rename2(Rename2 {
-                node,
-                arguments,
-                old_name,
-                new_name,
-            })
-        }
-        FUSE_LSEEK => {
-            whole!(arguments = parts.fetch_lseek());
-            Operation::Lseek(Lseek { arguments })
-        }
-        FUSE_COPY_FILE_RANGE => {
-            whole!(arguments = parts.fetch_copy_file_range());
-            Operation::CopyFileRange(CopyFileRange { node, arguments })
-        }
+        FUSE_FALLOCATE => operation!(parts => FAllocate { arguments: fetch_fallocate() }),
+        FUSE_READDIRPLUS => operation!(parts => ReadDirPlus {
+            arguments: fetch_read();
+            kind: PhantomData
+        }),
+        FUSE_RENAME2 => operation!(parts => Rename2 {
+            arguments: fetch_rename2(),
+            old_name: fetch_str(),
+            new_name: fetch_str();
+            node
+        }),
+        FUSE_LSEEK => operation!(parts => Lseek { arguments: fetch_lseek() }),
+        FUSE_COPY_FILE_RANGE => operation!(parts => CopyFileRange {
+            arguments: fetch_copy_file_range();
+            node
+        }),
         CUSE_INIT => {
             whole!(_nothing = parts.fetch_cuse_init());
             Operation::CuseInit(CuseInit)
