@@ -1,4 +1,5 @@
--- The error numbers of Linux (`asm-generic/errno-base.h` and `asm-generic/errno.h`). A promise of a filesystem names its errors by them.
+-- The numbers of the errors that `Errno` names (`asm-generic/errno-base.h` and `asm-generic/errno.h` of Linux). A promise of a
+-- filesystem names its errors by them.
 use Rattle.std.specs.Prelude.{ℕ}
 
 abbrev pub EPERM : ℕ
