@@ -1,5 +1,6 @@
 -- What the first pass learns of the line while it counts no other.
-use Rattle.std.proofs.Common.{◌≡◌, ℕ, zero, suc, Bool, List, [], ◌∷◌, ◌++◌, length, set, filter, cond, sym, refl, ap, ◌∙◌, subst, append-nil, arith}
+use Rattle.std.proofs.Common.{◌≡◌, ℕ, zero, suc, Bool, List, [], ◌∷◌, ◌++◌, Option, None, Some, IfNone, MatchOption}
+use Rattle.std.proofs.Common.{length, set, filter, cond, sym, refl, ap, ◌∙◌, subst, append-nil, arith}
 use Rattle.std.specs.List.Sorted.{IsPermutation}
 use Rattle.std.proofs.lemmas.List.Elements.{filter-append}
 use mathlib.Core.Option.{some, some-injective, some-ne-none}
@@ -89,6 +90,12 @@ module _ {T : Type 0} (inner : T → Bool) where
   settles v held first none =
       let all : v.taken ++ held.0 ≡ v.taken = ap (λ l. v.taken ++ l) (empty held.0 held.1) ∙ append-nil v.taken in
       subst (λ l. IsPermutation (filter inner v.put) (filter inner l)) all (held.2 first none)
+
+  -- so is one that found nothing there, and knows what it knew
+  pub settled_where_none : (v w : Hand T) (S : T → Type 0) (popped : Option T)
+      → MatchOption popped ((v ≡ w) × Held 0 (Tells inner w)) S → IfNone popped (IsSettled inner v)
+  settled_where_none v w S None rule = subst (IsSettled inner) (sym rule.0) (settles w rule.1)
+  settled_where_none v w S (Some item) rule = tt
 
   pub idle : OthersAreIdle inner
   idle items views place other v u rule at first none there apart =

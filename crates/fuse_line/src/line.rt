@@ -101,13 +101,11 @@ impl<T: Class> Line<T> {
             (λ full. (full.item ≡ item) × (pass.new.hand ≡ pass.old.hand)) }
         ensures full { IfErr result (λ _. Held self.now.slots (Tells T.is_inner pass.old.hand)) }
     {
-        match self.queue.push_as::<PushStep, R>(rt, &mut pass.seat, item) {
-            Ok(()) => {
-                self.items.wake_one();
-                Ok(())
-            }
-            Err(item) => Err(Full { item }),
+        if let Err(item) = self.queue.push_as::<PushStep, R>(rt, &mut pass.seat, item) {
+            return Err(Full { item });
         }
+        self.items.wake_one();
+        Ok(())
     }
 
     /// Takes the item at the front, or nothing where the line was empty at a moment of this call.
@@ -122,13 +120,11 @@ impl<T: Class> Line<T> {
         ensures empty { IfNone result (Held 0 (Tells T.is_inner pass.old.hand)) }
         ensures settled { IfNone result (IsSettled T.is_inner pass.new.hand) }
     {
-        match self.queue.pop_as::<PopStep, R>(rt, &mut pass.seat) {
-            Some(item) => {
-                self.places.wake_one();
-                Some(item)
-            }
-            None => None,
+        let popped = self.queue.pop_as::<PopStep, R>(rt, &mut pass.seat);
+        if popped.is_some() {
+            self.places.wake_one();
         }
+        popped
     }
 
     /// Whether the line was empty at a moment of this call. It costs less than a pop that takes nothing.
@@ -148,14 +144,26 @@ impl<T: Class> Line<T> {
         ensures line { pass.new.line ≡ self.now }
         ensures hand { pass.new.hand ≡ with_put pass.old.hand item }
     {
+        if let Err(full) = self.push(rt, pass, item) {
+            self.push_when_free(rt, pass, full.item);
+        }
+    }
+
+    // The same for an item that has found the line full: it is copied once more for each try.
+    fn push_when_free<R: Wait>(&self, rt: &R, pass: &mut Pass<T>, item: T)
+        requires line { pass.old.line ≡ self.now }
+        requires kind { MayPush T.is_inner pass.old.hand.kind item }
+        ensures line { pass.new.line ≡ self.now }
+        ensures hand { pass.new.hand ≡ with_put pass.old.hand item }
+    {
         let mut left = item;
         let mut waiting = self.wait_for_place();
         for _ in rt.forever() {
+            waiting.rest(rt);
             match self.push(rt, pass, left) {
                 Ok(()) => return,
                 Err(full) => left = full.item,
             }
-            waiting.rest(rt);
         }
         unreachable!()
     }
@@ -177,9 +185,8 @@ impl<T: Class> Line<T> {
         for _ in rt.forever() {
             let stopped = stop.load(Ordering::SeqCst);
             match self.pop(rt, pass) {
-                Some(item) => return Some(item),
-                None if stopped => return None,
-                None => waiting.rest(rt),
+                None if !stopped => waiting.rest(rt),
+                popped => return popped,
             }
         }
         unreachable!()
