@@ -18,6 +18,7 @@ pub struct Relay<K: Sink> {
 
 impl<K: Sink> Relay<K> {
     /// Hands on a parcel: what goes out at once to the sink, and a late frame as the book lets it go.
+    #[inline(always)]
     pub fn deliver_parcel(&mut self, parcel: Parcel)
         ensures { SendsParcel parcel (relay_of self.old.outlet self.old.book) (relay_of self.new.outlet self.new.book) }
     {
@@ -33,6 +34,7 @@ impl<K: Sink> Relay<K> {
     }
 
     /// Hands what goes out for a message to the sink. The mark of a reply that comes later lets its frame go.
+    #[inline(always)]
     pub fn deliver(&mut self, out: Out)
         ensures { SendsOut out (relay_of self.old.outlet self.old.book) (relay_of self.new.outlet self.new.book) }
     {
