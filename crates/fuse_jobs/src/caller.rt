@@ -13,12 +13,12 @@ ghost use Rattle.fuse_jobs.specs.Callers.{CallerOn};
 ghost use Rattle.fuse_jobs.specs.Answered.{IsCaller};
 
 use crate::worker::answer_job;
-use fuse_line::{Line, Pass};
+use fuse_line::Pass;
 use fuse_loop::{Answerer, Incoming, Intake, RequestJob, Taken, Work, destroy_reply};
 use fuse_reply::Parcel;
-use fuse_sender::Stopped;
+use fuse_sender::{RunContext, Stopped};
 use fuse_wire::{NoMemory, Source};
-use std::alloc::Global;
+use std::alloc::AllocGlobal;
 use std::sync::Wait;
 
 /// The first passes of both lines, and what the caller answers messages with itself.
@@ -33,20 +33,18 @@ pub struct Caller {
 }
 
 /// Pushes a request as a job, and says whether it did: whether there is a worker, and memory and a place for it.
-fn push_job<R: Wait>(
-    rt: &R,
-    alloc: Global,
+fn push_job<R: Wait + AllocGlobal, W: Work>(
+    context: &RunContext<R, W>,
     seq: u64,
     message: &[u8],
     worker_count: usize,
-    jobs: &Line<RequestJob>,
     pass: &mut Pass<RequestJob>,
 ) -> bool
     requires request { IsRequest message.now }
-    requires line { pass.old.line ≡ jobs.now }
+    requires line { pass.old.line ≡ context.now.jobs.now }
     requires first { pass.old.hand.kind ≡ First }
     requires workers { pass.old.hand.others ≡ worker_count }
-    ensures line { pass.new.line ≡ jobs.now }
+    ensures line { pass.new.line ≡ context.now.jobs.now }
     ensures hand { MatchBool result
         (pass.new.hand ≡ with_put pass.old.hand (job_of seq message.now))
         (pass.new.hand ≡ pass.old.hand) }
@@ -55,73 +53,60 @@ fn push_job<R: Wait>(
     if worker_count == 0 {
         return false;
     }
-    match RequestJob::copied(alloc, seq, message) {
-        Ok(job) => jobs.push(rt, pass, job).is_ok(),
+    match RequestJob::copied(context.rt.alloc(), seq, message) {
+        Ok(job) => context.jobs.push(context.rt, pass, job).is_ok(),
         Err(NoMemory) => false,
     }
 }
 
 /// Pushes a request as a job. Where no worker is there, or there is no memory or no place for it, answers it here.
 fn hand_in<R: Wait + AllocGlobal, W: Work>(
-    rt: &R,
-    work: &W,
+    context: &RunContext<R, W>,
     seq: u64,
     message: &[u8],
     worker_count: usize,
-    jobs: &Line<RequestJob>,
-    frames: &Line<Parcel>,
     caller: &mut Caller,
 )
     requires request { IsRequest message.now }
-    requires lines { CallerOn jobs.now frames.now caller.old }
+    requires lines { CallerOn context.now.jobs.now context.now.frames.now caller.old }
     requires first { (caller.old.jobs.hand.kind ≡ First) × (caller.old.frames.hand.kind ≡ First) }
     requires workers { caller.old.jobs.hand.others ≡ worker_count }
-    ensures lines { CallerOn jobs.now frames.now caller.new }
+    ensures lines { CallerOn context.now.jobs.now context.now.frames.now caller.new }
     ensures others { (caller.new.jobs.hand.others ≡ caller.old.jobs.hand.others)
         × (caller.new.frames.hand.others ≡ caller.old.frames.hand.others) }
     ensures alone { caller.old.jobs.hand.others ≡ 0 → caller.new.jobs.hand ≡ caller.old.jobs.hand }
     ensures caller { (ms : List (List ℕ)) → number_of (length ms) ≡ seq →
-        IsCaller (answering (W.owed work.now) W.DEFERS) ms caller.old.jobs.hand caller.old.frames.hand →
-        IsCaller (answering (W.owed work.now) W.DEFERS) (ms ++ message.now ∷ []) caller.new.jobs.hand
+        IsCaller (answering (W.owed context.now.work.now) W.DEFERS) ms caller.old.jobs.hand caller.old.frames.hand →
+        IsCaller (answering (W.owed context.now.work.now) W.DEFERS) (ms ++ message.now ∷ []) caller.new.jobs.hand
         caller.new.frames.hand }
 {
-    if push_job(
-        rt,
-        rt.alloc(),
-        seq,
-        message,
-        worker_count,
-        jobs,
-        &mut caller.jobs,
-    ) {
+    if push_job(context, seq, message, worker_count, &mut caller.jobs) {
         return;
     }
+    let (rt, work, frames) = (context.rt, context.work, context.frames);
     let out = caller.answerer.answer(rt, work, seq, message);
     frames.push_waiting(rt, &mut caller.frames, Parcel::Prompt(seq, out));
 }
 
 /// Takes a message and hands it in. None is that the run goes on.
 fn take_one<R: Wait + AllocGlobal, W: Work, S: Source>(
-    rt: &R,
-    work: &W,
+    context: &RunContext<R, W>,
     seq: u64,
     intake: &mut Intake<S>,
     worker_count: usize,
-    jobs: &Line<RequestJob>,
-    frames: &Line<Parcel>,
     caller: &mut Caller,
 ) -> Option<Stopped>
-    requires lines { CallerOn jobs.now frames.now caller.old }
+    requires lines { CallerOn context.now.jobs.now context.now.frames.now caller.old }
     requires first { (caller.old.jobs.hand.kind ≡ First) × (caller.old.frames.hand.kind ≡ First) }
     requires workers { caller.old.jobs.hand.others ≡ worker_count }
-    ensures lines { CallerOn jobs.now frames.now caller.new }
+    ensures lines { CallerOn context.now.jobs.now context.now.frames.now caller.new }
     ensures others { (caller.new.jobs.hand.others ≡ caller.old.jobs.hand.others)
         × (caller.new.frames.hand.others ≡ caller.old.frames.hand.others) }
     ensures alone { caller.old.jobs.hand.others ≡ 0 → caller.new.jobs.hand ≡ caller.old.jobs.hand }
-    ensures turn { TurnHeard (answering (W.owed work.now) W.DEFERS) seq result intake.old intake.new
+    ensures turn { TurnHeard (answering (W.owed context.now.work.now) W.DEFERS) seq result intake.old intake.new
         caller.old.jobs.hand caller.old.frames.hand caller.new.jobs.hand caller.new.frames.hand }
 {
-    let count = match intake.take_message(rt) {
+    let count = match intake.take_message(context.rt) {
         Taken::Message(count) => count,
         Taken::Gone => return Some(Stopped::Gone),
         Taken::Failed => return Some(Stopped::Failed),
@@ -131,7 +116,7 @@ fn take_one<R: Wait + AllocGlobal, W: Work, S: Source>(
         Incoming::Broken(error) => Some(Stopped::Broken(error)),
         Incoming::Destroy(id) => Some(Stopped::Destroy(seq, id)),
         Incoming::Request => {
-            hand_in(rt, work, seq, message, worker_count, jobs, frames, caller);
+            hand_in(context, seq, message, worker_count, caller);
             None
         }
     }
@@ -139,27 +124,24 @@ fn take_one<R: Wait + AllocGlobal, W: Work, S: Source>(
 
 /// Takes messages and hands them in, until no message is left or one ends the run.
 pub fn take_messages<R: Wait + AllocGlobal, W: Work, S: Source>(
-    rt: &R,
-    work: &W,
+    context: &RunContext<R, W>,
     intake: &mut Intake<S>,
     worker_count: usize,
-    jobs: &Line<RequestJob>,
-    frames: &Line<Parcel>,
     caller: &mut Caller,
 ) -> Stopped
-    requires lines { CallerOn jobs.now frames.now caller.old }
-    requires caller { IsCaller (answering (W.owed work.now) W.DEFERS) [] caller.old.jobs.hand caller.old.frames.hand }
+    requires lines { CallerOn context.now.jobs.now context.now.frames.now caller.old }
+    requires caller { IsCaller (answering (W.owed context.now.work.now) W.DEFERS) [] caller.old.jobs.hand caller.old.frames.hand }
     requires workers { caller.old.jobs.hand.others ≡ worker_count }
-    ensures lines { CallerOn jobs.now frames.now caller.new }
+    ensures lines { CallerOn context.now.jobs.now context.now.frames.now caller.new }
     ensures others { (caller.new.jobs.hand.others ≡ caller.old.jobs.hand.others)
         × (caller.new.frames.hand.others ≡ caller.old.frames.hand.others) }
     ensures alone { caller.old.jobs.hand.others ≡ 0 → caller.new.jobs.hand ≡ caller.old.jobs.hand }
     ensures heard { (ms : List (List ℕ)) × Hears result ms intake.old intake.new
-        × IsCaller (answering (W.owed work.now) W.DEFERS) ms caller.new.jobs.hand caller.new.frames.hand }
+        × IsCaller (answering (W.owed context.now.work.now) W.DEFERS) ms caller.new.jobs.hand caller.new.frames.hand }
 {
     let mut seq: u64 = 0;
-    for _ in rt.forever() {
-        match take_one(rt, work, seq, intake, worker_count, jobs, frames, caller) {
+    for _ in context.rt.forever() {
+        match take_one(context, seq, intake, worker_count, caller) {
             Some(stopped) => return stopped,
             None => seq = seq.saturating_add(1),
         }
@@ -168,28 +150,23 @@ pub fn take_messages<R: Wait + AllocGlobal, W: Work, S: Source>(
 }
 
 /// Answers the jobs that no worker took. No worker is left.
-pub fn answer_rest<R: Wait + AllocGlobal, W: Work>(
-    rt: &R,
-    work: &W,
-    jobs: &Line<RequestJob>,
-    frames: &Line<Parcel>,
-    caller: &mut Caller,
-)
-    requires lines { CallerOn jobs.now frames.now caller.old }
+pub fn answer_rest<R: Wait + AllocGlobal, W: Work>(context: &RunContext<R, W>, caller: &mut Caller)
+    requires lines { CallerOn context.now.jobs.now context.now.frames.now caller.old }
     requires first { (caller.old.jobs.hand.kind ≡ First) × (caller.old.frames.hand.kind ≡ First) }
-    ensures lines { CallerOn jobs.now frames.now caller.new }
+    ensures lines { CallerOn context.now.jobs.now context.now.frames.now caller.new }
     ensures others { (caller.new.jobs.hand.others ≡ caller.old.jobs.hand.others)
         × (caller.new.frames.hand.others ≡ caller.old.frames.hand.others) }
     ensures caller { (ms : List (List ℕ)) →
-        IsCaller (answering (W.owed work.now) W.DEFERS) ms caller.old.jobs.hand caller.old.frames.hand →
-        IsCaller (answering (W.owed work.now) W.DEFERS) ms caller.new.jobs.hand caller.new.frames.hand }
+        IsCaller (answering (W.owed context.now.work.now) W.DEFERS) ms caller.old.jobs.hand caller.old.frames.hand →
+        IsCaller (answering (W.owed context.now.work.now) W.DEFERS) ms caller.new.jobs.hand caller.new.frames.hand }
     ensures settled { IsSettled (λ _. true) caller.new.jobs.hand }
 {
+    let (rt, jobs, frames) = (context.rt, context.jobs, context.frames);
     for _ in rt.forever() {
         let Some(job) = jobs.pop(rt, &mut caller.jobs) else {
             return;
         };
-        let parcel = answer_job(rt, work, &mut caller.answerer, job);
+        let parcel = answer_job(context, &mut caller.answerer, job);
         frames.push_waiting(rt, &mut caller.frames, parcel);
     }
     unreachable!()
@@ -197,24 +174,23 @@ pub fn answer_rest<R: Wait + AllocGlobal, W: Work>(
 
 /// Answers DESTROY, where it was the last message.
 pub fn answer_last<R: Wait + AllocGlobal, W: Work>(
-    rt: &R,
-    work: &W,
+    context: &RunContext<R, W>,
     stopped: Stopped,
-    frames: &Line<Parcel>,
     caller: &mut Caller,
 )
-    requires line { caller.old.frames.line ≡ frames.now }
+    requires line { caller.old.frames.line ≡ context.now.frames.now }
     requires first { caller.old.frames.hand.kind ≡ First }
-    ensures line { caller.new.frames.line ≡ frames.now }
+    ensures line { caller.new.frames.line ≡ context.now.frames.now }
     ensures others { caller.new.frames.hand.others ≡ caller.old.frames.hand.others }
     ensures same { (caller.new.jobs ≡ caller.old.jobs) × (caller.new.answerer ≡ caller.old.answerer) }
     ensures caller { (ms : List (List ℕ)) (before : IntakeState) (after : IntakeState) →
         (hears : Hears stopped ms before after) →
-        IsCaller (answering (W.owed work.now) W.DEFERS) ms caller.old.jobs.hand caller.old.frames.hand →
-        IsCaller (answering (W.owed work.now) W.DEFERS) (ms ++ answered_last stopped hears.last)
+        IsCaller (answering (W.owed context.now.work.now) W.DEFERS) ms caller.old.jobs.hand caller.old.frames.hand →
+        IsCaller (answering (W.owed context.now.work.now) W.DEFERS) (ms ++ answered_last stopped hears.last)
         caller.new.jobs.hand caller.new.frames.hand }
 {
     if let Stopped::Destroy(seq, id) = stopped {
+        let (rt, frames) = (context.rt, context.frames);
         let out = destroy_reply(rt.alloc(), id);
         frames.push_waiting(rt, &mut caller.frames, Parcel::Prompt(seq, out));
     }

@@ -11,9 +11,10 @@ ghost use Rattle.fuse_sender.specs.Relays.{RelayState, Relays, relay_of};
 ghost use Rattle.fuse_loop.specs.Answering.{answering};
 
 use crate::relay::Relay;
+use crate::run_context::RunContext;
 use crate::sender::send_rest;
 use crate::stopped::Stopped;
-use fuse_line::{Line, Pass};
+use fuse_line::Pass;
 use fuse_loop::{Answerer, Incoming, Intake, Taken, Work, destroy_reply};
 use fuse_reply::Parcel;
 use fuse_wire::{Sink, Source};
@@ -22,19 +23,18 @@ use std::sync::Wait;
 
 /// Takes the message of this number, answers it, and hands on what goes out for it. None is that the run goes on.
 fn answer_next<R: Wait + AllocGlobal, W: Work, S: Source, K: Sink>(
-    rt: &R,
-    work: &W,
+    context: &RunContext<R, W>,
     seq: u64,
     intake: &mut Intake<S>,
     answerer: &mut Answerer,
     relay: &mut Relay<K>,
 ) -> Option<Stopped>
-    ensures turn { TurnAlone (answering (W.owed work.now) W.DEFERS) seq result intake.old intake.new
+    ensures turn { TurnAlone (answering (W.owed context.now.work.now) W.DEFERS) seq result intake.old intake.new
         (relay_of relay.old.outlet relay.old.book) (relay_of relay.new.outlet relay.new.book) }
     ensures line { answerer.new.notifier.line ≡ answerer.old.notifier.line }
     ensures doors { answerer.new.doors ≡ answerer.old.doors }
 {
-    let count = match intake.take_message(rt) {
+    let count = match intake.take_message(context.rt) {
         Taken::Message(count) => count,
         Taken::Gone => return Some(Stopped::Gone),
         Taken::Failed => return Some(Stopped::Failed),
@@ -43,11 +43,11 @@ fn answer_next<R: Wait + AllocGlobal, W: Work, S: Source, K: Sink>(
     match Incoming::of(message) {
         Incoming::Broken(error) => Some(Stopped::Broken(error)),
         Incoming::Destroy(id) => {
-            relay.deliver(destroy_reply(rt.alloc(), id));
+            relay.deliver(destroy_reply(context.rt.alloc(), id));
             Some(Stopped::Destroy(seq, id))
         }
         Incoming::Request => {
-            let out = answerer.answer(rt, work, seq, message);
+            let out = answerer.answer(context.rt, context.work, seq, message);
             relay.deliver(out);
             None
         }
@@ -56,53 +56,49 @@ fn answer_next<R: Wait + AllocGlobal, W: Work, S: Source, K: Sink>(
 
 /// Takes the message of this number and answers it, and hands on the notices and late frames that wait.
 fn take_turn<R: Wait + AllocGlobal, W: Work, S: Source, K: Sink>(
-    rt: &R,
-    work: &W,
+    context: &RunContext<R, W>,
     seq: u64,
-    frames: &Line<Parcel>,
     intake: &mut Intake<S>,
     answerer: &mut Answerer,
     pass: &mut Pass<Parcel>,
     relay: &mut Relay<K>,
 ) -> Option<Stopped>
-    requires line { pass.old.line ≡ frames.now }
+    requires line { pass.old.line ≡ context.now.frames.now }
     requires hand { pass.old.hand ≡ hand First 0 [] pass.old.hand.taken }
-    ensures line { (pass.new.line ≡ frames.now) × (answerer.new.notifier.line ≡ answerer.old.notifier.line) }
+    ensures line { (pass.new.line ≡ context.now.frames.now) × (answerer.new.notifier.line ≡ answerer.old.notifier.line) }
     ensures doors { answerer.new.doors ≡ answerer.old.doors }
     ensures turn { (more : List Goes) × (pass.new.hand ≡ hand First 0 [] (pass.old.hand.taken ++ more))
         × (handed : RelayState) × Relays more handed (relay_of relay.new.outlet relay.new.book)
-        × TurnAlone (answering (W.owed work.now) W.DEFERS) seq result intake.old intake.new
+        × TurnAlone (answering (W.owed context.now.work.now) W.DEFERS) seq result intake.old intake.new
         (relay_of relay.old.outlet relay.old.book) handed }
     ensures settled { IsSettled is_prompt pass.new.hand }
 {
-    let stopped = answer_next(rt, work, seq, intake, answerer, relay);
-    send_rest(rt, frames, pass, relay);
+    let stopped = answer_next(context, seq, intake, answerer, relay);
+    send_rest(context.rt, context.frames, pass, relay);
     stopped
 }
 
 /// Answers messages until no more are to be taken. After each the notices and late frames that wait are handed on.
 pub fn answer_in_turn_alone<R: Wait + AllocGlobal, W: Work, S: Source, K: Sink>(
-    rt: &R,
-    work: &W,
-    frames: &Line<Parcel>,
+    context: &RunContext<R, W>,
     intake: &mut Intake<S>,
     answerer: &mut Answerer,
     pass: &mut Pass<Parcel>,
     relay: &mut Relay<K>,
 ) -> Stopped
-    requires line { pass.old.line ≡ frames.now }
+    requires line { pass.old.line ≡ context.now.frames.now }
     requires hand { pass.old.hand ≡ hand First 0 [] pass.old.hand.taken }
     requires unprompted { outs_of pass.old.hand.taken ≡ [] }
-    ensures line { (pass.new.line ≡ frames.now) × (answerer.new.notifier.line ≡ answerer.old.notifier.line) }
+    ensures line { (pass.new.line ≡ context.now.frames.now) × (answerer.new.notifier.line ≡ answerer.old.notifier.line) }
     ensures doors { answerer.new.doors ≡ answerer.old.doors }
     ensures hand { (more : List Goes) × (pass.new.hand ≡ hand First 0 [] (pass.old.hand.taken ++ more))
-        × ServesAlone (answering (W.owed work.now) W.DEFERS) result more intake.old intake.new
+        × ServesAlone (answering (W.owed context.now.work.now) W.DEFERS) result more intake.old intake.new
         (relay_of relay.old.outlet relay.old.book) (relay_of relay.new.outlet relay.new.book) }
     ensures settled { IsSettled is_prompt pass.new.hand }
 {
     let mut seq: u64 = 0;
-    for _ in rt.forever() {
-        match take_turn(rt, work, seq, frames, intake, answerer, pass, relay) {
+    for _ in context.rt.forever() {
+        match take_turn(context, seq, intake, answerer, pass, relay) {
             Some(stopped) => return stopped,
             None => seq = seq.saturating_add(1),
         }

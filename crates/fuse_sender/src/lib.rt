@@ -7,10 +7,12 @@
 
 mod alone;
 mod relay;
+mod run_context;
 mod sender;
 mod stopped;
 
 pub use alone::answer_in_turn_alone;
 pub use relay::Relay;
+pub use run_context::RunContext;
 pub use sender::{LentRelay, send_rest, serve_sink};
 pub use stopped::Stopped;

@@ -14,7 +14,7 @@ use fuse_jobs::{Caller, answer_jobs};
 use fuse_line::{Line, Pass};
 use fuse_loop::{RequestJob, Work};
 use fuse_reply::Parcel;
-use fuse_sender::{LentRelay, serve_sink};
+use fuse_sender::{LentRelay, RunContext, serve_sink};
 use fuse_wire::Sink;
 use std::snapshot::Snapshot;
 use std::sync::Wait;
@@ -74,27 +74,25 @@ pub(crate) type Sender<'a, K> = PromisedHandle<LentRelay<'a, K>, SenderPromise<'
 /// once, with its flag raised.
 fn start_one<'s, E, W: Work, R: Threads + Wait + AllocGlobal + Sync>(
     scope: &Scope<'s, E>,
-    rt: &'s R,
-    work: &'s W,
-    jobs: &'s Line<RequestJob>,
-    frames: &'s Line<Parcel>,
+    context: &RunContext<'s, R, W>,
     no_more: &'s AtomicBool,
     caller: &mut Caller,
 ) -> Option<Worker<W>>
-    requires lines { CallerOn jobs.now frames.now caller.old }
-    requires caller { IsCaller (answering (W.owed work.now) W.DEFERS) [] caller.old.jobs.hand caller.old.frames.hand }
-    ensures lines { CallerOn jobs.now frames.now caller.new }
-    ensures caller { IsCaller (answering (W.owed work.now) W.DEFERS) [] caller.new.jobs.hand caller.new.frames.hand }
+    requires lines { CallerOn context.now.jobs.now context.now.frames.now caller.old }
+    requires caller { IsCaller (answering (W.owed context.now.work.now) W.DEFERS) [] caller.old.jobs.hand caller.old.frames.hand }
+    ensures lines { CallerOn context.now.jobs.now context.now.frames.now caller.new }
+    ensures caller { IsCaller (answering (W.owed context.now.work.now) W.DEFERS) [] caller.new.jobs.hand caller.new.frames.hand }
     ensures others { MatchOption result
         ((caller.new.jobs.hand.others ≡ caller.old.jobs.hand.others)
         × (caller.new.frames.hand.others ≡ caller.old.frames.hand.others))
-        (λ h. PromisesFor work.now jobs.now frames.now h.promise
+        (λ h. PromisesFor context.now.work.now context.now.jobs.now context.now.frames.now h.promise
         × (caller.new.jobs.hand.others ≡ caller.old.jobs.hand.others + 1)
         × (caller.new.frames.hand.others ≡ caller.old.frames.hand.others + 1)) }
 {
     let Ok(answerer) = caller.answerer.again() else {
         return None;
     };
+    let (rt, work, jobs, frames) = (context.rt, context.work, context.jobs, context.frames);
     let job_pass = jobs.split(&mut caller.jobs, false);
     let frame_pass = frames.split(&mut caller.frames, false);
     let promise = WorkerPromise {
@@ -109,9 +107,13 @@ fn start_one<'s, E, W: Work, R: Threads + Wait + AllocGlobal + Sync>(
         ensures { (result.0.line ≡ jobs.entry.now) × (result.1.line ≡ frames.entry.now)
             × IsServed (answering (W.owed work.entry.now) W.DEFERS) result.0.hand result.1.hand }
     {
-        answer_jobs(
-            rt, work, jobs, frames, job_pass, frame_pass, answerer, no_more,
-        )
+        let context = RunContext {
+            rt,
+            work,
+            jobs,
+            frames,
+        };
+        answer_jobs(&context, job_pass, frame_pass, answerer, no_more)
     };
     match scope.spawn_with(promise, worker) {
         Ok(handle) => Some(handle),
@@ -128,29 +130,26 @@ fn start_one<'s, E, W: Work, R: Threads + Wait + AllocGlobal + Sync>(
 /// Starts a worker for each flag, until one can't be started.
 pub(crate) fn start_workers<'s, E, W: Work, R: Threads + Wait + AllocGlobal + Sync>(
     scope: &Scope<'s, E>,
-    rt: &'s R,
-    work: &'s W,
-    jobs: &'s Line<RequestJob>,
-    frames: &'s Line<Parcel>,
+    context: &RunContext<'s, R, W>,
     flags: &'s [AtomicBool],
     caller: &mut Caller,
     workers: &mut Vec<Worker<W>>,
 )
-    requires lines { CallerOn jobs.now frames.now caller.old }
-    requires caller { IsCaller (answering (W.owed work.now) W.DEFERS) [] caller.old.jobs.hand caller.old.frames.hand }
+    requires lines { CallerOn context.now.jobs.now context.now.frames.now caller.old }
+    requires caller { IsCaller (answering (W.owed context.now.work.now) W.DEFERS) [] caller.old.jobs.hand caller.old.frames.hand }
     requires room { length flags.now ≤ vec_capacity workers.old - vec_len workers.old }
     requires few { length flags.now ≤ MOST_WORKERS }
-    requires promises { All (λ h. PromisesFor work.now jobs.now frames.now h.promise) workers.old.items }
-    ensures lines { CallerOn jobs.now frames.now caller.new }
-    ensures caller { IsCaller (answering (W.owed work.now) W.DEFERS) [] caller.new.jobs.hand caller.new.frames.hand }
-    ensures promises { All (λ h. PromisesFor work.now jobs.now frames.now h.promise) workers.new.items }
+    requires promises { All (λ h. PromisesFor context.now.work.now context.now.jobs.now context.now.frames.now h.promise) workers.old.items }
+    ensures lines { CallerOn context.now.jobs.now context.now.frames.now caller.new }
+    ensures caller { IsCaller (answering (W.owed context.now.work.now) W.DEFERS) [] caller.new.jobs.hand caller.new.frames.hand }
+    ensures promises { All (λ h. PromisesFor context.now.work.now context.now.jobs.now context.now.frames.now h.promise) workers.new.items }
     ensures jobs { caller.new.jobs.hand.others + vec_len workers.old
         ≡ caller.old.jobs.hand.others + vec_len workers.new }
     ensures frames { caller.new.frames.hand.others + vec_len workers.old
         ≡ caller.old.frames.hand.others + vec_len workers.new }
 {
     for flag in flags {
-        match start_one(scope, rt, work, jobs, frames, flag, caller) {
+        match start_one(scope, context, flag, caller) {
             Some(worker) => workers.push_reserved(worker),
             None => return,
         }
@@ -158,54 +157,43 @@ pub(crate) fn start_workers<'s, E, W: Work, R: Threads + Wait + AllocGlobal + Sy
 }
 
 /// Joins a worker, and takes its passes back.
-fn join_one<W: Work, R: Threads>(
-    rt: &R,
-    work: &W,
-    jobs: &Line<RequestJob>,
-    frames: &Line<Parcel>,
-    caller: &mut Caller,
-    worker: Worker<W>,
-)
-    requires lines { CallerOn jobs.now frames.now caller.old }
+fn join_one<W: Work, R: Threads>(context: &RunContext<R, W>, caller: &mut Caller, worker: Worker<W>)
+    requires lines { CallerOn context.now.jobs.now context.now.frames.now caller.old }
     requires first { (caller.old.jobs.hand.kind ≡ First) × (caller.old.frames.hand.kind ≡ First) }
-    requires promise { PromisesFor work.now jobs.now frames.now worker.promise }
-    ensures lines { CallerOn jobs.now frames.now caller.new }
+    requires promise { PromisesFor context.now.work.now context.now.jobs.now context.now.frames.now worker.promise }
+    ensures lines { CallerOn context.now.jobs.now context.now.frames.now caller.new }
     ensures first { (caller.new.jobs.hand.kind ≡ First) × (caller.new.frames.hand.kind ≡ First) }
     ensures others { (caller.new.jobs.hand.others ≡ caller.old.jobs.hand.others - 1)
         × (caller.new.frames.hand.others ≡ caller.old.frames.hand.others - 1) }
     ensures caller { (ms : List (List ℕ)) →
-        IsCaller (answering (W.owed work.now) W.DEFERS) ms caller.old.jobs.hand caller.old.frames.hand →
-        IsCaller (answering (W.owed work.now) W.DEFERS) ms caller.new.jobs.hand caller.new.frames.hand }
+        IsCaller (answering (W.owed context.now.work.now) W.DEFERS) ms caller.old.jobs.hand caller.old.frames.hand →
+        IsCaller (answering (W.owed context.now.work.now) W.DEFERS) ms caller.new.jobs.hand caller.new.frames.hand }
 {
-    let _ = work;
-    let (job_pass, frame_pass) = worker.join(rt);
-    jobs.join(&mut caller.jobs, job_pass);
-    frames.join(&mut caller.frames, frame_pass);
+    let (job_pass, frame_pass) = worker.join(context.rt);
+    context.jobs.join(&mut caller.jobs, job_pass);
+    context.frames.join(&mut caller.frames, frame_pass);
 }
 
 /// Joins the workers.
 pub(crate) fn join_workers<W: Work, R: Threads>(
-    rt: &R,
-    work: &W,
-    jobs: &Line<RequestJob>,
-    frames: &Line<Parcel>,
+    context: &RunContext<R, W>,
     caller: &mut Caller,
     workers: Vec<Worker<W>>,
 )
-    requires lines { CallerOn jobs.now frames.now caller.old }
+    requires lines { CallerOn context.now.jobs.now context.now.frames.now caller.old }
     requires first { (caller.old.jobs.hand.kind ≡ First) × (caller.old.frames.hand.kind ≡ First) }
-    requires promises { All (λ h. PromisesFor work.now jobs.now frames.now h.promise) workers.items }
+    requires promises { All (λ h. PromisesFor context.now.work.now context.now.jobs.now context.now.frames.now h.promise) workers.items }
     requires others { (caller.old.jobs.hand.others ≡ vec_len workers)
         × (caller.old.frames.hand.others ≡ 1 + vec_len workers) }
-    ensures lines { CallerOn jobs.now frames.now caller.new }
+    ensures lines { CallerOn context.now.jobs.now context.now.frames.now caller.new }
     ensures first { (caller.new.jobs.hand.kind ≡ First) × (caller.new.frames.hand.kind ≡ First) }
     ensures others { (caller.new.jobs.hand.others ≡ 0) × (caller.new.frames.hand.others ≡ 1) }
     ensures caller { (ms : List (List ℕ)) →
-        IsCaller (answering (W.owed work.now) W.DEFERS) ms caller.old.jobs.hand caller.old.frames.hand →
-        IsCaller (answering (W.owed work.now) W.DEFERS) ms caller.new.jobs.hand caller.new.frames.hand }
+        IsCaller (answering (W.owed context.now.work.now) W.DEFERS) ms caller.old.jobs.hand caller.old.frames.hand →
+        IsCaller (answering (W.owed context.now.work.now) W.DEFERS) ms caller.new.jobs.hand caller.new.frames.hand }
 {
     for worker in workers {
-        join_one(rt, work, jobs, frames, caller, worker);
+        join_one(context, caller, worker);
     }
 }
 

@@ -34,7 +34,7 @@ use fuse_loop::{
     Buffers, End, Ending, Intake, Lines, Outlet, RequestJob, RunEnd, RunLine, Transcript, Work,
 };
 use fuse_reply::Parcel;
-use fuse_sender::{LentRelay, Relay, Stopped, answer_in_turn_alone, send_rest};
+use fuse_sender::{LentRelay, Relay, RunContext, Stopped, answer_in_turn_alone, send_rest};
 use fuse_wire::{NoMemory, Sink, Source};
 use std::alloc::Global;
 use std::sync::atomic::{AtomicBool, Ordering};
@@ -61,71 +61,65 @@ fn raise(flags: &[AtomicBool]) {
 /// what they left.
 fn answer_all<'s, E, W: Work, S: Source, R: Threads + Wait + AllocGlobal + Sync>(
     scope: &Scope<'s, E>,
-    rt: &'s R,
-    work: &'s W,
-    jobs: &'s Line<RequestJob>,
-    frames: &'s Line<Parcel>,
+    context: &RunContext<'s, R, W>,
     flags: &'s [AtomicBool],
     intake: &mut Intake<S>,
     caller: &mut Caller,
     ending: &mut Ending,
     mut workers: Vec<Worker<W>>,
 ) -> Stopped
-    requires lines { CallerOn jobs.now frames.now caller.old }
-    requires caller { IsCaller (answering (W.owed work.now) W.DEFERS) [] caller.old.jobs.hand caller.old.frames.hand }
+    requires lines { CallerOn context.now.jobs.now context.now.frames.now caller.old }
+    requires caller { IsCaller (answering (W.owed context.now.work.now) W.DEFERS) [] caller.old.jobs.hand caller.old.frames.hand }
     requires others { (caller.old.jobs.hand.others ≡ 0) × (caller.old.frames.hand.others ≡ 1) }
     requires workers { (workers.items ≡ []) × (length flags.now ≤ vec_capacity workers) }
     requires few { length flags.now ≤ MOST_WORKERS }
     requires unmarked { ending.old.set ≡ None }
-    ensures lines { CallerOn jobs.now frames.now caller.new }
+    ensures lines { CallerOn context.now.jobs.now context.now.frames.now caller.new }
     ensures others { (caller.new.jobs.hand.others ≡ 0) × (caller.new.frames.hand.others ≡ 1) }
     ensures settled { IsSettled (λ _. true) caller.new.jobs.hand }
     ensures marked { ending.new ≡ ended_by ending.old intake.new.received }
     ensures answered { (ms : List (List ℕ)) × (hears : Hears result ms intake.old intake.new)
-        × IsCaller (answering (W.owed work.now) W.DEFERS) (ms ++ answered_last result hears.last)
+        × IsCaller (answering (W.owed context.now.work.now) W.DEFERS) (ms ++ answered_last result hears.last)
         caller.new.jobs.hand caller.new.frames.hand }
 {
-    start_workers(scope, rt, work, jobs, frames, flags, caller, &mut workers);
+    start_workers(scope, context, flags, caller, &mut workers);
     let worker_count = workers.len();
-    let stopped = take_messages(rt, work, intake, worker_count, jobs, frames, caller);
+    let stopped = take_messages(context, intake, worker_count, caller);
     raise(flags);
-    jobs.wake();
-    join_workers(rt, work, jobs, frames, caller, workers);
+    context.jobs.wake();
+    join_workers(context, caller, workers);
     mark_end(caller, ending, intake.received);
-    answer_rest(rt, work, jobs, frames, caller);
-    answer_last(rt, work, stopped, frames, caller);
+    answer_rest(context, caller);
+    answer_last(context, stopped, caller);
     stopped
 }
 
 /// Answers messages on this thread, which sends too, since no sender could be started.
 fn answer_alone<W: Work, S: Source, K: Sink, R: Wait + AllocGlobal>(
-    rt: &R,
-    work: &W,
-    frames: &Line<Parcel>,
+    context: &RunContext<R, W>,
     intake: &mut Intake<S>,
     relay: &mut Relay<K>,
     caller: &mut Caller,
     ending: &mut Ending,
 ) -> (Stopped, ClosedRun)
-    requires line { caller.old.frames.line ≡ frames.now }
+    requires line { caller.old.frames.line ≡ context.now.frames.now }
     requires hand { caller.old.frames.hand ≡ hand First 0 [] caller.old.frames.hand.taken }
     requires no_worker { caller.old.jobs.hand.others ≡ 0 }
     requires unmarked { ending.old.set ≡ None }
-    ensures line { caller.new.frames.line ≡ frames.now }
+    ensures line { caller.new.frames.line ≡ context.now.frames.now }
     ensures same { (caller.new.jobs ≡ caller.old.jobs)
         × (caller.new.answerer.notifier.line ≡ caller.old.answerer.notifier.line) }
     ensures marked { ending.new ≡ ended_by ending.old intake.new.received }
     ensures alone { (more : List Goes)
         × (caller.new.frames.hand ≡ hand First 0 [] (caller.old.frames.hand.taken ++ more))
-        × ServesAlone (answering (W.owed work.now) W.DEFERS) result.0 more intake.old intake.new
+        × ServesAlone (answering (W.owed context.now.work.now) W.DEFERS) result.0 more intake.old intake.new
         (relay_of relay.old.outlet relay.old.book) (relay_of relay.new.outlet relay.new.book) }
     ensures settled { IsSettled is_prompt caller.new.frames.hand }
 {
+    let (rt, frames) = (context.rt, context.frames);
     send_rest(rt, frames, &mut caller.frames, relay);
     let stopped = answer_in_turn_alone(
-        rt,
-        work,
-        frames,
+        context,
         intake,
         &mut caller.answerer,
         &mut caller.frames,
@@ -138,32 +132,30 @@ fn answer_alone<W: Work, S: Source, K: Sink, R: Wait + AllocGlobal>(
 
 /// Conducts a run on this thread, since no sender could be started. What one was to be lent came back, with its pass.
 fn conduct_alone<'a, W: Work, S: Source, K: Sink, R: Wait + AllocGlobal>(
-    rt: &R,
-    work: &W,
-    frames: &Line<Parcel>,
+    context: &RunContext<R, W>,
     intake: &'a mut Intake<S>,
     back: LentRelay<'a, K>,
     mut caller: Caller,
     mut ending: Ending,
 ) -> (Stopped, LentEnds<'a, S, K>, ClosedRun)
-    requires lines { (caller.frames.line ≡ frames.now) × (back.pass.line ≡ frames.now) }
+    requires lines { (caller.frames.line ≡ context.now.frames.now) × (back.pass.line ≡ context.now.frames.now) }
     requires hands { (caller.jobs.hand ≡ hand First 0 [] []) × (caller.frames.hand ≡ hand First 1 [] []) }
     requires sender { (back.pass.hand.kind ≡ Inner) × (back.pass.hand.put ≡ []) }
     requires unmarked { ending.set ≡ None }
     ensures same { (result.1.intake.ghost_name ≡ intake.entry.ghost_name)
         × (result.1.relay.ghost_name ≡ back.entry.relay.ghost_name) }
-    ensures lines { (result.1.caller.jobs.line ≡ caller.jobs.line) × (result.1.caller.frames.line ≡ frames.now)
+    ensures lines { (result.1.caller.jobs.line ≡ caller.jobs.line) × (result.1.caller.frames.line ≡ context.now.frames.now)
         × (result.1.caller.answerer.notifier.line ≡ caller.answerer.notifier.line) }
     ensures marked { result.1.ending ≡ ended_by ending result.1.intake.now.received }
     ensures conducts { (before : RelayState) →
         IsRelayed back.entry.pass.hand before (relay_of back.entry.relay.now.outlet back.entry.relay.now.book) →
-        Conducts (answering (W.owed work.now) W.DEFERS) result.0 intake.entry.now result.1.intake.now before
+        Conducts (answering (W.owed context.now.work.now) W.DEFERS) result.0 intake.entry.now result.1.intake.now before
         (relay_of result.1.relay.now.outlet result.1.relay.now.book)
         result.1.caller.jobs.hand result.1.caller.frames.hand }
 {
     let LentRelay { relay, pass } = back;
-    frames.join(&mut caller.frames, pass);
-    let (stopped, closed) = answer_alone(rt, work, frames, intake, relay, &mut caller, &mut ending);
+    context.frames.join(&mut caller.frames, pass);
+    let (stopped, closed) = answer_alone(context, intake, relay, &mut caller, &mut ending);
     let lent = LentEnds {
         intake,
         relay,
@@ -185,25 +177,22 @@ fn conduct<
     R: Threads + Wait + AllocGlobal + Sync,
 >(
     scope: &Scope<'s, E>,
-    rt: &'s R,
-    work: &'s W,
-    jobs: &'s Line<RequestJob>,
-    frames: &'s Line<Parcel>,
+    context: &RunContext<'s, R, W>,
     flags: &'s [AtomicBool],
     no_more: &'s AtomicBool,
     lent: LentEnds<'a, S, K>,
     workers: Vec<Worker<W>>,
 ) -> (Stopped, LentEnds<'a, S, K>, ClosedRun)
-    requires lines { CallerOn jobs.now frames.now lent.caller }
+    requires lines { CallerOn context.now.jobs.now context.now.frames.now lent.caller }
     requires hands { (lent.caller.jobs.hand ≡ hand First 0 [] []) × (lent.caller.frames.hand ≡ hand First 0 [] []) }
     requires workers { (workers.items ≡ []) × (length flags.now ≤ vec_capacity workers) }
     requires few { length flags.now ≤ MOST_WORKERS }
     requires unmarked { lent.ending.set ≡ None }
     ensures same { (result.1.intake.ghost_name ≡ lent.entry.intake.ghost_name)
         × (result.1.relay.ghost_name ≡ lent.entry.relay.ghost_name) }
-    ensures lines { CallerOn jobs.now frames.now result.1.caller }
+    ensures lines { CallerOn context.now.jobs.now context.now.frames.now result.1.caller }
     ensures marked { result.1.ending ≡ ended_by lent.entry.ending result.1.intake.now.received }
-    ensures conducts { Conducts (answering (W.owed work.now) W.DEFERS) result.0 lent.entry.intake.now
+    ensures conducts { Conducts (answering (W.owed context.now.work.now) W.DEFERS) result.0 lent.entry.intake.now
         result.1.intake.now (relay_of lent.entry.relay.now.outlet lent.entry.relay.now.book)
         (relay_of result.1.relay.now.outlet result.1.relay.now.book)
         result.1.caller.jobs.hand result.1.caller.frames.hand }
@@ -214,17 +203,15 @@ fn conduct<
         mut caller,
         mut ending,
     } = lent;
+    let (rt, frames) = (context.rt, context.frames);
     let pass = frames.split(&mut caller.frames, false);
     let sender = match start_sender(scope, rt, frames, LentRelay { relay, pass }, no_more) {
         Ok(sender) => sender,
-        Err(back) => return conduct_alone(rt, work, frames, intake, back, caller, ending),
+        Err(back) => return conduct_alone(context, intake, back, caller, ending),
     };
     let stopped = answer_all(
         scope,
-        rt,
-        work,
-        jobs,
-        frames,
+        context,
         flags,
         intake,
         &mut caller,
@@ -247,24 +234,21 @@ fn conduct<
 
 /// Conducts a run in a scope of its own, at whose end no thread is left.
 fn run_in_scope<'a, W: Work, S: Source, K: Sink + Send, R: Threads + Wait + AllocGlobal + Sync>(
-    rt: &R,
-    work: &W,
-    jobs: &Line<RequestJob>,
-    frames: &Line<Parcel>,
+    context: &RunContext<R, W>,
     flags: &[AtomicBool],
     lent: LentEnds<'a, S, K>,
     workers: Vec<Worker<W>>,
 ) -> (Stopped, LentEnds<'a, S, K>, ClosedRun)
-    requires lines { CallerOn jobs.now frames.now lent.caller }
+    requires lines { CallerOn context.now.jobs.now context.now.frames.now lent.caller }
     requires hands { (lent.caller.jobs.hand ≡ hand First 0 [] []) × (lent.caller.frames.hand ≡ hand First 0 [] []) }
     requires workers { (workers.items ≡ []) × (length flags.now ≤ vec_capacity workers) }
     requires few { length flags.now ≤ MOST_WORKERS }
     requires unmarked { lent.ending.set ≡ None }
     ensures same { (result.1.intake.ghost_name ≡ lent.entry.intake.ghost_name)
         × (result.1.relay.ghost_name ≡ lent.entry.relay.ghost_name) }
-    ensures lines { CallerOn jobs.now frames.now result.1.caller }
+    ensures lines { CallerOn context.now.jobs.now context.now.frames.now result.1.caller }
     ensures marked { result.1.ending ≡ ended_by lent.entry.ending result.1.intake.now.received }
-    ensures conducts { Conducts (answering (W.owed work.now) W.DEFERS) result.0 lent.entry.intake.now
+    ensures conducts { Conducts (answering (W.owed context.now.work.now) W.DEFERS) result.0 lent.entry.intake.now
         result.1.intake.now (relay_of lent.entry.relay.now.outlet lent.entry.relay.now.book)
         (relay_of result.1.relay.now.outlet result.1.relay.now.book)
         result.1.caller.jobs.hand result.1.caller.frames.hand }
@@ -273,9 +257,9 @@ fn run_in_scope<'a, W: Work, S: Source, K: Sink + Send, R: Threads + Wait + Allo
     let no_more = &flag;
     thread::scope(
         thread::scope_env(),
-        rt,
+        context.rt,
         |scope| -> (Stopped, LentEnds<S, K>, ClosedRun)
-            requires lines { CallerOn jobs.now frames.now lent.caller }
+            requires lines { CallerOn context.now.jobs.now context.now.frames.now lent.caller }
             requires hands { (lent.caller.jobs.hand ≡ hand First 0 [] [])
                 × (lent.caller.frames.hand ≡ hand First 0 [] []) }
             requires workers { (workers.items ≡ []) × (length flags.now ≤ vec_capacity workers) }
@@ -283,14 +267,14 @@ fn run_in_scope<'a, W: Work, S: Source, K: Sink + Send, R: Threads + Wait + Allo
             requires unmarked { lent.ending.set ≡ None }
             ensures same { (result.1.intake.ghost_name ≡ lent.entry.intake.ghost_name)
                 × (result.1.relay.ghost_name ≡ lent.entry.relay.ghost_name) }
-            ensures lines { CallerOn jobs.entry.now frames.entry.now result.1.caller }
+            ensures lines { CallerOn context.entry.now.jobs.now context.entry.now.frames.now result.1.caller }
             ensures marked { result.1.ending ≡ ended_by lent.entry.ending result.1.intake.now.received }
-            ensures conducts { Conducts (answering (W.owed work.entry.now) W.DEFERS) result.0
+            ensures conducts { Conducts (answering (W.owed context.entry.now.work.now) W.DEFERS) result.0
                 lent.entry.intake.now result.1.intake.now
                 (relay_of lent.entry.relay.now.outlet lent.entry.relay.now.book)
                 (relay_of result.1.relay.now.outlet result.1.relay.now.book)
                 result.1.caller.jobs.hand result.1.caller.frames.hand }
-        { conduct(scope, rt, work, jobs, frames, flags, no_more, lent, workers) },
+        { conduct(scope, context, flags, no_more, lent, workers) },
     )
 }
 
@@ -321,24 +305,21 @@ fn room_for<W: Work>(
 
 /// Conducts a run with so many workers, or with none where there is no memory for them.
 fn run_with<S: Source, K: Sink + Send, W: Work, R: Threads + Wait + AllocGlobal + Sync>(
-    rt: &R,
-    work: &W,
+    context: &RunContext<R, W>,
     count: usize,
-    jobs: &Line<RequestJob>,
-    frames: &Line<Parcel>,
     parts: RunParts<S, K>,
 ) -> (Stopped, RunParts<S, K>)
-    requires lines { CallerOn jobs.now frames.now parts.caller }
+    requires lines { CallerOn context.now.jobs.now context.now.frames.now parts.caller }
     requires few { count ≤ MOST_WORKERS }
     requires hands { (parts.caller.jobs.hand ≡ hand First 0 [] []) × (parts.caller.frames.hand ≡ hand First 0 [] []) }
     requires unmarked { parts.ending.set ≡ None }
-    ensures lines { CallerOn jobs.now frames.now result.1.caller }
+    ensures lines { CallerOn context.now.jobs.now context.now.frames.now result.1.caller }
     ensures marked { result.1.ending ≡ ended_by parts.ending result.1.intake.received }
-    ensures conducts { Conducts (answering (W.owed work.now) W.DEFERS) result.0 parts.intake result.1.intake
+    ensures conducts { Conducts (answering (W.owed context.now.work.now) W.DEFERS) result.0 parts.intake result.1.intake
         (relay_of parts.relay.outlet parts.relay.book) (relay_of result.1.relay.outlet result.1.relay.book)
         result.1.caller.jobs.hand result.1.caller.frames.hand }
 {
-    let alloc = rt.alloc();
+    let alloc = context.rt.alloc();
     let (flags, workers) = match room_for(alloc, count) {
         Ok(room) => room,
         Err(NoMemory) => (Vec::new(alloc), Vec::new(alloc)),
@@ -355,15 +336,7 @@ fn run_with<S: Source, K: Sink + Send, W: Work, R: Threads + Wait + AllocGlobal 
         caller,
         ending,
     };
-    let (stopped, back, _closed) = run_in_scope(
-        rt,
-        work,
-        jobs,
-        frames,
-        flags.as_slice(),
-        lent,
-        workers,
-    );
+    let (stopped, back, _closed) = run_in_scope(context, flags.as_slice(), lent, workers);
     let LentEnds {
         intake: taken,
         relay: sent,
@@ -480,7 +453,13 @@ fn run_on<W: Work, S: Source, K: Sink + Send, R: Threads + Wait + AllocGlobal + 
     ensures lines { IsOn (arc_value jobs) (arc_value frames) result.buffers }
     ensures drained { IsDrained result.buffers }
 {
-    let (stopped, parts) = run_with(rt, work, count, &jobs, &frames, parts);
+    let context = RunContext {
+        rt,
+        work,
+        jobs: &jobs,
+        frames: &frames,
+    };
+    let (stopped, parts) = run_with(&context, count, parts);
     ended::<W, S, K>(stopped.end(), parts, jobs, frames)
 }
 

@@ -22,7 +22,7 @@ use Rattle.fuse_jobs.proofs.caller.answer_last.Goals as goal
 -- DESTROY is owed the empty reply that was pushed
 pub returns-in-Destroy-clause-caller : goal.returns-in-Destroy-clause-caller
 returns-in-Destroy-clause-caller g c ms before after hears caller =
-    let owed : Owing = answering (g.W.Work.owed c.args.work.now) g.W.Work.DEFERS in
+    let owed : Owing = answering (g.W.Work.owed c.args.context.now.work.now) g.W.Work.DEFERS in
     let stops = subst (λ (s : Stopped). StopsWith s (number_of (length ms)) hears.last (NothingLeft after.source)
     (SourceFailed before.source after.source)) c.in-Destroy.is hears.stops in
     let m = stops.0 in
@@ -31,7 +31,7 @@ returns-in-Destroy-clause-caller g c ms before after hears caller =
     let frame : Out = Frame (reply (id_of m) Empty) in
     let law = (g.met.W.Work g.world.𝓛 g.world.𝓜 g.world.𝓡 ((λ s x. x), (λ x. x), (λ x. x), λ x. x)).owed_to_destroy in
     let pays : owed (number_of (length ms)) m frame =
-    (law c.args.work.now (number_of (length ms)) m stops.2, (λ no. tt), destroy-not-broken m stops.2) in
+    (law c.args.context.now.work.now (number_of (length ms)) m stops.2, (λ no. tt), destroy-not-broken m stops.2) in
     let answered = Caller-answered owed ms j f m frame caller pays in
     let is : frame ≡ c.destroy_reply-out.result = ap (λ (id : ℕ). Frame (reply id Empty)) (sym stops.3) ∙ sym c.destroy_reply-out.ensures in
     let numbered = subst (λ (n : ℕ). IsCaller owed (ms ++ m ∷ []) j (with_put f (Prompt n frame))) (sym stops.4) answered in

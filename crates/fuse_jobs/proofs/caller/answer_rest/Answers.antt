@@ -12,7 +12,7 @@ use Rattle.fuse_jobs.proofs.caller.answer_rest.Goals as goal
 -- one job more was taken, and its answer pushed
 pub loop-preserved : goal.loop-preserved
 loop-preserved g c =
-    let owed : Owing = answering (g.W.Work.owed c.args.work.now) g.W.Work.DEFERS in
+    let owed : Owing = answering (g.W.Work.owed c.args.context.now.work.now) g.W.Work.DEFERS in
     let so_far = c.loop.invariant in
     let j = c.loop.caller.jobs.hand in
     let f = c.loop.caller.frames.hand in

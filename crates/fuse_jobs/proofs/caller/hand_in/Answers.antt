@@ -12,14 +12,14 @@ use Rattle.fuse_jobs.proofs.caller.hand_in.Goals as goal
 
 pub returns-then-push_job-clause-caller : goal.returns-then-push_job-clause-caller
 returns-then-push_job-clause-caller g c ms number caller =
-    let owed : Owing = answering (g.W.Work.owed c.args.work.now) g.W.Work.DEFERS in
+    let owed : Owing = answering (g.W.Work.owed c.args.context.now.work.now) g.W.Work.DEFERS in
     let m = c.args.message.now in
     subst (λ (v : Hand Job). IsCaller owed (ms ++ m ∷ []) v c.args.caller.now.frames.hand) (sym c.if-push_job.ensures.hand)
     (Caller-pushed owed ms c.args.caller.now.jobs.hand c.args.caller.now.frames.hand m (job_of c.args.seq m) caller number refl)
 
 pub returns-clause-caller : goal.returns-clause-caller
 returns-clause-caller g c ms number caller =
-    let owed : Owing = answering (g.W.Work.owed c.args.work.now) g.W.Work.DEFERS in
+    let owed : Owing = answering (g.W.Work.owed c.args.context.now.work.now) g.W.Work.DEFERS in
     let m = c.args.message.now in
     let out = c.answer-out.result in
     let there : owed c.args.seq m out = c.answer-out.ensures.answered in

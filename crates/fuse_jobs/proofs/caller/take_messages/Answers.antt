@@ -14,7 +14,7 @@ loop-init g c = (c.requires.lines.0, c.requires.lines.1, refl, refl, [], refl, H
 
 pub returns-in-Some-take_one-clause-heard : goal.returns-in-Some-take_one-clause-heard
 returns-in-Some-take_one-clause-heard g c =
-    let owed : Owing = answering (g.W.Work.owed c.args.work.now) g.W.Work.DEFERS in
+    let owed : Owing = answering (g.W.Work.owed c.args.context.now.work.now) g.W.Work.DEFERS in
     let so_far = c.loop.invariant in
     let ms = so_far.4 in
     let turn = c.in-Some-take_one.ensures.turn in (

@@ -8,9 +8,9 @@ use Rattle.fuse_jobs.proofs.caller.take_messages.Given as goal
 -- these requests were taken and handed in so far
 abbrev pub invariant-loop : goal.invariant-loop
 invariant-loop g l =
-    (l.caller.jobs.line ≡ l.jobs) × (l.caller.frames.line ≡ l.frames)
+    (l.caller.jobs.line ≡ l.context.jobs.now) × (l.caller.frames.line ≡ l.context.frames.now)
     × (l.caller.jobs.hand.others ≡ l.fn.caller.jobs.hand.others) × (l.caller.frames.hand.others ≡ l.fn.caller.frames.hand.others)
     × (ms : List (List ℕ)) × (number_of (length ms) ≡ l.seq) × HearsOn ms l.fn.intake l.intake
-    × IsCaller (answering (g.W.Work.owed l.work) g.W.Work.DEFERS) ms l.caller.jobs.hand l.caller.frames.hand
-    × (l.caller.answerer.notifier.line ≡ l.frames)
+    × IsCaller (answering (g.W.Work.owed l.context.work.now) g.W.Work.DEFERS) ms l.caller.jobs.hand l.caller.frames.hand
+    × (l.caller.answerer.notifier.line ≡ l.context.frames.now)
     × (l.caller.jobs.hand.others ≡ 0 → l.caller.jobs.hand ≡ l.fn.caller.jobs.hand)

@@ -6,7 +6,7 @@ use Rattle.fuse_jobs.proofs.worker.answer_job.Goals as goal
 
 pub returns-clause-answered : goal.returns-clause-answered
 returns-clause-answered g c =
-    let owed : Owing = answering (g.W.Work.owed c.args.work.now) g.W.Work.DEFERS in
+    let owed : Owing = answering (g.W.Work.owed c.args.context.now.work.now) g.W.Work.DEFERS in
     let out = c.answer-out.result in
     let seq = c.seq-seq.result in
     let m = c.message.result.now in

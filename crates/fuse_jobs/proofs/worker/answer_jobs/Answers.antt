@@ -12,7 +12,7 @@ use Rattle.fuse_jobs.proofs.worker.answer_jobs.Goals as goal
 -- one job more was taken, and its answer pushed
 pub loop-preserved : goal.loop-preserved
 loop-preserved g c =
-    let owed : Owing = answering (g.W.Work.owed c.args.work.now) g.W.Work.DEFERS in
+    let owed : Owing = answering (g.W.Work.owed c.args.context.now.work.now) g.W.Work.DEFERS in
     let x = c.in-Some-pop_waiting.job in
     let said = c.answer_job-parcel.ensures.answered in
     let served = Served-next owed c.loop.job_pass.hand c.loop.frame_pass.hand x said.0 c.loop.invariant.4 said.2 in

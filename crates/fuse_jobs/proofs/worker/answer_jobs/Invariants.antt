@@ -7,5 +7,5 @@ use Rattle.fuse_jobs.proofs.worker.answer_jobs.Given as goal
 abbrev pub invariant-loop : goal.invariant-loop
 invariant-loop g l =
     (goal.iterator-loop g).can_next l.iterator' × (goal.iterator-loop g).is_finite l.iterator'
-    × (l.job_pass.line ≡ l.jobs) × (l.frame_pass.line ≡ l.frames)
-    × IsServed (answering (g.W.Work.owed l.work) g.W.Work.DEFERS) l.job_pass.hand l.frame_pass.hand
+    × (l.job_pass.line ≡ l.context.jobs.now) × (l.frame_pass.line ≡ l.context.frames.now)
+    × IsServed (answering (g.W.Work.owed l.context.work.now) g.W.Work.DEFERS) l.job_pass.hand l.frame_pass.hand

@@ -12,9 +12,9 @@ use Rattle.fuse_sender.proofs.alone.answer_in_turn_alone.Given as goal
 -- these requests were taken and answered so far
 abbrev pub invariant-loop : goal.invariant-loop
 invariant-loop g l =
-    (l.pass.line ≡ l.frames) × (l.answerer.notifier.line ≡ l.fn.answerer.notifier.line)
+    (l.pass.line ≡ l.context.frames.now) × (l.answerer.notifier.line ≡ l.fn.answerer.notifier.line)
     × (more : List Parcel) × (l.pass.hand ≡ hand First 0 [] (l.fn.pass.hand.taken ++ more)) × (outs_of (l.fn.pass.hand.taken ++ more) ≡ [])
     × (ms : List (List ℕ)) × (number_of (length ms) ≡ l.seq)
-    × ServesOn (answering (g.W.Work.owed l.work) g.W.Work.DEFERS) ms more l.fn.intake l.intake (relay_of l.fn.relay.outlet l.fn.relay.book)
+    × ServesOn (answering (g.W.Work.owed l.context.work.now) g.W.Work.DEFERS) ms more l.fn.intake l.intake (relay_of l.fn.relay.outlet l.fn.relay.book)
     (relay_of l.relay.outlet l.relay.book)
     × (l.answerer.doors ≡ l.fn.answerer.doors)

@@ -31,7 +31,7 @@ returns-in-Broken-clause-turn g c = (
 -- DESTROY is owed the empty reply that was handed on
 pub returns-in-Destroy-clause-turn : goal.returns-in-Destroy-clause-turn
 returns-in-Destroy-clause-turn g c =
-    let owed : Owing = answering (g.W.Work.owed c.args.work.now) g.W.Work.DEFERS in
+    let owed : Owing = answering (g.W.Work.owed c.args.context.now.work.now) g.W.Work.DEFERS in
     let x = take c.in-Message.count c.take_message.new.self.buffer in
     let arrives : Arrives (found.Destroy c.in-Destroy.id) x =
     subst (λ (b : List ℕ). Arrives (found.Destroy c.in-Destroy.id) b) c.message-message.ensures c.in-Destroy.ensures in
@@ -42,7 +42,7 @@ returns-in-Destroy-clause-turn g c =
     let law = (g.met.W.Work g.world.𝓛 g.world.𝓜 g.world.𝓡 ((λ s x. x), (λ x. x), (λ x. x), λ x. x)).owed_to_destroy in
     let is : Frame (reply (id_of m) Empty) ≡ out = ap (λ (id : ℕ). Frame (reply id Empty)) (sym stops.3) ∙ sym c.destroy_reply.ensures in
     let pays : owed c.args.seq m out =
-    subst (λ (o : Out). owed c.args.seq m o) is (law c.args.work.now c.args.seq m stops.2, (λ _. tt), destroy-not-broken m stops.2) in (
+    subst (λ (o : Out). owed c.args.seq m o) is (law c.args.context.now.work.now c.args.seq m stops.2, (λ _. tt), destroy-not-broken m stops.2) in (
       hears,
       subst (λ (l : List (List ℕ)). AnswersLast owed c.args.seq l (relay_of c.args.relay.now.outlet c.args.relay.now.book)
           (relay_of c.deliver.new.self.outlet c.deliver.new.self.book)) (sym stops.1) (refl, out, pays, c.deliver.ensures),

@@ -9,10 +9,10 @@ use Rattle.fuse_workers.proofs.threads.start_workers.Given as goal
 -- as many more are counted as were started
 abbrev pub invariant-loop-flag : goal.invariant-loop-flag
 invariant-loop-flag g l =
-    (l.caller.jobs.line ≡ l.jobs) × (l.caller.frames.line ≡ l.frames)
-    × IsCaller (answering (g.W.Work.owed l.work) g.W.Work.DEFERS) [] l.caller.jobs.hand l.caller.frames.hand
+    (l.caller.jobs.line ≡ l.context.jobs.now) × (l.caller.frames.line ≡ l.context.frames.now)
+    × IsCaller (answering (g.W.Work.owed l.context.work.now) g.W.Work.DEFERS) [] l.caller.jobs.hand l.caller.frames.hand
     × (length l.flags ≤ (vec_capacity l.workers - vec_len l.workers) + l.flag-index)
-    × All (λ h. PromisesFor l.work l.jobs l.frames h.promise) l.workers.items
+    × All (λ h. PromisesFor l.context.work.now l.context.jobs.now l.context.frames.now h.promise) l.workers.items
     × (l.caller.jobs.hand.others + vec_len l.fn.workers ≡ l.fn.caller.jobs.hand.others + vec_len l.workers)
     × (l.caller.frames.hand.others + vec_len l.fn.workers ≡ l.fn.caller.frames.hand.others + vec_len l.workers)
-    × (l.caller.answerer.notifier.line ≡ l.frames)
+    × (l.caller.answerer.notifier.line ≡ l.context.frames.now)

@@ -27,7 +27,7 @@ returns-clause-alone g c =
     let last_outs = alone-unprompted c.send_last-closed.new.pass.hand _ last_is c.send_last-closed.ensures.settled in (
       first.0 ++ (alone.0 ++ last.0),
       last_hand ∙ ap (λ (l : List Parcel). hand First 0 [] (taken ++ l)) (append_assoc first.0 alone.0 last.0),
-      ServesAlone-after (answering (g.W.Work.owed c.args.work.now) g.W.Work.DEFERS) _ first.0 alone.0 last.0 _ _ _ _ _ _ first.2
+      ServesAlone-after (answering (g.W.Work.owed c.args.context.now.work.now) g.W.Work.DEFERS) _ first.0 alone.0 last.0 _ _ _ _ _ _ first.2
           (outs-then taken first.0 (outs-first taken first.0 first_outs) first_outs) alone.2 last.2
           (outs-then mid.taken last.0 (outs-first mid.taken last.0 last_outs) last_outs),
     )

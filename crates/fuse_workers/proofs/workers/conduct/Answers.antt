@@ -12,7 +12,7 @@ use Rattle.fuse_workers.proofs.workers.conduct.Goals as goal
 pub answer_all-stopped-requires-clause-caller : goal.answer_all-stopped-requires-clause-caller
 answer_all-stopped-requires-clause-caller g c κs within =
     let split : c.split-pass.new.pass.hand ≡ hand First 1 [] [] = c.split-pass.ensures.hands.0 ∙ ap (λ (h : Hand Parcel). with_other h) c.requires.hands.1 in
-    Caller-idle (answering (g.W.Work.owed c.args.work.now) g.W.Work.DEFERS) c.args.lent.caller.jobs.hand c.split-pass.new.pass.hand c.requires.hands.0 split
+    Caller-idle (answering (g.W.Work.owed c.args.context.now.work.now) g.W.Work.DEFERS) c.args.lent.caller.jobs.hand c.split-pass.new.pass.hand c.requires.hands.0 split
 
 pub returns-in-Err-clause-conducts : goal.returns-in-Err-clause-conducts
 returns-in-Err-clause-conducts g c =
@@ -25,7 +25,7 @@ returns-clause-conducts g c =
     let back = c.join-relay.result in
     let relayed : IsRelayed back.pass.hand (relay_of c.args.lent.relay.now.outlet c.args.lent.relay.now.book)
     (relay_of back.relay.now.outlet back.relay.now.book) = search rules in
-    Conducts-answered (answering (g.W.Work.owed c.args.work.now) g.W.Work.DEFERS) c.answer_all-stopped.result c.args.lent.intake.now
+    Conducts-answered (answering (g.W.Work.owed c.args.context.now.work.now) g.W.Work.DEFERS) c.answer_all-stopped.result c.args.lent.intake.now
     c.answer_all-stopped.new.intake (relay_of c.args.lent.relay.now.outlet c.args.lent.relay.now.book) (relay_of back.relay.now.outlet back.relay.now.book)
     (relay_of c.send_last-closed.new.relay.outlet c.send_last-closed.new.relay.book) c.answer_all-stopped.new.caller.jobs.hand
     c.answer_all-stopped.new.caller.frames.hand back.pass.hand c.send_last-closed.new.pass.hand rest.0 answered.0 answered.1 answered.2

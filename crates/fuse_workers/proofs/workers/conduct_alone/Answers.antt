@@ -23,7 +23,7 @@ returns-clause-conducts g c before relayed =
     let there = c.join.ensures.hand ∙ (ap (λ (h : Hand Parcel). joined h v) c.requires.hands.1
     ∙ joined-sender (hand First 1 [] []) v relayed.no_put refl refl relayed.kind refl) in
     let alone = c.answer_alone-stopped.ensures.alone in
-    Conducts-alone (answering (g.W.Work.owed c.args.work.now) g.W.Work.DEFERS) c.answer_alone-stopped.result.0 c.args.intake.now
+    Conducts-alone (answering (g.W.Work.owed c.args.context.now.work.now) g.W.Work.DEFERS) c.answer_alone-stopped.result.0 c.args.intake.now
     c.answer_alone-stopped.new.intake before (relay_of c.args.back.relay.now.outlet c.args.back.relay.now.book)
     (relay_of c.answer_alone-stopped.new.relay.outlet c.answer_alone-stopped.new.relay.book)
     c.answer_alone-stopped.new.caller.jobs.hand v c.answer_alone-stopped.new.caller.frames.hand alone.0

@@ -9,7 +9,7 @@ use Rattle.fuse_workers.proofs.workers.run_with.Goals as goal
 -- what was lent is as the run left it
 pub returns-clause-conducts : goal.returns-clause-conducts
 returns-clause-conducts g c =
-    let owed = answering (g.W.Work.owed c.args.work.now) g.W.Work.DEFERS in
+    let owed = answering (g.W.Work.owed c.args.context.now.work.now) g.W.Work.DEFERS in
     let back = c.run_in_scope-stopped.result in
     let before = relay_of c.args.parts.relay.outlet c.args.parts.relay.book in
     subst (λ (r : Relay g.row.K.Denot). Conducts owed back.0 c.args.parts.intake c.intake-2-1.given.0 before
