@@ -2,7 +2,6 @@
 use Rattle.std.proofs.Common.{ℕ, Result, inl, inr, lit<}
 use Rattle.fuse_operations.specs.Call.{Call}
 use Rattle.fuse_header.specs.declared.request.Request.{Request}
-use Rattle.fuse_reply.specs.Answer.Answer.{Error}
 use Rattle.fuse_reply.specs.Door.{DoorSeen}
 use Rattle.fuse_reply.specs.declared.door.NoDoor.{NoDoor}
 use Rattle.fuse_reply.specs.declared.out.Out.{Out}

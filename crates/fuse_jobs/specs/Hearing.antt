@@ -1,5 +1,5 @@
 -- A turn of the caller, which takes messages for workers.
-use Rattle.std.specs.Prelude.{◌≡◌, ◌+◌, ◌++◌, ℕ, List, [], ◌∷◌, Option, None, Some, length}
+use Rattle.std.specs.Prelude.{◌≡◌, ◌++◌, ℕ, List, [], ◌∷◌, Option, None, Some, length}
 use Rattle.fuse_core.specs.OneEach.{Owing, number_of}
 use Rattle.fuse_sender.specs.Hearing.{HearsLast, HearsOn}
 use Rattle.fuse_jobs.specs.Answered.{IsCaller}

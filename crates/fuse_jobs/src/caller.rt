@@ -14,9 +14,9 @@ ghost use Rattle.fuse_jobs.specs.Answered.{IsCaller};
 
 use crate::worker::answer_job;
 use fuse_line::Pass;
-use fuse_loop::{Answerer, Incoming, Intake, RequestJob, Taken, Work, destroy_reply};
+use fuse_loop::{Answerer, Intake, RequestJob, Work, destroy_reply};
 use fuse_reply::Parcel;
-use fuse_sender::{RunContext, Stopped};
+use fuse_sender::{RunContext, Stopped, take_request};
 use fuse_wire::{NoMemory, Source};
 use std::alloc::AllocGlobal;
 use std::sync::Wait;
@@ -106,19 +106,12 @@ fn take_one<R: Wait + AllocGlobal, W: Work, S: Source>(
     ensures turn { TurnHeard (answering (W.owed context.now.work.now) W.DEFERS) seq result intake.old intake.new
         caller.old.jobs.hand caller.old.frames.hand caller.new.jobs.hand caller.new.frames.hand }
 {
-    let count = match intake.take_message(context.rt) {
-        Taken::Message(count) => count,
-        Taken::Gone => return Some(Stopped::Gone),
-        Taken::Failed => return Some(Stopped::Failed),
-    };
-    let message = intake.message(count);
-    match Incoming::of(message) {
-        Incoming::Broken(error) => Some(Stopped::Broken(error)),
-        Incoming::Destroy(id) => Some(Stopped::Destroy(seq, id)),
-        Incoming::Request => {
-            hand_in(context, seq, message, worker_count, caller);
+    match take_request(context.rt, seq, intake) {
+        Ok(count) => {
+            hand_in(context, seq, intake.message(count), worker_count, caller);
             None
         }
+        Err(stopped) => Some(stopped),
     }
 }
 

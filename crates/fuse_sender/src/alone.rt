@@ -14,8 +14,9 @@ use crate::relay::Relay;
 use crate::run_context::RunContext;
 use crate::sender::send_rest;
 use crate::stopped::Stopped;
+use crate::taking::take_request;
 use fuse_line::Pass;
-use fuse_loop::{Answerer, Incoming, Intake, Taken, Work, destroy_reply};
+use fuse_loop::{Answerer, Intake, Work, destroy_reply};
 use fuse_reply::Parcel;
 use fuse_wire::{Sink, Source};
 use std::alloc::AllocGlobal;
@@ -34,24 +35,18 @@ fn answer_next<R: Wait + AllocGlobal, W: Work, S: Source, K: Sink>(
     ensures line { answerer.new.notifier.line ≡ answerer.old.notifier.line }
     ensures doors { answerer.new.doors ≡ answerer.old.doors }
 {
-    let count = match intake.take_message(context.rt) {
-        Taken::Message(count) => count,
-        Taken::Gone => return Some(Stopped::Gone),
-        Taken::Failed => return Some(Stopped::Failed),
+    let stopped = match take_request(context.rt, seq, intake) {
+        Ok(count) => {
+            let message = intake.message(count);
+            relay.deliver(answerer.answer(context.rt, context.work, seq, message));
+            return None;
+        }
+        Err(stopped) => stopped,
     };
-    let message = intake.message(count);
-    match Incoming::of(message) {
-        Incoming::Broken(error) => Some(Stopped::Broken(error)),
-        Incoming::Destroy(id) => {
-            relay.deliver(destroy_reply(context.rt.alloc(), id));
-            Some(Stopped::Destroy(seq, id))
-        }
-        Incoming::Request => {
-            let out = answerer.answer(context.rt, context.work, seq, message);
-            relay.deliver(out);
-            None
-        }
+    if let Stopped::Destroy(_, id) = stopped {
+        relay.deliver(destroy_reply(context.rt.alloc(), id));
     }
+    Some(stopped)
 }
 
 /// Takes the message of this number and answers it, and hands on the notices and late frames that wait.

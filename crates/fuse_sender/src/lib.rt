@@ -10,9 +10,11 @@ mod relay;
 mod run_context;
 mod sender;
 mod stopped;
+mod taking;
 
 pub use alone::answer_in_turn_alone;
 pub use relay::Relay;
 pub use run_context::RunContext;
 pub use sender::{LentRelay, send_rest, serve_sink};
 pub use stopped::Stopped;
+pub use taking::take_request;

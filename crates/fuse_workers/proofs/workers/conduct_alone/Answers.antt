@@ -1,4 +1,4 @@
-use Rattle.std.proofs.Common.{◌≡◌, ◌∙◌, ◌++◌, [], ap, refl}
+use Rattle.std.proofs.Common.{◌∙◌, ◌++◌, [], ap, refl}
 use Rattle.fuse_line.specs.Hand.{hand, joined}
 use Rattle.fuse_line.specs.Seen.{Seen}
 use Rattle.fuse_line.specs.declared.hand.Hand.{Hand}
