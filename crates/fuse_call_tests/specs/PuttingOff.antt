@@ -1,14 +1,6 @@
--- What comes of a reply that is put off.
-use Rattle.std.specs.Prelude.{◌≡◌, ◌⊎◌, ℕ, Result}
-use Rattle.fuse_wire.specs.ErrorNumbers.{EIO}
-use Rattle.fuse_reply.specs.Answer.Answer.{Error}
-use Rattle.fuse_reply.specs.Door.{DoorSeen}
-use Rattle.fuse_reply.specs.Frame.{reply}
-use Rattle.fuse_reply.specs.declared.door.NoDoor.{NoDoor}
-use Rattle.fuse_reply.specs.declared.out.Out.{Out}
-use Rattle.fuse_reply.specs.declared.out.Out.TheVariants.{Frame}
-use Rattle.fuse_dispatch.specs.Owed.{IsPutOff}
+-- What is promised of a reply that is put off.
+use Rattle.fuse_dispatch.specs.Promise.{MayAnswer}
 
--- EIO, or the mark of a reply that comes later
-abbrev pub ComesLater : (id : ℕ) → Result DoorSeen NoDoor → Out → Type 0
-ComesLater id door out = (out ≡ Frame (reply id (Error EIO))) ⊎ IsPutOff door id out
+-- any answer to any call
+abbrev pub any_answer : {F : Type 0} → MayAnswer F
+any_answer fs request call answer = Unit {0}

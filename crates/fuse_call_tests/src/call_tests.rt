@@ -1,8 +1,8 @@
 // What reaches a filesystem of each message, and what the message gets where the filesystem wants nothing of its own.
 use crate::asserts::expect_same;
 use crate::every_call::{Call, Row, asker};
-use crate::file_calls::files;
-use crate::node_calls::nodes;
+use crate::file_calls::{files, others};
+use crate::node_calls::{inodes, names};
 use crate::recording::{Recorded, Recording};
 use crate::row_sessions::{frames_of, id_at, notes_of, source_of_rows};
 use fuse_config::{Config, SessionACL};
@@ -92,10 +92,12 @@ fn comes_to<R: Threads + Wait + AllocGlobal + Abort + Send + Sync + Copy>(rt: &R
 
 #[test]
 fn what_is_asked_of_inodes_and_names_reaches_the_filesystem(rt: HostRuntime) {
-    comes_to(&rt, nodes());
+    comes_to(&rt, inodes());
+    comes_to(&rt, names());
 }
 
 #[test]
 fn what_is_asked_of_open_files_reaches_the_filesystem(rt: HostRuntime) {
     comes_to(&rt, files());
+    comes_to(&rt, others());
 }

@@ -10,13 +10,18 @@ use fuse_request::opcode::{
     FUSE_READDIRPLUS, FUSE_RELEASE, FUSE_RELEASEDIR, FUSE_SETLK, FUSE_SETLKW, FUSE_WRITE,
 };
 
-/// A message of each opcode that is about open files and directories or asks no filesystem, with what it comes to. The
-/// last is DESTROY.
+/// A message of each opcode that is about open files, with what it comes to.
 pub(crate) fn files() -> &'static [Row] {
     &FILES
 }
 
-static FILES: [Row; 33] = [
+/// A message of each opcode that is about open directories, locks or devices or asks no filesystem, with what it comes to.
+/// The last is DESTROY.
+pub(crate) fn others() -> &'static [Row] {
+    &OTHERS
+}
+
+static FILES: [Row; 15] = [
     Row {
         opcode: FUSE_OPEN,
         length: 8,
@@ -192,6 +197,109 @@ static FILES: [Row; 33] = [
         reply: Error(ENOSYS),
     },
     Row {
+        opcode: FUSE_CREATE,
+        length: 16,
+        changes: &[],
+        tail: b"file\0",
+        calls: &[(
+            "create",
+            &[
+                Number(0xa8a7_a6a5_a4a3_a2a1),
+                Number(0x0807_0605),
+                Number(0x0c0b_0a09),
+                Number(0x0403_0201),
+            ],
+            b"file\0",
+        )],
+        reply: Error(ENOSYS),
+    },
+    Row {
+        opcode: FUSE_FALLOCATE,
+        length: 32,
+        changes: &[],
+        tail: b"",
+        calls: &[(
+            "fallocate",
+            &[
+                Number(0xa8a7_a6a5_a4a3_a2a1),
+                Number(0x0807_0605_0403_0201),
+                Number(0x100f_0e0d_0c0b_0a09),
+                Number(0x1817_1615_1413_1211),
+                Number(0x1c1b_1a19),
+            ],
+            b"",
+        )],
+        reply: Error(ENOSYS),
+    },
+    // an offset from the start, and one before it
+    Row {
+        opcode: FUSE_LSEEK,
+        length: 24,
+        changes: &[],
+        tail: b"",
+        calls: &[(
+            "lseek",
+            &[
+                Number(0xa8a7_a6a5_a4a3_a2a1),
+                Number(0x0807_0605_0403_0201),
+                Number(0x100f_0e0d_0c0b_0a09),
+                Number(0x1413_1211),
+            ],
+            b"",
+        )],
+        reply: Error(ENOSYS),
+    },
+    Row {
+        opcode: FUSE_LSEEK,
+        length: 24,
+        changes: &[
+            (8, 254),
+            (9, 255),
+            (10, 255),
+            (11, 255),
+            (12, 255),
+            (13, 255),
+            (14, 255),
+            (15, 255),
+        ],
+        tail: b"",
+        calls: &[(
+            "lseek",
+            &[
+                Number(0xa8a7_a6a5_a4a3_a2a1),
+                Number(0x0807_0605_0403_0201),
+                Number(-2),
+                Number(0x1413_1211),
+            ],
+            b"",
+        )],
+        reply: Error(ENOSYS),
+    },
+    Row {
+        opcode: FUSE_COPY_FILE_RANGE,
+        length: 56,
+        changes: &[],
+        tail: b"",
+        calls: &[(
+            "copy_file_range",
+            &[
+                Number(0xa8a7_a6a5_a4a3_a2a1),
+                Number(0x0807_0605_0403_0201),
+                Number(0x100f_0e0d_0c0b_0a09),
+                Number(0x1817_1615_1413_1211),
+                Number(0x201f_1e1d_1c1b_1a19),
+                Number(0x2827_2625_2423_2221),
+                Number(0x302f_2e2d_2c2b_2a29),
+                Number(0x3837_3635_3433_3231),
+            ],
+            b"",
+        )],
+        reply: Error(ENOSYS),
+    },
+];
+
+static OTHERS: [Row; 18] = [
+    Row {
         opcode: FUSE_OPENDIR,
         length: 8,
         changes: &[],
@@ -349,23 +457,6 @@ static FILES: [Row; 33] = [
         reply: Error(ENOSYS),
     },
     Row {
-        opcode: FUSE_CREATE,
-        length: 16,
-        changes: &[],
-        tail: b"file\0",
-        calls: &[(
-            "create",
-            &[
-                Number(0xa8a7_a6a5_a4a3_a2a1),
-                Number(0x0807_0605),
-                Number(0x0c0b_0a09),
-                Number(0x0403_0201),
-            ],
-            b"file\0",
-        )],
-        reply: Error(ENOSYS),
-    },
-    Row {
         opcode: FUSE_BMAP,
         length: 16,
         changes: &[],
@@ -421,89 +512,6 @@ static FILES: [Row; 33] = [
                 Number(0x100f_0e0d_0c0b_0a09),
                 Number(0x1817_1615),
                 Number(0x1413_1211),
-            ],
-            b"",
-        )],
-        reply: Error(ENOSYS),
-    },
-    Row {
-        opcode: FUSE_FALLOCATE,
-        length: 32,
-        changes: &[],
-        tail: b"",
-        calls: &[(
-            "fallocate",
-            &[
-                Number(0xa8a7_a6a5_a4a3_a2a1),
-                Number(0x0807_0605_0403_0201),
-                Number(0x100f_0e0d_0c0b_0a09),
-                Number(0x1817_1615_1413_1211),
-                Number(0x1c1b_1a19),
-            ],
-            b"",
-        )],
-        reply: Error(ENOSYS),
-    },
-    // an offset from the start, and one before it
-    Row {
-        opcode: FUSE_LSEEK,
-        length: 24,
-        changes: &[],
-        tail: b"",
-        calls: &[(
-            "lseek",
-            &[
-                Number(0xa8a7_a6a5_a4a3_a2a1),
-                Number(0x0807_0605_0403_0201),
-                Number(0x100f_0e0d_0c0b_0a09),
-                Number(0x1413_1211),
-            ],
-            b"",
-        )],
-        reply: Error(ENOSYS),
-    },
-    Row {
-        opcode: FUSE_LSEEK,
-        length: 24,
-        changes: &[
-            (8, 254),
-            (9, 255),
-            (10, 255),
-            (11, 255),
-            (12, 255),
-            (13, 255),
-            (14, 255),
-            (15, 255),
-        ],
-        tail: b"",
-        calls: &[(
-            "lseek",
-            &[
-                Number(0xa8a7_a6a5_a4a3_a2a1),
-                Number(0x0807_0605_0403_0201),
-                Number(-2),
-                Number(0x1413_1211),
-            ],
-            b"",
-        )],
-        reply: Error(ENOSYS),
-    },
-    Row {
-        opcode: FUSE_COPY_FILE_RANGE,
-        length: 56,
-        changes: &[],
-        tail: b"",
-        calls: &[(
-            "copy_file_range",
-            &[
-                Number(0xa8a7_a6a5_a4a3_a2a1),
-                Number(0x0807_0605_0403_0201),
-                Number(0x100f_0e0d_0c0b_0a09),
-                Number(0x1817_1615_1413_1211),
-                Number(0x201f_1e1d_1c1b_1a19),
-                Number(0x2827_2625_2423_2221),
-                Number(0x302f_2e2d_2c2b_2a29),
-                Number(0x3837_3635_3433_3231),
             ],
             b"",
         )],

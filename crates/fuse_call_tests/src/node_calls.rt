@@ -10,12 +10,17 @@ use fuse_request::opcode::{
     FUSE_UNLINK,
 };
 
-/// A message of each opcode that is about inodes and names, with what it comes to.
-pub(crate) fn nodes() -> &'static [Row] {
-    &NODES
+/// A message of each opcode that is about inodes, with what it comes to.
+pub(crate) fn inodes() -> &'static [Row] {
+    &INODES
 }
 
-static NODES: [Row; 30] = [
+/// A message of each opcode that is about names, links and attributes by name, with what it comes to.
+pub(crate) fn names() -> &'static [Row] {
+    &NAMES
+}
+
+static INODES: [Row; 16] = [
     Row {
         opcode: FUSE_LOOKUP,
         length: 0,
@@ -269,6 +274,63 @@ static NODES: [Row; 30] = [
         reply: Error(ENOSYS),
     },
     Row {
+        opcode: FUSE_STATFS,
+        length: 0,
+        changes: &[],
+        tail: b"",
+        calls: &[("statfs", &[Number(0xa8a7_a6a5_a4a3_a2a1)], b"")],
+        reply: Payload(&STATFS),
+    },
+    Row {
+        opcode: FUSE_ACCESS,
+        length: 8,
+        changes: &[],
+        tail: b"",
+        calls: &[(
+            "access",
+            &[Number(0xa8a7_a6a5_a4a3_a2a1), Number(0x0403_0201)],
+            b"",
+        )],
+        reply: Error(ENOSYS),
+    },
+    // three rows, and no row
+    Row {
+        opcode: FUSE_BATCH_FORGET,
+        length: 56,
+        changes: &[(0, 3), (1, 0), (2, 0), (3, 0)],
+        tail: b"",
+        calls: &[
+            ("batch_forget", &[Number(3)], b""),
+            (
+                "forget",
+                &[Number(0x100f_0e0d_0c0b_0a09), Number(0x1817_1615_1413_1211)],
+                b"",
+            ),
+            (
+                "forget",
+                &[Number(0x201f_1e1d_1c1b_1a19), Number(0x2827_2625_2423_2221)],
+                b"",
+            ),
+            (
+                "forget",
+                &[Number(0x302f_2e2d_2c2b_2a29), Number(0x3837_3635_3433_3231)],
+                b"",
+            ),
+        ],
+        reply: Note,
+    },
+    Row {
+        opcode: FUSE_BATCH_FORGET,
+        length: 8,
+        changes: &[(0, 0), (1, 0), (2, 0), (3, 0)],
+        tail: b"",
+        calls: &[("batch_forget", &[Number(0)], b"")],
+        reply: Note,
+    },
+];
+
+static NAMES: [Row; 14] = [
+    Row {
         opcode: FUSE_READLINK,
         length: 0,
         changes: &[],
@@ -399,14 +461,6 @@ static NODES: [Row; 30] = [
         reply: Error(EPERM),
     },
     Row {
-        opcode: FUSE_STATFS,
-        length: 0,
-        changes: &[],
-        tail: b"",
-        calls: &[("statfs", &[Number(0xa8a7_a6a5_a4a3_a2a1)], b"")],
-        reply: Payload(&STATFS),
-    },
-    Row {
         opcode: FUSE_SETXATTR,
         length: 8,
         changes: &[(0, 5), (1, 0), (2, 0), (3, 0)],
@@ -453,51 +507,5 @@ static NODES: [Row; 30] = [
         tail: b"user.a\0",
         calls: &[("removexattr", &[Number(0xa8a7_a6a5_a4a3_a2a1)], b"user.a\0")],
         reply: Error(ENOSYS),
-    },
-    Row {
-        opcode: FUSE_ACCESS,
-        length: 8,
-        changes: &[],
-        tail: b"",
-        calls: &[(
-            "access",
-            &[Number(0xa8a7_a6a5_a4a3_a2a1), Number(0x0403_0201)],
-            b"",
-        )],
-        reply: Error(ENOSYS),
-    },
-    // three rows, and no row
-    Row {
-        opcode: FUSE_BATCH_FORGET,
-        length: 56,
-        changes: &[(0, 3), (1, 0), (2, 0), (3, 0)],
-        tail: b"",
-        calls: &[
-            ("batch_forget", &[Number(3)], b""),
-            (
-                "forget",
-                &[Number(0x100f_0e0d_0c0b_0a09), Number(0x1817_1615_1413_1211)],
-                b"",
-            ),
-            (
-                "forget",
-                &[Number(0x201f_1e1d_1c1b_1a19), Number(0x2827_2625_2423_2221)],
-                b"",
-            ),
-            (
-                "forget",
-                &[Number(0x302f_2e2d_2c2b_2a29), Number(0x3837_3635_3433_3231)],
-                b"",
-            ),
-        ],
-        reply: Note,
-    },
-    Row {
-        opcode: FUSE_BATCH_FORGET,
-        length: 8,
-        changes: &[(0, 0), (1, 0), (2, 0), (3, 0)],
-        tail: b"",
-        calls: &[("batch_forget", &[Number(0)], b"")],
-        reply: Note,
     },
 ];

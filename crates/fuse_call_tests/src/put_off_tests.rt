@@ -1,8 +1,8 @@
 // The reply to each call can be given after its method has returned.
 use crate::asserts::expect_same;
 use crate::every_call::{Reply, Row};
-use crate::file_calls::files;
-use crate::node_calls::nodes;
+use crate::file_calls::{files, others};
+use crate::node_calls::{inodes, names};
 use crate::putting_off::PuttingOff;
 use crate::row_sessions::{frames_of, notes_of, source_of_rows};
 use fuse_config::{Config, SessionACL};
@@ -56,12 +56,14 @@ fn come_later<R: Threads + Wait + AllocGlobal + Abort + Send + Sync + Copy>(rt: 
 
 #[test]
 fn what_is_asked_of_inodes_and_names_is_answered_later(rt: HostRuntime) {
-    come_later(&rt, nodes());
+    come_later(&rt, inodes());
+    come_later(&rt, names());
 }
 
 #[test]
 fn what_is_asked_of_open_files_is_answered_later(rt: HostRuntime) {
     come_later(&rt, files());
+    come_later(&rt, others());
 }
 
 /// Messages of more than 128 bytes, which find no place in a job.

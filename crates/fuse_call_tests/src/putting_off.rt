@@ -1,6 +1,9 @@
 // A filesystem for tests, which puts each reply off.
 ghost use Rattle.std.specs.Prelude.{true, refl};
-ghost use Rattle.fuse_call_tests.specs.PuttingOff.{ComesLater};
+ghost use Rattle.fuse_operations.specs.Call.{Call};
+ghost use Rattle.fuse_header.specs.declared.request.Request.{Request as Asks};
+ghost use Rattle.fuse_dispatch.specs.Owed.{Answers};
+ghost use Rattle.fuse_call_tests.specs.PuttingOff.{any_answer};
 
 use fuse_config::KernelConfig;
 use fuse_notify::PollNotifier;
@@ -26,8 +29,9 @@ pub(crate) struct PuttingOff<R> {
 
 impl<R: Wait> PuttingOff<R> {
     /// Puts a reply off, and queues its frame.
+    #[tactic(auto, using(crate::proofs::PuttingOff::fault_answers))]
     fn put_off<Kind>(&self, reply: Reply<Kind>) -> Replied
-        ensures { ComesLater reply.id reply.door result }
+        ensures { (request : Asks) (call : Call) → Answers any_answer self.now request call reply.id reply.door result }
     {
         match reply.defer() {
             Ok((replied, later)) => {
@@ -40,8 +44,9 @@ impl<R: Wait> PuttingOff<R> {
     }
 
     /// The same of a reply of entries.
+    #[tactic(auto, using(crate::proofs::PuttingOff::fault_answers))]
     fn put_off_listing<Kind: EntryKind>(&self, reply: ReplyListing<Kind>) -> Replied
-        ensures { ComesLater reply.id reply.door result }
+        ensures { (request : Asks) (call : Call) → Answers any_answer self.now request call reply.id reply.door result }
     {
         match reply.defer() {
             Ok((replied, later)) => {
@@ -57,7 +62,7 @@ impl<R: Wait> PuttingOff<R> {
 impl<R: Wait + Send + Sync> Filesystem for PuttingOff<R> {
     ghost promise = { record {
       may_init = λ before request config result after config'. Unit {0};
-      may_answer = λ fs request call a. Unit {0};
+      may_answer = any_answer;
       may_note = λ fs request call mark. Unit {0};
       may_destroy = λ before after. Unit {0};
       defers = true;
@@ -71,7 +76,6 @@ impl<R: Wait + Send + Sync> Filesystem for PuttingOff<R> {
         defaults::init()
     }
 
-    #[tactic(auto, using(crate::proofs::PuttingOff::answers))]
     fn lookup(
         &self,
         _request: &Request,
@@ -86,7 +90,6 @@ impl<R: Wait + Send + Sync> Filesystem for PuttingOff<R> {
         defaults::forget()
     }
 
-    #[tactic(auto, using(crate::proofs::PuttingOff::answers))]
     fn getattr(
         &self,
         _request: &Request,
@@ -97,7 +100,6 @@ impl<R: Wait + Send + Sync> Filesystem for PuttingOff<R> {
         self.put_off(reply)
     }
 
-    #[tactic(auto, using(crate::proofs::PuttingOff::answers))]
     fn setattr(
         &self,
         _request: &Request,
@@ -119,12 +121,10 @@ impl<R: Wait + Send + Sync> Filesystem for PuttingOff<R> {
         self.put_off(reply)
     }
 
-    #[tactic(auto, using(crate::proofs::PuttingOff::answers))]
     fn readlink(&self, _request: &Request, _ino: INodeNo, reply: ReplyData) -> Replied {
         self.put_off(reply)
     }
 
-    #[tactic(auto, using(crate::proofs::PuttingOff::answers))]
     fn symlink(
         &self,
         _request: &Request,
@@ -136,7 +136,6 @@ impl<R: Wait + Send + Sync> Filesystem for PuttingOff<R> {
         self.put_off(reply)
     }
 
-    #[tactic(auto, using(crate::proofs::PuttingOff::answers))]
     fn mknod(
         &self,
         _request: &Request,
@@ -150,7 +149,6 @@ impl<R: Wait + Send + Sync> Filesystem for PuttingOff<R> {
         self.put_off(reply)
     }
 
-    #[tactic(auto, using(crate::proofs::PuttingOff::answers))]
     fn mkdir(
         &self,
         _request: &Request,
@@ -163,7 +161,6 @@ impl<R: Wait + Send + Sync> Filesystem for PuttingOff<R> {
         self.put_off(reply)
     }
 
-    #[tactic(auto, using(crate::proofs::PuttingOff::answers))]
     fn unlink(
         &self,
         _request: &Request,
@@ -174,7 +171,6 @@ impl<R: Wait + Send + Sync> Filesystem for PuttingOff<R> {
         self.put_off(reply)
     }
 
-    #[tactic(auto, using(crate::proofs::PuttingOff::answers))]
     fn rmdir(
         &self,
         _request: &Request,
@@ -185,7 +181,6 @@ impl<R: Wait + Send + Sync> Filesystem for PuttingOff<R> {
         self.put_off(reply)
     }
 
-    #[tactic(auto, using(crate::proofs::PuttingOff::answers))]
     fn rename(
         &self,
         _request: &Request,
@@ -199,7 +194,6 @@ impl<R: Wait + Send + Sync> Filesystem for PuttingOff<R> {
         self.put_off(reply)
     }
 
-    #[tactic(auto, using(crate::proofs::PuttingOff::answers))]
     fn link(
         &self,
         _request: &Request,
@@ -211,7 +205,6 @@ impl<R: Wait + Send + Sync> Filesystem for PuttingOff<R> {
         self.put_off(reply)
     }
 
-    #[tactic(auto, using(crate::proofs::PuttingOff::answers))]
     fn open(
         &self,
         _request: &Request,
@@ -222,7 +215,6 @@ impl<R: Wait + Send + Sync> Filesystem for PuttingOff<R> {
         self.put_off(reply)
     }
 
-    #[tactic(auto, using(crate::proofs::PuttingOff::answers))]
     fn read(
         &self,
         _request: &Request,
@@ -237,7 +229,6 @@ impl<R: Wait + Send + Sync> Filesystem for PuttingOff<R> {
         self.put_off(reply)
     }
 
-    #[tactic(auto, using(crate::proofs::PuttingOff::answers))]
     fn write(
         &self,
         _request: &Request,
@@ -253,12 +244,10 @@ impl<R: Wait + Send + Sync> Filesystem for PuttingOff<R> {
         self.put_off(reply)
     }
 
-    #[tactic(auto, using(crate::proofs::PuttingOff::answers))]
     fn statfs(&self, _request: &Request, _ino: INodeNo, reply: ReplyStatfs) -> Replied {
         self.put_off(reply)
     }
 
-    #[tactic(auto, using(crate::proofs::PuttingOff::answers))]
     fn release(
         &self,
         _request: &Request,
@@ -272,7 +261,6 @@ impl<R: Wait + Send + Sync> Filesystem for PuttingOff<R> {
         self.put_off(reply)
     }
 
-    #[tactic(auto, using(crate::proofs::PuttingOff::answers))]
     fn fsync(
         &self,
         _request: &Request,
@@ -284,7 +272,6 @@ impl<R: Wait + Send + Sync> Filesystem for PuttingOff<R> {
         self.put_off(reply)
     }
 
-    #[tactic(auto, using(crate::proofs::PuttingOff::answers))]
     fn setxattr(
         &self,
         _request: &Request,
@@ -298,7 +285,6 @@ impl<R: Wait + Send + Sync> Filesystem for PuttingOff<R> {
         self.put_off(reply)
     }
 
-    #[tactic(auto, using(crate::proofs::PuttingOff::answers))]
     fn getxattr(
         &self,
         _request: &Request,
@@ -310,7 +296,6 @@ impl<R: Wait + Send + Sync> Filesystem for PuttingOff<R> {
         self.put_off(reply)
     }
 
-    #[tactic(auto, using(crate::proofs::PuttingOff::answers))]
     fn listxattr(
         &self,
         _request: &Request,
@@ -321,7 +306,6 @@ impl<R: Wait + Send + Sync> Filesystem for PuttingOff<R> {
         self.put_off(reply)
     }
 
-    #[tactic(auto, using(crate::proofs::PuttingOff::answers))]
     fn removexattr(
         &self,
         _request: &Request,
@@ -332,7 +316,6 @@ impl<R: Wait + Send + Sync> Filesystem for PuttingOff<R> {
         self.put_off(reply)
     }
 
-    #[tactic(auto, using(crate::proofs::PuttingOff::answers))]
     fn flush(
         &self,
         _request: &Request,
@@ -344,7 +327,6 @@ impl<R: Wait + Send + Sync> Filesystem for PuttingOff<R> {
         self.put_off(reply)
     }
 
-    #[tactic(auto, using(crate::proofs::PuttingOff::answers))]
     fn opendir(
         &self,
         _request: &Request,
@@ -355,7 +337,6 @@ impl<R: Wait + Send + Sync> Filesystem for PuttingOff<R> {
         self.put_off(reply)
     }
 
-    #[tactic(auto, using(crate::proofs::PuttingOff::answers))]
     fn readdir(
         &self,
         _request: &Request,
@@ -367,7 +348,6 @@ impl<R: Wait + Send + Sync> Filesystem for PuttingOff<R> {
         self.put_off_listing(reply)
     }
 
-    #[tactic(auto, using(crate::proofs::PuttingOff::answers))]
     fn releasedir(
         &self,
         _request: &Request,
@@ -379,7 +359,6 @@ impl<R: Wait + Send + Sync> Filesystem for PuttingOff<R> {
         self.put_off(reply)
     }
 
-    #[tactic(auto, using(crate::proofs::PuttingOff::answers))]
     fn fsyncdir(
         &self,
         _request: &Request,
@@ -391,7 +370,6 @@ impl<R: Wait + Send + Sync> Filesystem for PuttingOff<R> {
         self.put_off(reply)
     }
 
-    #[tactic(auto, using(crate::proofs::PuttingOff::answers))]
     fn getlk(
         &self,
         _request: &Request,
@@ -407,7 +385,6 @@ impl<R: Wait + Send + Sync> Filesystem for PuttingOff<R> {
         self.put_off(reply)
     }
 
-    #[tactic(auto, using(crate::proofs::PuttingOff::answers))]
     fn setlk(
         &self,
         _request: &Request,
@@ -424,7 +401,6 @@ impl<R: Wait + Send + Sync> Filesystem for PuttingOff<R> {
         self.put_off(reply)
     }
 
-    #[tactic(auto, using(crate::proofs::PuttingOff::answers))]
     fn access(
         &self,
         _request: &Request,
@@ -435,7 +411,6 @@ impl<R: Wait + Send + Sync> Filesystem for PuttingOff<R> {
         self.put_off(reply)
     }
 
-    #[tactic(auto, using(crate::proofs::PuttingOff::answers))]
     fn create(
         &self,
         _request: &Request,
@@ -449,7 +424,6 @@ impl<R: Wait + Send + Sync> Filesystem for PuttingOff<R> {
         self.put_off(reply)
     }
 
-    #[tactic(auto, using(crate::proofs::PuttingOff::answers))]
     fn bmap(
         &self,
         _request: &Request,
@@ -461,7 +435,6 @@ impl<R: Wait + Send + Sync> Filesystem for PuttingOff<R> {
         self.put_off(reply)
     }
 
-    #[tactic(auto, using(crate::proofs::PuttingOff::answers))]
     fn ioctl(
         &self,
         _request: &Request,
@@ -476,7 +449,6 @@ impl<R: Wait + Send + Sync> Filesystem for PuttingOff<R> {
         self.put_off(reply)
     }
 
-    #[tactic(auto, using(crate::proofs::PuttingOff::answers))]
     fn poll(
         &self,
         _request: &Request,
@@ -494,7 +466,6 @@ impl<R: Wait + Send + Sync> Filesystem for PuttingOff<R> {
         defaults::batch_forget(nodes, |_ino, _nlookup| defaults::forget())
     }
 
-    #[tactic(auto, using(crate::proofs::PuttingOff::answers))]
     fn fallocate(
         &self,
         _request: &Request,
@@ -508,7 +479,6 @@ impl<R: Wait + Send + Sync> Filesystem for PuttingOff<R> {
         self.put_off(reply)
     }
 
-    #[tactic(auto, using(crate::proofs::PuttingOff::answers))]
     fn readdirplus(
         &self,
         _request: &Request,
@@ -520,7 +490,6 @@ impl<R: Wait + Send + Sync> Filesystem for PuttingOff<R> {
         self.put_off_listing(reply)
     }
 
-    #[tactic(auto, using(crate::proofs::PuttingOff::answers))]
     fn lseek(
         &self,
         _request: &Request,
@@ -533,7 +502,6 @@ impl<R: Wait + Send + Sync> Filesystem for PuttingOff<R> {
         self.put_off(reply)
     }
 
-    #[tactic(auto, using(crate::proofs::PuttingOff::answers))]
     fn copy_file_range(
         &self,
         _request: &Request,

@@ -2,8 +2,8 @@
 
 use crate::asserts::expect_same_in;
 use crate::every_call::{Reply, Row, message_of};
-use crate::file_calls::files;
-use crate::node_calls::nodes;
+use crate::file_calls::{files, others};
+use crate::node_calls::{inodes, names};
 use fuse_config::SessionACL;
 use fuse_probing::test_messages::{
     EACCES, EINVAL, EIO, ENOSYS, INIT_7_8, NO_OPCODE, endless_lookup, forget, getattr, init,
@@ -295,6 +295,8 @@ fn rules_on_rows<R: AllocGlobal + Abort>(rt: &R, rows: &[Row]) {
 
 #[test]
 fn rules_on_every_opcode(rt: HostRuntime) {
-    rules_on_rows(&rt, nodes());
-    rules_on_rows(&rt, files())
+    rules_on_rows(&rt, inodes());
+    rules_on_rows(&rt, names());
+    rules_on_rows(&rt, files());
+    rules_on_rows(&rt, others())
 }
