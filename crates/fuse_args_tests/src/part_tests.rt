@@ -51,6 +51,23 @@ fn is_in_place(opcode: u16, arguments: &mut ArgumentIterator<'_>) -> Option<bool
             }
         )),
         4 => Some(is_setattr_in_place(arguments.fetch_setattr()?)),
+        21 => Some(matches!(
+            arguments.fetch_setxattr()?,
+            SetXAttrArguments {
+                size: 0x8161_4101,
+                flags: SIGNED_2
+            }
+        )),
+        22 => Some(arguments.fetch_getxattr()?.size == 0x8161_4101),
+        34 => Some(arguments.fetch_access()?.mask == SIGNED_1),
+        42 => Some(arguments.fetch_batch_forget()?.count == 0x8161_4101),
+        opcode => is_name_part_in_place(opcode, arguments),
+    }
+}
+
+/// The same of requests that make a name or move one.
+fn is_name_part_in_place(opcode: u16, arguments: &mut ArgumentIterator<'_>) -> Option<bool> {
+    match opcode {
         8 => Some(matches!(
             arguments.fetch_mknod()?,
             MkNodArguments {
@@ -66,16 +83,6 @@ fn is_in_place(opcode: u16, arguments: &mut ArgumentIterator<'_>) -> Option<bool
                 umask: 0x8262_4202
             }
         )),
-        21 => Some(matches!(
-            arguments.fetch_setxattr()?,
-            SetXAttrArguments {
-                size: 0x8161_4101,
-                flags: SIGNED_2
-            }
-        )),
-        22 => Some(arguments.fetch_getxattr()?.size == 0x8161_4101),
-        34 => Some(arguments.fetch_access()?.mask == SIGNED_1),
-        42 => Some(arguments.fetch_batch_forget()?.count == 0x8161_4101),
         45 => Some(matches!(
             arguments.fetch_rename2()?,
             Rename2Arguments {
@@ -135,6 +142,21 @@ fn is_file_part_in_place(opcode: u16, arguments: &mut ArgumentIterator<'_>) -> O
                 flags: SIGNED_9,
             }
         )),
+        35 => Some(matches!(
+            arguments.fetch_create()?,
+            CreateArguments {
+                flags: SIGNED_1,
+                mode: 0x8262_4202,
+                umask: 0x8363_4303
+            }
+        )),
+        opcode => is_close_part_in_place(opcode, arguments),
+    }
+}
+
+/// The same of requests that let an open file go or write back what it holds.
+fn is_close_part_in_place(opcode: u16, arguments: &mut ArgumentIterator<'_>) -> Option<bool> {
+    match opcode {
         18 => Some(matches!(
             arguments.fetch_release()?,
             ReleaseArguments {
@@ -156,14 +178,6 @@ fn is_file_part_in_place(opcode: u16, arguments: &mut ArgumentIterator<'_>) -> O
             FlushArguments {
                 fh: 0x8262_4202_8161_4101,
                 lock_owner: 0x8666_4606_8565_4505
-            }
-        )),
-        35 => Some(matches!(
-            arguments.fetch_create()?,
-            CreateArguments {
-                flags: SIGNED_1,
-                mode: 0x8262_4202,
-                umask: 0x8363_4303
             }
         )),
         opcode => is_range_part_in_place(opcode, arguments),
