@@ -118,6 +118,16 @@ fn is_same(found: &[u8], expected: &[u8]) -> bool {
 fn told(operation: &Operation<'_>) -> (u16, bool) {
     match operation {
         Operation::Lookup(asked) => (1, is_same(asked.name(), NAME)),
+        Operation::Unlink(asked) => (10, is_same(asked.name(), NAME)),
+        Operation::RmDir(asked) => (11, is_same(asked.name(), NAME)),
+        Operation::RemoveXAttr(asked) => (24, is_same(asked.name(), NAME)),
+        operation => told_of_new_names(operation),
+    }
+}
+
+/// The same of operations that make a name.
+fn told_of_new_names(operation: &Operation<'_>) -> (u16, bool) {
+    match operation {
         Operation::SymLink(asked) => (
             6,
             is_same(asked.link_name(), NAME) && is_same(asked.target(), OTHER),
@@ -133,9 +143,6 @@ fn told(operation: &Operation<'_>) -> (u16, bool) {
             let numbers = (asked.mode(), asked.umask());
             (9, is_same(asked.name(), NAME) && matches!(numbers, (1, 2)))
         }
-        Operation::Unlink(asked) => (10, is_same(asked.name(), NAME)),
-        Operation::RmDir(asked) => (11, is_same(asked.name(), NAME)),
-        Operation::RemoveXAttr(asked) => (24, is_same(asked.name(), NAME)),
         Operation::Create(asked) => {
             let numbers = (asked.flags(), asked.mode(), asked.umask());
             (
@@ -147,7 +154,7 @@ fn told(operation: &Operation<'_>) -> (u16, bool) {
     }
 }
 
-/// The same of operations on two places, and on extended attributes.
+/// The same of operations on two places.
 fn told_of_places(operation: &Operation<'_>) -> (u16, bool) {
     match operation {
         Operation::Rename(asked) => {
@@ -162,6 +169,13 @@ fn told_of_places(operation: &Operation<'_>) -> (u16, bool) {
             let links = is_place(asked.dest(), 9, NAME);
             (13, links && asked.inode_no().0 == FIRST)
         }
+        operation => told_of_attributes(operation),
+    }
+}
+
+/// The same of operations on extended attributes.
+fn told_of_attributes(operation: &Operation<'_>) -> (u16, bool) {
+    match operation {
         Operation::SetXAttr(asked) => {
             let sets = is_same(asked.name(), NAME) && is_same(asked.value(), VALUE);
             (
