@@ -42,9 +42,8 @@ pub fn run(alloc: Global, state: &State, events: &[Event]) -> Result<Option<Stat
 {
     let mut reached = state.copied(alloc)?;
     for event in events {
-        match step(alloc, &reached, event)? {
-            Some(next) => reached = next,
-            None => return Ok(None),
+        if !apply(alloc, &mut reached, event)? {
+            return Ok(None);
         }
     }
     Ok(Some(reached))
