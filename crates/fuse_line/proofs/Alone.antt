@@ -86,7 +86,7 @@ module _ {T : Type 0} (inner : T → Bool) where
   empty (x ∷ xs) none = absurd (omega arith)
 
   -- of an empty line
-  pub settles : (v : Hand T) → Held 0 (Tells inner v) → IsSettled inner v
+  settles : (v : Hand T) → Held 0 (Tells inner v) → IsSettled inner v
   settles v held first none =
       let all : v.taken ++ held.0 ≡ v.taken = ap (λ l. v.taken ++ l) (empty held.0 held.1) ∙ append-nil v.taken in
       subst (λ l. IsPermutation (filter inner v.put) (filter inner l)) all (held.2 first none)

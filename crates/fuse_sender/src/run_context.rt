@@ -1,9 +1,10 @@
-// What the threads of a run have in common.
+// What the threads of a run that answer requests have in common.
 use fuse_line::Line;
 use fuse_loop::RequestJob;
 use fuse_reply::Parcel;
 
-/// What each thread of a run works with, but for its passes: the runtime, what answers requests, and both lines.
+/// What the caller and each worker of a run work with, but for their passes: the runtime, what answers requests, and both
+/// lines. The sender is lent the runtime and the line of frames alone.
 #[derive(Drop)]
 pub struct RunContext<'s, R, W> {
     /// The runtime.

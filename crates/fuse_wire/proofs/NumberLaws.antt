@@ -1,5 +1,5 @@
 -- Numbers in messages: what a number is after a list, what it is at most, and how it reads back what was written.
-use Rattle.std.proofs.Common.{◌≡◌, ℕ, zero, suc, ◌+◌, ◌*◌, ◌^◌, ◌<◌, ◌≤◌, ◌/◌, ◌%◌, List, [], ◌∷◌, ◌++◌, length, get_or, refl, ap, sym, ◌∙◌, subst, arith}
+use Rattle.std.proofs.Common.{◌≡◌, ℕ, zero, suc, ◌+◌, ◌*◌, ◌^◌, ◌<◌, ◌/◌, ◌%◌, List, [], ◌∷◌, ◌++◌, length, get_or, refl, ap, sym, ◌∙◌, subst, arith}
 use Rattle.std.specs.Int.{Width, w32, w64, byte_len, byte_at, bytes_low_first, to_le_bytes}
 use Rattle.std.proofs.Math.Nat.{pow-succ', mul_assoc, div-add-mod, pow-suc, div-div-eq-div-mul, div-one}
 use Rattle.std.proofs.lemmas.List.{get_or-append-add}

@@ -12,7 +12,8 @@ use Rattle.fuse_workers.proofs.workers.conduct.Goals as goal
 pub answer_all-stopped-requires-clause-caller : goal.answer_all-stopped-requires-clause-caller
 answer_all-stopped-requires-clause-caller g c κs within =
     let split : c.split-pass.new.pass.hand ≡ hand First 1 [] [] = c.split-pass.ensures.hands.0 ∙ ap (λ (h : Hand Parcel). with_other h) c.requires.hands.1 in
-    Caller-idle (answering (g.W.Work.owed c.args.context.now.work.now) g.W.Work.DEFERS) c.args.lent.caller.jobs.hand c.split-pass.new.pass.hand c.requires.hands.0 split
+    Caller-idle (answering (g.W.Work.owed c.args.context.now.work.now) g.W.Work.DEFERS) c.args.lent.caller.jobs.hand
+    c.split-pass.new.pass.hand c.requires.hands.0 split
 
 pub returns-in-Err-clause-conducts : goal.returns-in-Err-clause-conducts
 returns-in-Err-clause-conducts g c =
