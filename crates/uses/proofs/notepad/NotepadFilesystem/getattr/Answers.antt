@@ -4,7 +4,6 @@ use Rattle.fuse_wire.specs.Times.{nanos_per_second}
 use Rattle.fuse_wire.specs.declared.file_attr.FileAttr.{FileAttr}
 use Rattle.fuse_reply.specs.Answer.Answer.{Attr}
 use Rattle.fuse_dispatch.proofs.Answering.{Answered-error, Answered-frame}
-use Rattle.uses.specs.Notepad.{directory}
 use Rattle.uses.proofs.Nodes.{by-node}
 use Rattle.uses.proofs.notepad.NotepadFilesystem.getattr.Goals as goal
 
