@@ -1,3 +1,2 @@
-mod Keeping
 mod Nodes
 mod Waiting

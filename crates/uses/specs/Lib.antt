@@ -1,5 +1,3 @@
-pub mod Blank
-pub mod KeeperOnly
 pub mod Notepad
 pub mod OneFile
 pub mod OneLock

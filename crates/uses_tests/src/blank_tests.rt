@@ -2,7 +2,7 @@
 use crate::rows::{LOOKUP, NOTHING, OPEN, OPENDIR, OPENING, READ, Row};
 use crate::serving::{ended_well, expect_served, serve};
 use fuse_wire::RequestId;
-use uses::Blank;
+use templates::Blank;
 
 // Linux's numbers: `include/uapi/linux/fuse.h` and `errno-base.h`.
 const FORGET: u8 = 2;

@@ -9,7 +9,8 @@ use fuse_read_only::ReadOnly;
 use fuse_request::Request;
 use fuse_wire::{Errno, RequestId};
 use std::sync::atomic::{AtomicU64, Ordering};
-use uses::{KeeperOnly, OneFile};
+use templates::KeeperOnly;
+use uses::OneFile;
 
 // Linux's numbers: `include/uapi/linux/fuse.h` and `errno-base.h`.
 const FORGET: u8 = 2;

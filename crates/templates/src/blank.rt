@@ -1,6 +1,6 @@
 // What a filesystem of one's own begins as.
 ghost use Rattle.std.specs.Prelude.{false, refl};
-ghost use Rattle.uses.specs.Blank.{promise};
+ghost use Rattle.templates.specs.Blank.{promise};
 
 use fuse_config::KernelConfig;
 use fuse_notify::PollNotifier;

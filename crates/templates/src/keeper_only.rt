@@ -1,7 +1,7 @@
 // A filesystem over another: a layer, which hands on what it does not answer itself.
 ghost use Rattle.std.specs.Prelude.{◌≡◌, ◌==◌, not};
 ghost use Rattle.fuse_header.specs.Asker.{uid_of};
-ghost use Rattle.uses.specs.KeeperOnly.{promise};
+ghost use Rattle.templates.specs.KeeperOnly.{promise};
 
 use fuse_config::KernelConfig;
 use fuse_notify::PollNotifier;

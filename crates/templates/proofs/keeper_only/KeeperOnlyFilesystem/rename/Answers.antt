@@ -1,6 +1,6 @@
 use Rattle.std.proofs.Common.{◌∙◌, sym}
-use Rattle.uses.proofs.Keeping.{denied}
-use Rattle.uses.proofs.keeper_only.KeeperOnlyFilesystem.rmdir.Goals as goal
+use Rattle.templates.proofs.Keeping.{denied}
+use Rattle.templates.proofs.keeper_only.KeeperOnlyFilesystem.rename.Goals as goal
 
 -- somebody else than the keeper asks
 pub returns-then-denies : goal.returns-then-denies

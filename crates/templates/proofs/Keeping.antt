@@ -13,7 +13,7 @@ use Rattle.fuse_wire.specs.ErrorNumbers.{EACCES}
 use Rattle.fuse_dispatch.specs.Owed.{Answers}
 use Rattle.fuse_dispatch.specs.Promise.{MayAnswer}
 use Rattle.fuse_dispatch.proofs.Answering.{Answered-error}
-use Rattle.uses.specs.KeeperOnly.{IsDeniedOr}
+use Rattle.templates.specs.KeeperOnly.{IsDeniedOr}
 
 pub denied : {F : Type 0} {may_answer : MayAnswer F} {fs : F} {request : Request} {c : Call} {id : ℕ} {door : Result DoorSeen NoDoor} {out : Out}
     (kept : Bool) (below : Type 0) → kept ≡ true → (IsDeniedOr kept below (Error EACCES) → may_answer fs request c (Error EACCES))
