@@ -7,6 +7,7 @@ use crate::Files;
 use crate::listing::add_entries;
 use bitflags::Flags;
 use fuse_config::KernelConfig;
+use fuse_dispatch::{Filesystem, defaults};
 use fuse_notify::PollNotifier;
 use fuse_reply::{
     MAX_PAYLOAD, Replied, ReplyAttr, ReplyBmap, ReplyCreate, ReplyData, ReplyDirectory,
@@ -14,7 +15,6 @@ use fuse_reply::{
     ReplyPoll, ReplyStatfs, ReplyWrite, ReplyXattr,
 };
 use fuse_request::{ForgetList, Request};
-use fuse_session::{Filesystem, defaults};
 use fuse_wire::{
     AccessFlags, BsdFileFlags, CopyFileRangeFlags, Errno, FileHandle, FileType, Generation,
     INodeNo, IoctlFlags, LockOwner, NoMemory, OpenAccMode, OpenFlags, PollEvents, PollFlags,
@@ -23,7 +23,7 @@ use fuse_wire::{
 use std::marker::Model;
 
 /// A filesystem of these files. What would change something is refused with EROFS, and what the files do not say is
-/// answered as `fuse_session::defaults` does. It leaves what INIT negotiates as it is. A contract sees the files.
+/// answered as `fuse_dispatch::defaults` does. It leaves what INIT negotiates as it is. A contract sees the files.
 #[derive(Drop)]
 pub struct ReadOnly<T> {
     files: T,

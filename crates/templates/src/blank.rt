@@ -3,6 +3,7 @@ ghost use Rattle.std.specs.Prelude.{false, refl};
 ghost use Rattle.templates.specs.Blank.{promise};
 
 use fuse_config::KernelConfig;
+use fuse_dispatch::{Filesystem, defaults};
 use fuse_notify::PollNotifier;
 use fuse_reply::{
     Replied, ReplyAttr, ReplyBmap, ReplyCreate, ReplyData, ReplyDirectory, ReplyDirectoryPlus,
@@ -10,7 +11,6 @@ use fuse_reply::{
     ReplyWrite, ReplyXattr,
 };
 use fuse_request::{ForgetList, Request};
-use fuse_session::{Filesystem, defaults};
 use fuse_wire::{
     AccessFlags, BsdFileFlags, CopyFileRangeFlags, Errno, FileHandle, INodeNo, IoctlFlags,
     LockOwner, OpenFlags, PollEvents, PollFlags, RenameFlags, SystemTime, TimeOrNow, WriteFlags,

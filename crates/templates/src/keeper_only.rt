@@ -4,6 +4,7 @@ ghost use Rattle.fuse_header.specs.Asker.{uid_of};
 ghost use Rattle.templates.specs.KeeperOnly.{promise};
 
 use fuse_config::KernelConfig;
+use fuse_dispatch::Filesystem;
 use fuse_notify::PollNotifier;
 use fuse_reply::{
     Replied, ReplyAttr, ReplyBmap, ReplyCreate, ReplyData, ReplyDirectory, ReplyDirectoryPlus,
@@ -11,7 +12,6 @@ use fuse_reply::{
     ReplyWrite, ReplyXattr,
 };
 use fuse_request::{ForgetList, Request};
-use fuse_session::Filesystem;
 use fuse_wire::{
     AccessFlags, BsdFileFlags, CopyFileRangeFlags, Errno, FileHandle, INodeNo, IoctlFlags,
     LockOwner, OpenFlags, PollEvents, PollFlags, RenameFlags, SystemTime, TimeOrNow, WriteFlags,
