@@ -10,8 +10,8 @@ use std::snapshot::Snapshot;
 
 /// A sink that writes its frames one after the other, and keeps none. Once a write has failed nothing more is written,
 /// so that what is on the stream is whole frames and at most a part of one after them. Each later send is refused, and
-/// counted with the faults of the stream. It is spent by `into_inner`, and can't be dropped, so that the stream is not
-/// lost.
+/// counted with the faults of the stream. `into_inner` gives the stream back.
+#[derive(Drop)]
 pub struct StreamSink<O: ByteSink> {
     inner: O,
     broken: bool,

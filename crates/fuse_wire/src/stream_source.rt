@@ -6,9 +6,8 @@ ghost use Rattle.fuse_wire.specs.StreamSource.{source_stream, FillsPiece, stream
 use crate::consts::{BUFFER_SIZE, REQUEST_HEADER_SIZE};
 use crate::{ByteRead, ByteSource, Received, Source, u32_at};
 
-/// A source that cuts a stream of bytes into messages, by their length fields. It is spent by `into_inner`, and can't
-/// be dropped, so that the stream is not lost.
-#[derive(Debug)]
+/// A source that cuts a stream of bytes into messages, by their length fields. `into_inner` gives the stream back.
+#[derive(Debug, Drop)]
 pub struct StreamSource<I> {
     inner: I,
 }
