@@ -459,12 +459,12 @@ pub trait Filesystem: Send + Sync {
             (Call.GetLk ino.0 fh.0 lock_owner.0 start end typ pid) reply.id reply.door result };
 
     /// SETLK and SETLKW: takes a lock of the type `typ` for `lock_owner`, or gives up what it has with `F_UNLCK`. Types
-    /// and range are as for `getlk`, and `pid` is the process, which `getlk` tells of a lock. Where another's lock
-    /// stands in the way the error is EAGAIN, but where `sleep` is true (SETLKW) the method puts the reply off until
-    /// the lock is free, or, where the reply has no door, waits for it; the session refuses INTERRUPT, so that no signal
-    /// ends the wait. It is sent for `fcntl(2)` where `FUSE_POSIX_LOCKS` was granted, and for `flock(2)`, on the whole
-    /// file, where `FUSE_FLOCK_LOCKS` was; nothing here tells the two apart. Without these the kernel keeps the locks
-    /// itself. ENOSYS is not remembered. `defaults::setlk` answers ENOSYS, which the caller gets.
+    /// and range are as for `getlk`, and `pid` is the process, which `getlk` tells of a lock, or 0 with `F_UNLCK`. Where
+    /// another's lock stands in the way the error is EAGAIN, but where `sleep` is true (SETLKW) the method puts the
+    /// reply off until the lock is free, or, where the reply has no door, waits for it; the session refuses INTERRUPT,
+    /// so that no signal ends the wait. It is sent for `fcntl(2)` where `FUSE_POSIX_LOCKS` was granted, and for
+    /// `flock(2)`, on the whole file, where `FUSE_FLOCK_LOCKS` was; nothing here tells the two apart. Without these the
+    /// kernel keeps the locks itself. ENOSYS is not remembered. `defaults::setlk` answers ENOSYS, which the caller gets.
     fn setlk(
         &self,
         request: &Request,
