@@ -1,5 +1,5 @@
 //! A line.
-ghost use Rattle.std.specs.Prelude.{◌≡◌, ◌<◌, List, [], ◌∷◌, true, IfErr, IfNone, IfOk, IfSome, MatchBool};
+ghost use Rattle.std.specs.Prelude.{◌≡◌, ◌<◌, List, [], ◌∷◌, false, true, IfErr, IfNone, IfOk, IfSome, MatchBool};
 ghost use Rattle.std.specs.Prelude.{MatchOption, MatchResult};
 ghost use Rattle.crossbeam_queue.specs.Fifo.{Held};
 ghost use Rattle.fuse_line.specs.declared.hand.Kind.TheVariants.{First, Inner, Door};
@@ -184,12 +184,34 @@ impl<T: Class> Line<T> {
         let mut waiting = self.wait_for_item();
         for _ in rt.forever() {
             let stopped = stop.load(Ordering::SeqCst);
-            match self.pop(rt, pass) {
-                None if !stopped => waiting.rest(rt),
-                popped => return popped,
+            match self.pop_or_end(rt, pass, stopped) {
+                Some(popped) => return popped,
+                None => waiting.rest(rt),
             }
         }
         unreachable!()
+    }
+
+    // Takes the item at the front. `Some(None)` is that the line was empty after the flag had been seen up. The flag comes
+    // as a value: a look at it after the pop would miss what was pushed in between.
+    fn pop_or_end<R: Wait>(&self, rt: &R, pass: &mut Pass<T>, stopped: bool) -> Option<Option<T>>
+        requires line { pass.old.line ≡ self.now }
+        requires kind { MayPop pass.old.hand.kind }
+        ensures line { pass.new.line ≡ self.now }
+        ensures hand { MatchOption result
+            ((pass.new.hand ≡ pass.old.hand) × (stopped ≡ false))
+            (λ popped. MatchOption popped
+            ((pass.new.hand ≡ pass.old.hand) × (stopped ≡ true))
+            (λ item. pass.new.hand ≡ with_taken pass.old.hand item)) }
+        ensures front { IfSome result (λ popped.
+            IfSome popped (λ item. (rest : List T) × Tells T.is_inner pass.old.hand (item ∷ rest))) }
+        ensures empty { IfSome result (λ popped. IfNone popped (Held 0 (Tells T.is_inner pass.old.hand))) }
+        ensures settled { IfSome result (λ popped. IfNone popped (IsSettled T.is_inner pass.new.hand)) }
+    {
+        match self.pop(rt, pass) {
+            None if !stopped => None,
+            popped => Some(popped),
+        }
     }
 
     /// A wait for an item, for a pop in the same loop.
