@@ -4,6 +4,8 @@ use Rattle.fuse_line.specs.Seen.{Seen}
 use Rattle.fuse_reply.specs.EndMark.{EndMarkSeen}
 use Rattle.fuse_reply.specs.Late.{late}
 use Rattle.fuse_reply.specs.Queueing.{with_parcel, FoundFull}
+use Rattle.fuse_reply.specs.declared.out.Out.{Out}
+use Rattle.fuse_reply.specs.declared.out.Out.TheVariants.{Frame, Note, Deferred}
 use Rattle.fuse_reply.specs.declared.parcel.Parcel.{Parcel}
 use Rattle.fuse_reply.specs.declared.parcel.Parcel.TheVariants.{Late}
 
@@ -17,6 +19,12 @@ pub record DoorSeen : Type 0 where
 abbrev pub PushesLate : Result (Unit {0}) (List ℕ) → (id : ℕ) → (frame : List ℕ) → (before after : DoorSeen) → Type 0
 PushesLate (Ok done) id frame before after = after ≡ record before { pass = with_parcel before.pass (Late (late before.seq id frame)) }
 PushesLate (Err back) id frame before after = (back ≡ frame) × (after ≡ before) × FoundFull before.pass
+
+-- just the frame that a reply was spent into was queued
+abbrev pub QueuesJust : (id : ℕ) → Out → (before after : DoorSeen) → Type 0
+QueuesJust id (Frame bytes) before after = PushesLate (Ok tt) id bytes before after
+QueuesJust id (Note other mark) before after = ⊥
+QueuesJust id (Deferred seq other) before after = ⊥
 
 -- what has read the mark keeps all else
 abbrev pub LooksAt : (before after : DoorSeen) → Type 0

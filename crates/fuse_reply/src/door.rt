@@ -2,14 +2,15 @@
 ghost use Rattle.std.specs.Prelude.{◌≡◌, None, Some, IfNone, IfSome};
 ghost use Rattle.std.specs.Arc.{arc_value};
 ghost use Rattle.fuse_line.specs.declared.hand.Kind.TheVariants.{Door as IsDoor};
-ghost use Rattle.fuse_reply.specs.Door.{LooksAt, PushesLate};
+ghost use Rattle.fuse_reply.specs.Door.{LooksAt, PushesLate, QueuesJust};
 ghost use Rattle.fuse_reply.specs.Late.{IsReplyTo};
 
-use crate::{EndMark, EndNote, LateFrame, Packed, Parcel};
+use crate::{EndMark, EndNote, LateFrame, Packed, Parcel, Replied};
 use fuse_line::{Line, Pass};
 use fuse_wire::RequestId;
 use std::alloc::Global;
 use std::marker::Model;
+use std::snapshot::Snapshot;
 use std::sync::{Arc, Wait};
 
 /// What a reply goes through that comes after its method has returned. Contracts see the number of the message that the
@@ -67,6 +68,29 @@ impl Door {
     {
         self.seq
     }
+}
+
+/// A door whose reply was put off. It can't be dropped: it is let go once what the reply was spent into was queued, or by a
+/// note that the run has ended. A contract sees the door.
+pub struct LateDoor {
+    door: Door,
+}
+
+impl Model for LateDoor {
+    ghost use Rattle.fuse_reply.specs.Door.{DoorSeen};
+
+    ghost Value = { DoorSeen };
+
+    ghost view = { λ d. d.door };
+}
+
+impl LateDoor {
+    /// The reply that had this door is put off.
+    pub(crate) fn new(door: Door) -> LateDoor
+        ensures { result ≡ door }
+    {
+        LateDoor { door }
+    }
 
     /// A note, where the run has ended.
     pub(crate) fn note(&mut self) -> Option<EndNote>
@@ -75,7 +99,7 @@ impl Door {
             × (self.new.mark.known ≡ Some note.taken)) }
         ensures goes_on { IfNone result (self.new.mark.known ≡ None) }
     {
-        self.mark.note()
+        self.door.mark.note()
     }
 
     /// Queues the frame, which is the reply to the request of this id, unless the line is full.
@@ -88,8 +112,14 @@ impl Door {
         requires { IsReplyTo id.0 packed }
         ensures { PushesLate result id.0 packed self.old self.new }
     {
-        let parcel = Parcel::Late(LateFrame::new(self.seq, id, packed));
-        match self.line.push(rt, &mut self.pass, parcel) {
+        let Door {
+            seq,
+            line,
+            pass,
+            mark: _,
+        } = &mut self.door;
+        let parcel = Parcel::Late(LateFrame::new(*seq, id, packed));
+        match line.push(rt, pass, parcel) {
             Ok(()) => Ok(()),
             Err(full) => match full.item {
                 Parcel::Late(frame) => Err(frame.into_packed()),
@@ -97,5 +127,24 @@ impl Door {
                 Parcel::Prompt(_, _) | Parcel::Notice(_) => unreachable!(),
             },
         }
+    }
+
+    /// Lets go of it after a push: since it was as the snapshot has it, just what the reply was spent into was queued.
+    pub(crate) fn let_go_after_push(
+        self,
+        id: RequestId,
+        before: Snapshot<LateDoor>,
+        replied: Snapshot<Replied>,
+    )
+        requires { QueuesJust id.0 replied.value before.value self }
+    {
+        let LateDoor { door: _ } = self;
+    }
+
+    /// Lets go of it since the run has ended, as the note knows.
+    pub(crate) fn let_go_at_end(self, note: &EndNote)
+        requires { note.now.name ≡ self.mark.name }
+    {
+        let LateDoor { door: _ } = self;
     }
 }

@@ -1,7 +1,8 @@
 // The token of a reply that comes later.
 ghost use Rattle.std.specs.Prelude.{◌≡◌, ℕ, Bool, false};
 
-use crate::{Door, EndNote, Replied};
+use crate::door::LateDoor;
+use crate::{EndNote, Replied};
 use fuse_wire::RequestId;
 
 /// What a token may hold: a reply, or nothing.
@@ -24,7 +25,7 @@ impl Held for () {
 pub struct Later<R: Held> {
     pub(crate) id: RequestId,
     pub(crate) reply: R,
-    pub(crate) door: Door,
+    pub(crate) door: LateDoor,
     pub ghost same: { R.id_or reply id.0 ≡ id.0 },
     pub ghost prompt: { R.may_wait reply ≡ false },
 }

@@ -7,6 +7,7 @@ ghost use Rattle.fuse_reply.specs.Answer.Answer.{Error};
 ghost use Rattle.fuse_reply.specs.Deferral.{PutsOff, prompt_reply};
 ghost use Rattle.fuse_reply.specs.declared.out.Out.{Out};
 
+use crate::door::LateDoor;
 use crate::later::{Held, Later};
 use crate::{Door, NoDoor, Replied};
 use fuse_wire::{Errno, RequestId};
@@ -79,6 +80,7 @@ impl<Kind> Reply<Kind> {
         match door {
             Ok(door) => {
                 let replied = Replied::deferred(door.seq(), id);
+                let door = LateDoor::new(door);
                 Ok((replied, Later { id, reply, door }))
             }
             Err(none) => Err((reply.with_door(Err(none)), none)),

@@ -5,6 +5,7 @@ ghost use Rattle.fuse_reply.specs.Refusing.{GivesBack};
 
 use crate::later::{Held, LateRefusal, Later};
 use crate::{EndNote, Out, Replied};
+use std::snapshot::Snapshot;
 use std::sync::Wait;
 use std::thread;
 
@@ -46,11 +47,16 @@ impl Later<()> {
             };
             return Err(LateRefusal::Closed(token, replied, note));
         }
+        let before = Snapshot::of(&door);
+        let spent = Snapshot::of(&replied);
         let Out::Frame(frame) = replied.into_out() else {
             unreachable!()
         };
         match door.push(rt, id, frame.into_packed()) {
-            Ok(()) => Ok(()),
+            Ok(()) => {
+                door.let_go_after_push(id, before, spent);
+                Ok(())
+            }
             Err(packed) => {
                 let token = Later {
                     id,
@@ -95,8 +101,9 @@ impl Later<()> {
         let Later {
             id: _,
             reply: (),
-            door: _,
+            door,
         } = self;
+        door.let_go_at_end(note);
         let _out = replied.into_out();
     }
 }
