@@ -161,8 +161,10 @@ impl<R: Wait> OneLock<R> {
         }
         match reply.defer() {
             Ok((replied, later)) => {
-                let waiter = Waiter { owner, later };
-                if let Err((refused, token)) = desk.shelve(waiter) {
+                let shelved = desk.shelve(Waiter { owner, later });
+                // What is sent may have to wait for the sender.
+                drop(desk);
+                if let Err((refused, token)) = shelved {
                     token.send_or_retire(&self.rt, refused);
                 }
                 replied
@@ -174,7 +176,7 @@ impl<R: Wait> OneLock<R> {
 
     /// Gives the lock up where this owner holds it, and answers whoever has waited longest.
     fn give_up(&self, owner: LockOwner) {
-        // The answer may have to wait for the sender: the desk is free again by then.
+        // The desk is free again before the answer is sent, which may wait for the sender.
         let next = self.desk.lock(&self.rt).give_up(owner);
         if let Some(waiter) = next {
             let (granted, token) = grant(waiter);
