@@ -2,7 +2,7 @@
 ghost use Rattle.std.specs.Prelude.{false};
 
 use crate::asserts::expect_same;
-use crate::rows::{ENOENT, EROFS, LOOKUP, MKDIR, NOTHING, OPENING, Row};
+use crate::rows::{Bytes, ENOENT, EROFS, LOOKUP, MKDIR, NOTHING, OPENING, Row};
 use crate::serving::{ended_well, expect_served, serve};
 use fuse_probing::{Argument, Probe, Probing};
 use fuse_read_only::ReadOnly;
@@ -109,20 +109,91 @@ const COUNTED: &[Row] = &[
     (LOOKUP, 5, 1, (0, &[], b"none\0"), ENOSYS, NOTHING),
 ];
 
-/// The filesystem below is asked once for what is handed on, and not at all for what is denied.
-#[test]
-fn what_is_handed_on_is_asked_once(rt: HostRuntime) {
+/// The layer with this keeper, over a filesystem that counts its calls.
+fn over_counted(keeper: u32) -> KeeperOnly<Probing<Calls>> {
     let calls = Calls {
         count: AtomicU64::new(0),
     };
-    let layer = KeeperOnly {
+    KeeperOnly {
         below: Probing { probe: calls },
-        keeper: 5,
-    };
-    let (layer, rest) = serve(&rt, layer, None, COUNTED);
+        keeper,
+    }
+}
+
+/// The filesystem below is asked once for what is handed on, and not at all for what is denied.
+#[test]
+fn what_is_handed_on_is_asked_once(rt: HostRuntime) {
+    let (layer, rest) = serve(&rt, over_counted(5), None, COUNTED);
     ended_well(&rt, &rest, 5, 3, &[(RequestId(2), 0), (RequestId(3), 0)]);
     let asked = layer.below.probe.count.load(Ordering::SeqCst);
     expect_same(&rt, &asked, &4);
     drop(rest);
     drop(layer);
+}
+
+/// A body that each request but a few decodes: numbers that are 0, and names that are empty.
+const ZEROS: Bytes = (88, &[], b"");
+
+/// Every request that has a reply and may come to a filesystem, up to FLUSH. What WRITE and SETXATTR are sent has just the size
+/// that they say.
+const UP_TO_FLUSH: &[Row] = &[
+    OPENING,
+    (LOOKUP, 2, 1, ZEROS, 0, NOTHING),
+    (3, 3, 1, ZEROS, 0, NOTHING),
+    (4, 4, 1, ZEROS, 0, NOTHING),
+    (5, 5, 1, ZEROS, 0, NOTHING),
+    (6, 6, 1, ZEROS, 0, NOTHING),
+    (8, 7, 1, ZEROS, 0, NOTHING),
+    (MKDIR, 8, 1, ZEROS, 0, NOTHING),
+    (UNLINK, 9, 1, ZEROS, 0, NOTHING),
+    (RMDIR, 10, 1, ZEROS, 0, NOTHING),
+    (RENAME, 11, 1, ZEROS, 0, NOTHING),
+    (13, 12, 1, ZEROS, 0, NOTHING),
+    (14, 13, 1, ZEROS, 0, NOTHING),
+    (15, 14, 1, ZEROS, 0, NOTHING),
+    (16, 15, 1, (40, &[], b""), 0, NOTHING),
+    (17, 16, 1, ZEROS, 0, NOTHING),
+    (18, 17, 1, ZEROS, 0, NOTHING),
+    (20, 18, 1, ZEROS, 0, NOTHING),
+    (21, 19, 1, (9, &[], b""), 0, NOTHING),
+    (22, 20, 1, ZEROS, 0, NOTHING),
+    (23, 21, 1, ZEROS, 0, NOTHING),
+    (24, 22, 1, ZEROS, 0, NOTHING),
+    (25, 23, 1, ZEROS, 0, NOTHING),
+];
+
+/// The others.
+const AFTER_FLUSH: &[Row] = &[
+    OPENING,
+    (27, 2, 1, ZEROS, 0, NOTHING),
+    (28, 3, 1, ZEROS, 0, NOTHING),
+    (29, 4, 1, ZEROS, 0, NOTHING),
+    (30, 5, 1, ZEROS, 0, NOTHING),
+    (31, 6, 1, ZEROS, 0, NOTHING),
+    (32, 7, 1, ZEROS, 0, NOTHING),
+    (33, 8, 1, ZEROS, 0, NOTHING),
+    (34, 9, 1, ZEROS, 0, NOTHING),
+    (35, 10, 1, ZEROS, 0, NOTHING),
+    (37, 11, 1, ZEROS, 0, NOTHING),
+    (39, 12, 1, ZEROS, 0, NOTHING),
+    (40, 13, 1, ZEROS, 0, NOTHING),
+    (43, 14, 1, ZEROS, 0, NOTHING),
+    (44, 15, 1, ZEROS, 0, NOTHING),
+    (45, 16, 1, ZEROS, 0, NOTHING),
+    (46, 17, 1, ZEROS, 0, NOTHING),
+    (47, 18, 1, ZEROS, 0, NOTHING),
+];
+
+/// The keeper's are all handed on, each by one call.
+#[test]
+fn each_request_is_handed_on_by_one_call(rt: HostRuntime) {
+    for rows in [UP_TO_FLUSH, AFTER_FLUSH] {
+        let (layer, rest) = serve(&rt, over_counted(0), None, rows);
+        let count = rows.len();
+        ended_well(&rt, &rest, count, count, &[]);
+        let asked = layer.below.probe.count.load(Ordering::SeqCst);
+        expect_same(&rt, &asked, &(count as u64).saturating_sub(1));
+        drop(rest);
+        drop(layer);
+    }
 }
