@@ -54,6 +54,9 @@ pub(crate) const ONE_AND_TWO: &[Option<usize>] = &[None, Some(2)];
 /// On one thread as by default.
 pub(crate) const ONE: &[Option<usize>] = &[None];
 
+/// On two threads.
+pub(crate) const TWO: &[Option<usize>] = &[Some(2)];
+
 /// How a session of this row goes.
 fn course_of(row: &Row) -> Course {
     Course {

@@ -2,18 +2,21 @@
 use crate::asserts::expect_same;
 use crate::counting::Counting;
 use crate::ends::End;
-use crate::messages::{Frame, Given, Request, frames_of, source_of};
+use crate::messages::{Frame, Given, Request, copied, frames_of, source_of};
 use crate::rows::are_sent;
 use crate::session_tests::{Left, Over, is_left};
 use fuse_config::{Config, SessionACL};
 use fuse_notify::Notifier;
 use fuse_probing::Probing;
-use fuse_probing::test_messages::{EIO, ENOENT, error_reply};
+use fuse_probing::test_messages::{ACCEPTED, EIO, ENOENT, INIT_7_8, error_reply, lookup};
 use fuse_session::{
     BackgroundSession, InlineSpawner, Session, SessionError, SpawnError, Spawner, ThreadSpawner,
     Transcript, spawn_mount,
 };
-use fuse_wire::{MemorySink, MemorySource, NoMemory, PollHandle};
+use fuse_wire::{
+    MemoryBytes, MemoryOut, MemorySink, MemorySource, NoMemory, PollHandle, StreamSink,
+    StreamSource,
+};
 use std::alloc::Global;
 use std::process::Abort;
 use std::sync::atomic::{AtomicU64, Ordering};
@@ -127,6 +130,25 @@ fn joined<R: Threads + Wait + AllocGlobal + Sync>(
     (background.join(rt), seen)
 }
 
+/// What came of a session that a spawner was to start.
+#[derive(Clone, Copy, Debug, PartialEq, Eq)]
+enum Way {
+    /// It was started.
+    Started,
+    /// It was opened, but not started.
+    Refused,
+    /// It was not opened.
+    Unopened,
+}
+
+fn way_of(spawned: &Result<Background, Refusal>) -> Way {
+    match spawned {
+        Ok(_) => Way::Started,
+        Err(SpawnError::Refused(_)) => Way::Refused,
+        Err(SpawnError::Ended(_)) => Way::Unopened,
+    }
+}
+
 /// The end of a session that a spawner was to start, and whether it did and this was seen of it then. Where the spawner
 /// refused, the session is run here.
 fn over<R: Threads + Wait + AllocGlobal + Sync>(
@@ -151,8 +173,8 @@ struct Trial {
     is_notified: bool,
     /// What each session leaves, wherever it is run.
     left: Left,
-    /// Whether each is started.
-    started: &'static [bool],
+    /// What comes of each.
+    ways: &'static [Way],
 }
 
 /// A spawner that refuses these starts, or that starts threads.
@@ -166,12 +188,12 @@ fn spawner_of<R: AllocGlobal + Abort>(rt: &R, refusals: Option<&[u64]>) -> Spawn
     }
 }
 
-/// A session of this trial is started by this spawner, or is not.
+/// A session of this trial comes to this by this spawner.
 fn goes<R: Threads + Wait + AllocGlobal + Abort + Send + Sync + Copy + 'static>(
     rt: &R,
     spawner: &mut Spawner,
     trial: &Trial,
-    is_started: bool,
+    way: Way,
 ) {
     let counting = Counting::new(None);
     let spawned = spawn(rt, spawner, trial.n_threads, counting, trial.given);
@@ -180,9 +202,10 @@ fn goes<R: Threads + Wait + AllocGlobal + Abort + Send + Sync + Copy + 'static>(
     } else {
         Look::Nothing
     };
-    let (over, started) = over(rt, spawned, look);
+    let found = way_of(&spawned);
+    let (over, is_seen) = over(rt, spawned, look);
     is_left(rt, "spawned", over, &trial.left);
-    expect_same(rt, &started, &is_started);
+    expect_same(rt, &(found, is_seen), &(way, way == Way::Started));
 }
 
 /// The sessions of this trial go as it says.
@@ -191,8 +214,8 @@ fn go<R: Threads + Wait + AllocGlobal + Abort + Send + Sync + Copy + 'static>(
     trial: &Trial,
 ) {
     let mut spawner = spawner_of(rt, trial.refusals);
-    for is_started in trial.started {
-        goes(rt, &mut spawner, trial, *is_started);
+    for way in trial.ways {
+        goes(rt, &mut spawner, trial, *way);
     }
     drop(spawner);
 }
@@ -204,7 +227,7 @@ const TRIALS: &[Trial] = &[
         given: MESSAGES,
         is_notified: false,
         left: ANSWERED,
-        started: &[true],
+        ways: &[Way::Started],
     },
     Trial {
         refusals: Some(&[]),
@@ -212,7 +235,7 @@ const TRIALS: &[Trial] = &[
         given: MESSAGES,
         is_notified: false,
         left: ANSWERED,
-        started: &[true],
+        ways: &[Way::Started],
     },
     Trial {
         refusals: Some(&[]),
@@ -220,7 +243,7 @@ const TRIALS: &[Trial] = &[
         given: MESSAGES,
         is_notified: false,
         left: ANSWERED,
-        started: &[true],
+        ways: &[Way::Started],
     },
     // one of which a notifier is made
     Trial {
@@ -229,7 +252,7 @@ const TRIALS: &[Trial] = &[
         given: MESSAGES,
         is_notified: true,
         left: ANSWERED,
-        started: &[true],
+        ways: &[Way::Started],
     },
     // one that is not started can still be run
     Trial {
@@ -238,7 +261,7 @@ const TRIALS: &[Trial] = &[
         given: MESSAGES,
         is_notified: false,
         left: ANSWERED,
-        started: &[false, true, false, true],
+        ways: &[Way::Refused, Way::Started, Way::Refused, Way::Started],
     },
     // one that is not opened is not started
     Trial {
@@ -247,7 +270,7 @@ const TRIALS: &[Trial] = &[
         given: &[],
         is_notified: false,
         left: NOT_CONNECTED,
-        started: &[false],
+        ways: &[Way::Unopened],
     },
 ];
 
@@ -495,4 +518,38 @@ fn a_session_that_is_refused_can_be_started_later(rt: HostRuntime) {
     let (over, notified) = over_later(&rt, &mut spawner, refused(&rt, spawned));
     is_left(&rt, "started later", over, &ANSWERED);
     expect_same(&rt, &notified, &true);
+}
+
+/// A session over streams of bytes, in pieces of seven, which a thread of its own serves: its outcome, and what it wrote.
+fn over_streams<R: Threads + Wait + AllocGlobal + Abort + Send + Sync + Copy + 'static>(
+    rt: &R,
+    messages: Vec<u8>,
+) -> (Result<(), SessionError>, Vec<u8>) {
+    let alloc = rt.alloc();
+    let source = StreamSource::new(MemoryBytes::new(messages, 7, Vec::new(alloc)));
+    let sink = StreamSink::new(MemoryOut::new(alloc, 7, Vec::new(alloc)));
+    let filesystem = Probing {
+        probe: Counting::new(None),
+    };
+    let config = Config::new(alloc);
+    let mut spawner = spawner_of(rt, None);
+    let spawned = spawn_mount(rt, &mut spawner, filesystem, source, sink, 0, 4096, &config);
+    let Ok(background) = spawned else {
+        panic!(rt; "not started");
+    };
+    let ended = background.join(rt);
+    let written = ended.sink.into_inner().bytes().to_vec(alloc);
+    (ended.outcome, written.expect(rt, "there is memory"))
+}
+
+#[test]
+fn a_session_over_streams_runs_in_the_background(rt: HostRuntime) {
+    let mut messages = copied(&rt, &INIT_7_8);
+    let added = messages.extend_from_slice(&lookup(2, 0));
+    added.expect(&rt, "there is memory");
+    let mut replies = copied(&rt, &ACCEPTED);
+    let added = replies.extend_from_slice(&error_reply(2, ENOENT));
+    added.expect(&rt, "there is memory");
+    let found = over_streams(&rt, messages);
+    expect_same(&rt, &found, &(Ok(()), replies));
 }

@@ -6,7 +6,7 @@ use crate::counting::{Counting, Course, went};
 use crate::ends::End;
 use crate::messages::{Frame, Given, Request, copied};
 use crate::refusals::REFUSALS;
-use crate::rows::{Devices, ONE, ONE_AND_TWO, Row, serve, serve_all};
+use crate::rows::{Devices, ONE, ONE_AND_TWO, Row, TWO, serve, serve_all};
 use fuse_config::{Config, SessionACL};
 use fuse_probing::test_messages::{
     EACCES, EINVAL, EIO, ENOENT, ENOSYS, EPROTO, INIT_7_8, NO_OPCODE,
@@ -244,11 +244,11 @@ const AFTER_INIT: &[Row] = &[
         what: "nothing is taken after DESTROY",
         acl: SessionACL::Owner,
         threads: ONE_AND_TWO,
-        devices: Devices::Plain,
+        devices: Devices::Holding(LOOKUP),
         given: &[
             Given::Opening,
             Given::Asked(Request::Bare(FUSE_DESTROY, 2, 0, 0)),
-            Given::Asked(Request::Lookup(3, 0)),
+            Given::Bytes(LOOKUP),
         ],
         frames: &[
             Frame::Accepted,
@@ -365,7 +365,7 @@ const FAULTS: &[Row] = &[
     Row {
         what: "a sink that fails, and then a header that is cut short",
         acl: SessionACL::Owner,
-        threads: ONE,
+        threads: ONE_AND_TWO,
         devices: Devices::Failing,
         given: &[
             Given::Opening,
@@ -382,7 +382,7 @@ const FAULTS: &[Row] = &[
     Row {
         what: "a source that gives nothing at some turns",
         acl: SessionACL::Owner,
-        threads: ONE,
+        threads: ONE_AND_TWO,
         devices: Devices::Plain,
         given: &[
             Given::Nothing,
@@ -402,7 +402,7 @@ const FAULTS: &[Row] = &[
     Row {
         what: "a source that fails after INIT",
         acl: SessionACL::Owner,
-        threads: ONE,
+        threads: ONE_AND_TWO,
         devices: Devices::Holding(LOOKUP),
         given: &[
             Given::Opening,
@@ -420,7 +420,7 @@ const FAULTS: &[Row] = &[
     Row {
         what: "a source that fails at once",
         acl: SessionACL::Owner,
-        threads: ONE,
+        threads: ONE_AND_TWO,
         devices: Devices::Holding(&INIT_7_8),
         given: &[Given::Fault, Given::Opening],
         frames: &[],
@@ -458,6 +458,41 @@ const FAULTS: &[Row] = &[
             Given::Asked(Request::Lookup(3, 0)),
         ],
         frames: &[Frame::Accepted, Frame::Error(3, ENOENT)],
+        notes: &[],
+        received: 3,
+        lost: 1,
+        calls: 2,
+        end: End::Fine,
+    },
+    // on two threads either of two may be lost, so that both have one id
+    Row {
+        what: "one of two frames that fails is lost",
+        acl: SessionACL::Owner,
+        threads: TWO,
+        devices: Devices::Failing,
+        given: &[
+            Given::Opening,
+            Given::Asked(Request::Lookup(2, 0)),
+            Given::Asked(Request::Lookup(2, 0)),
+        ],
+        frames: &[Frame::Accepted, Frame::Error(2, ENOENT)],
+        notes: &[],
+        received: 3,
+        lost: 1,
+        calls: 2,
+        end: End::Fine,
+    },
+    Row {
+        what: "one of two frames without a receiver is lost",
+        acl: SessionACL::Owner,
+        threads: TWO,
+        devices: Devices::Absent,
+        given: &[
+            Given::Opening,
+            Given::Asked(Request::Lookup(2, 0)),
+            Given::Asked(Request::Lookup(2, 0)),
+        ],
+        frames: &[Frame::Accepted, Frame::Error(2, ENOENT)],
         notes: &[],
         received: 3,
         lost: 1,
@@ -505,7 +540,7 @@ fn opens_for<R: Threads + Wait + AllocGlobal + Abort + Sync>(
 }
 
 #[test]
-fn serves_any_owner_pages_and_threads(rt: HostRuntime) {
+fn opens_for_any_owner_pages_and_threads(rt: HostRuntime) {
     opens_for(&rt, 0, 1, None, &[0xff, 0xff]);
     opens_for(&rt, 1000, 4096, Some(1), &[0, 0x10]);
     opens_for(&rt, u32::MAX, 65536, Some(64), &[0, 1]);
