@@ -41,9 +41,11 @@ const REPLIES: &[&[u8]] = &[
 
 const NO_ENTRY: &[u8; 16] = b"\x10\0\0\0\xfe\xff\xff\xff\x02\0\0\0\0\0\0\0";
 
-/// Runs the program over these bytes, so many of which are read or written at a time, and streams that fail at these calls.
+/// Runs the program by these words over these bytes, so many of which are read or written at a time, and streams that fail at
+/// these calls.
 pub(crate) fn run_failing<R: Threads + Wait + AllocGlobal + Abort + Sync>(
     rt: &R,
+    words: &[&[u8]],
     parts: &[&[u8]],
     step: usize,
     reads: &[u64],
@@ -54,7 +56,7 @@ pub(crate) fn run_failing<R: Threads + Wait + AllocGlobal + Abort + Sync>(
     let reads = reads.to_vec(alloc).expect(rt, "there is memory");
     let writes = writes.to_vec(alloc).expect(rt, "there is memory");
     let input = MemoryBytes::new(joined(rt, parts), step, reads);
-    run_over(rt, form(), input, MemoryOut::new(alloc, step, writes))
+    run_over(rt, words, input, MemoryOut::new(alloc, step, writes))
 }
 
 /// The program so run ends with this status, has written so many of the bytes, and has left so many unread.
@@ -66,7 +68,7 @@ fn ends_so<R: Threads + Wait + AllocGlobal + Abort + Sync>(
     count: usize,
     left: usize,
 ) {
-    let run = run_failing(rt, STREAM, 1000, reads, writes);
+    let run = run_failing(rt, form(), STREAM, 1000, reads, writes);
     let replies = joined(rt, REPLIES);
     let found = (run.status, Some(run.written.as_slice()), run.unread.len());
     let expected = (status, replies.get(..count), left);
@@ -133,7 +135,7 @@ const AMISS_TWICE: &[(&[&[u8]], u64, u8, usize)] = &[(OLD, 1, 5, 0), (CUT, 3, 4,
 fn an_error_goes_before_a_write_that_failed(rt: HostRuntime) {
     let replies = joined(&rt, REPLIES);
     for (parts, write, status, count) in AMISS_TWICE {
-        let run = run_failing(&rt, parts, 1000, &[], &[*write]);
+        let run = run_failing(&rt, form(), parts, 1000, &[], &[*write]);
         let found = (run.status, Some(run.written.as_slice()));
         expect_same(&rt, &found, &(*status, replies.get(..*count)));
     }

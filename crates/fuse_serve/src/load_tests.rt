@@ -15,6 +15,13 @@ const LINES: &[Ending] = &[
         0,
         b"messages 2 frames 2 notes 0 errors 0 bytes 96\n",
     ),
+    (
+        &[b"load", b"7", b"0", b"2"],
+        1000,
+        &[],
+        0,
+        b"messages 2 frames 2 notes 0 errors 0 bytes 96\n",
+    ),
     (&[b"load", b"1", b"5", b"1"], 1000, &[], 0, FIVE),
     (
         &[b"load", b"2147483647", b"100", b"1"],

@@ -17,6 +17,14 @@ pub(crate) fn form() -> &'static [&'static [u8]] {
     FORM
 }
 
+/// The words of a form with two threads.
+const ON_TWO: &[&[u8]] = &[b"serve", b"2", b"all", b"0", b"4096"];
+
+/// The same, written once.
+pub(crate) fn form_on_two() -> &'static [&'static [u8]] {
+    ON_TWO
+}
+
 /// These parts joined.
 pub(crate) fn joined<R: AllocGlobal + Abort>(rt: &R, parts: &[&[u8]]) -> Vec<u8> {
     let mut bytes = Vec::new(rt.alloc());

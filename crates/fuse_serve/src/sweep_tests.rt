@@ -6,8 +6,8 @@ ghost use Rattle.fuse_wire.specs.declared.sink.Sending.TheVariants.{Failed, Abse
 use crate::asserts::expect_same;
 use crate::fault_tests::run_failing;
 use crate::generator_tests::{answers, five_requests_in_a_stream};
-use crate::runs::{joined, mount_tree};
-use crate::tree_tests::put_turn;
+use crate::runs::{Run, form, form_on_two, joined, mount_tree};
+use crate::tree_tests::{put_turn, times};
 use fuse_config::SessionACL;
 use fuse_session::SessionError;
 use fuse_wire::{MemorySink, MemorySource, Sending, Turn};
@@ -78,23 +78,60 @@ fn taken<R: AllocGlobal + Abort>(rt: &R, sink: &MemorySink) -> Vec<u8> {
     bytes
 }
 
-/// A session over these devices, on one thread, ends so, takes so many messages and loses so many frames, and has sent the
-/// frames of these bytes.
-fn goes_so<R: Threads + Wait + AllocGlobal + Abort + Sync>(
+/// The whole frames that these bytes begin with, each of which is shorter than 256 bytes.
+fn frames_in<R: AllocGlobal + Abort>(rt: &R, bytes: &[u8]) -> Vec<Vec<u8>> {
+    let mut frames = Vec::new(rt.alloc());
+    let mut start: usize = 0;
+    for _ in places() {
+        let Some(length) = bytes.get(start) else {
+            break;
+        };
+        let end = start.saturating_add(usize::from(*length));
+        let Some(frame) = bytes.get(start..end) else {
+            break;
+        };
+        let frame = frame.to_vec(rt.alloc()).expect(rt, "there is memory");
+        frames.push(frame).expect(rt, "there is memory");
+        start = end;
+    }
+    frames
+}
+
+/// These bytes are those frames: in this order where one thread served, and in any order where two did.
+fn are_frames<R: AllocGlobal + Abort>(
     rt: &R,
     place: usize,
+    is_alone: bool,
+    found: &[u8],
+    expected: &[u8],
+) {
+    let same = !is_alone || found == expected;
+    let (found, expected) = (frames_in(rt, found), frames_in(rt, expected));
+    let lengths = (found.len(), expected.len());
+    expect_same(rt, &(place, lengths.0, same), &(place, lengths.1, true));
+    for frame in expected.iter() {
+        let counts = (times(&found, frame), times(&expected, frame));
+        expect_same(rt, &(place, counts.0), &(place, counts.1));
+    }
+}
+
+/// A session over these devices, on so many threads, ends so, takes so many messages and loses so many frames, and has sent
+/// the frames of these bytes.
+fn goes_so<R: Threads + Wait + AllocGlobal + Abort + Sync>(
+    rt: &R,
+    n_threads: usize,
+    place: usize,
     source: MemorySource,
-    sink: MemorySink,
     outcome: &Result<(), SessionError>,
-    counts: (u64, u64),
+    received: u64,
     sent: &[u8],
 ) {
-    let ended = mount_tree(rt, Some(1), SessionACL::All, 0, source, sink);
+    let ended = mount_tree(rt, Some(n_threads), SessionACL::All, 0, source, taking(rt));
     let bytes = taken(rt, &ended.sink);
     let found = (ended.transcript.received, ended.transcript.lost);
-    let found = (place, found, bytes.as_slice());
-    expect_same(rt, &found, &(place, counts, sent));
+    expect_same(rt, &(place, found), &(place, (received, 0)));
     expect_same(rt, &ended.outcome, outcome);
+    are_frames(rt, place, n_threads == 1, &bytes, sent);
     drop(ended);
 }
 
@@ -102,8 +139,10 @@ fn goes_so<R: Threads + Wait + AllocGlobal + Abort + Sync>(
 fn a_turn_without_a_message_changes_nothing(rt: HostRuntime) {
     let replies = answers(&rt);
     for (place, _) in places().iter().enumerate() {
-        let source = source_with(&rt, place, false);
-        goes_so(&rt, place, source, taking(&rt), &Ok(()), (7, 0), &replies);
+        for n_threads in 1..=2 {
+            let source = source_with(&rt, place, false);
+            goes_so(&rt, n_threads, place, source, &Ok(()), 7, &replies);
+        }
     }
 }
 
@@ -112,10 +151,49 @@ fn a_fault_before_a_message_ends_the_session(rt: HostRuntime) {
     let replies = answers(&rt);
     let outcome = Err(SessionError::Receive);
     for (place, (_, (start, _))) in places().iter().enumerate() {
-        let source = source_with(&rt, place, true);
         let before = part(&replies, 0, *start);
-        let counts = (place as u64, 0);
-        goes_so(&rt, place, source, taking(&rt), &outcome, counts, before);
+        for n_threads in 1..=2 {
+            let source = source_with(&rt, place, true);
+            goes_so(
+                &rt,
+                n_threads,
+                place,
+                source,
+                &outcome,
+                place as u64,
+                before,
+            );
+        }
+    }
+}
+
+/// A session over a sink that answers the frame of this number so: it ends well all the same, and loses one. The bytes of the
+/// frames that were sent.
+fn sent_but_one<R: Threads + Wait + AllocGlobal + Abort + Sync>(
+    rt: &R,
+    n_threads: usize,
+    number: u64,
+    fault: Sending,
+) -> Vec<u8>
+    requires { fault ≡ Failed ⊎ fault ≡ Absent }
+{
+    let source = source_with(rt, 7, false);
+    let sink = refusing(rt, number, fault);
+    let ended = mount_tree(rt, Some(n_threads), SessionACL::All, 0, source, sink);
+    let bytes = taken(rt, &ended.sink);
+    let found = (ended.transcript.received, ended.transcript.lost);
+    expect_same(rt, &(number, found), &(number, (7, 1)));
+    expect_same(rt, &ended.outcome, &Ok(()));
+    drop(ended);
+    bytes
+}
+
+/// These frames are so many of those, and none is there twice.
+fn are_some(rt: &impl Abort, count: usize, found: &[Vec<u8>], all: &[Vec<u8>]) {
+    expect_same(rt, &found.len(), &count);
+    for frame in found {
+        let counts = (times(found, frame), times(all, frame));
+        expect_same(rt, &counts, &(1, 1));
     }
 }
 
@@ -124,11 +202,14 @@ fn loses_one<R: Threads + Wait + AllocGlobal + Abort + Sync>(rt: &R, fault: Send
     requires { fault ≡ Failed ⊎ fault ≡ Absent }
 {
     let replies = answers(rt);
+    let all = frames_in(rt, &replies);
     for (place, (_, (start, end))) in places().iter().enumerate() {
-        let source = source_with(rt, 7, false);
-        let sink = refusing(rt, (place as u64).saturating_add(1), fault);
+        let number = (place as u64).saturating_add(1);
         let others = joined(rt, &[part(&replies, 0, *start), part(&replies, *end, 335)]);
-        goes_so(rt, place, source, sink, &Ok(()), (7, 1), &others);
+        let found = sent_but_one(rt, 1, number, fault);
+        expect_same(rt, &(number, &found), &(number, &others));
+        let found = sent_but_one(rt, 2, number, fault);
+        are_some(rt, 6, &frames_in(rt, &found), &all);
     }
 }
 
@@ -169,41 +250,68 @@ fn answered(byte: usize) -> usize {
     count
 }
 
-/// The program over this stream, in such steps and with faults at these calls, ends with this status, has written these
-/// bytes and has left so many unread.
-fn ends_so<R: Threads + Wait + AllocGlobal + Abort + Sync>(
+/// The program over this stream, on one thread, in such steps and with faults at these calls.
+fn run_alone<R: Threads + Wait + AllocGlobal + Abort + Sync>(
     rt: &R,
     stream: &[u8],
     step: usize,
     reads: &[u64],
     writes: &[u64],
+) -> Run {
+    run_failing(rt, form(), &[stream], step, reads, writes)
+}
+
+/// The same on two threads.
+fn run_on_two<R: Threads + Wait + AllocGlobal + Abort + Sync>(
+    rt: &R,
+    stream: &[u8],
+    step: usize,
+    reads: &[u64],
+    writes: &[u64],
+) -> Run {
+    run_failing(rt, form_on_two(), &[stream], step, reads, writes)
+}
+
+/// So it ended: with this status, these frames written, and so many bytes left unread.
+fn ended_so<R: AllocGlobal + Abort>(
+    rt: &R,
+    call: u64,
+    is_alone: bool,
+    run: &Run,
     expected: (u8, &[u8], usize),
 ) {
-    let run = run_failing(rt, &[stream], step, reads, writes);
-    let found = (run.status, run.written.as_slice(), run.unread.len());
-    expect_same(rt, &(reads, writes, found), &(reads, writes, expected));
+    let (status, written, unread) = expected;
+    let found = (call, run.status, run.unread.len());
+    expect_same(rt, &found, &(call, status, unread));
+    are_frames(rt, call as usize, is_alone, &run.written, written);
 }
 
 /// In such steps, so many reads are made, each of which may fail.
 fn each_read_fails<R: Threads + Wait + AllocGlobal + Abort + Sync>(
     rt: &R,
+    is_alone: bool,
     step: usize,
     count: usize,
 ) {
     let stream = five_requests_in_a_stream(rt);
     let replies = answers(rt);
-    let bytes = beginnings(rt, READ, step);
+    let mut bytes = beginnings(rt, READ, step);
     expect_same(rt, &bytes.len(), &count);
+    // the call after the last, which is not made
+    bytes.push(stream.len()).expect(rt, "there is memory");
     let mut number: u64 = 0;
     for byte in bytes.iter() {
         number = number.saturating_add(1);
+        let run = if is_alone {
+            run_alone(rt, &stream, step, &[number], &[])
+        } else {
+            run_on_two(rt, &stream, step, &[number], &[])
+        };
+        let status = if *byte < stream.len() { 7 } else { 0 };
         let before = part(&replies, 0, answered(*byte));
-        let expected = (7, before, stream.len().saturating_sub(*byte));
-        ends_so(rt, &stream, step, &[number], &[], expected);
+        let expected = (status, before, stream.len().saturating_sub(*byte));
+        ended_so(rt, number, is_alone, &run, expected);
     }
-    let expected = (0, replies.as_slice(), 0);
-    let after = number.saturating_add(1);
-    ends_so(rt, &stream, step, &[after], &[], expected);
 }
 
 /// In such steps, so many writes are made, each of which may fail.
@@ -214,27 +322,70 @@ fn each_write_fails<R: Threads + Wait + AllocGlobal + Abort + Sync>(
 ) {
     let stream = five_requests_in_a_stream(rt);
     let replies = answers(rt);
-    let bytes = beginnings(rt, WRITTEN, step);
+    let mut bytes = beginnings(rt, WRITTEN, step);
     expect_same(rt, &bytes.len(), &count);
+    // the call after the last, which is not made
+    bytes.push(replies.len()).expect(rt, "there is memory");
     let mut number: u64 = 0;
     for byte in bytes.iter() {
         number = number.saturating_add(1);
-        let expected = (8, part(&replies, 0, *byte), 0);
-        ends_so(rt, &stream, step, &[], &[number], expected);
+        let run = run_alone(rt, &stream, step, &[], &[number]);
+        let status = if *byte < replies.len() { 8 } else { 0 };
+        let found = (status_of(&run), run.written.as_slice());
+        let expected = ((status, 0), part(&replies, 0, *byte));
+        expect_same(rt, &(number, found), &(number, expected));
     }
-    let expected = (0, replies.as_slice(), 0);
-    let after = number.saturating_add(1);
-    ends_so(rt, &stream, step, &[], &[after], expected);
+}
+
+/// The status of a run, and how many bytes it has left unread.
+fn status_of(run: &Run) -> (u8, usize) {
+    (run.status, run.unread.len())
+}
+
+/// These bytes are whole frames of those, none of them twice, and then the front of another.
+fn are_a_front<R: AllocGlobal + Abort>(rt: &R, number: u64, found: &[u8], all: &[Vec<u8>]) {
+    let whole = frames_in(rt, found);
+    are_some(rt, whole.len(), &whole, all);
+    let mut begun = found;
+    for frame in whole.iter() {
+        begun = begun.get(frame.len()..).unwrap_or(b"");
+    }
+    let mut others: usize = 0;
+    for frame in all {
+        if frame.starts_with(begun) && times(&whole, frame) == 0 {
+            others = others.saturating_add(1);
+        }
+    }
+    expect_same(rt, &(number, others > 0), &(number, true));
+}
+
+#[test]
+fn each_write_on_two_threads_may_fail(rt: HostRuntime) {
+    let stream = five_requests_in_a_stream(&rt);
+    let all = frames_in(&rt, &answers(&rt));
+    for number in 1..=55u64 {
+        let run = run_on_two(&rt, &stream, 7, &[], &[number]);
+        expect_same(&rt, &(number, status_of(&run)), &(number, (8, 0)));
+        are_a_front(&rt, number, &run.written, &all);
+    }
+    let run = run_on_two(&rt, &stream, 7, &[], &[56]);
+    expect_same(&rt, &status_of(&run), &(0, 0));
+    are_frames(&rt, 56, false, &run.written, &answers(&rt));
 }
 
 #[test]
 fn each_read_of_a_byte_may_fail(rt: HostRuntime) {
-    each_read_fails(&rt, 1, 519);
+    each_read_fails(&rt, true, 1, 519);
 }
 
 #[test]
 fn each_read_of_seven_bytes_may_fail(rt: HostRuntime) {
-    each_read_fails(&rt, 7, 79);
+    each_read_fails(&rt, true, 7, 79);
+}
+
+#[test]
+fn each_read_on_two_threads_may_fail(rt: HostRuntime) {
+    each_read_fails(&rt, false, 7, 79);
 }
 
 #[test]

@@ -3,7 +3,7 @@ ghost use Rattle.std.specs.Prelude.{None};
 
 use crate::asserts::expect_same;
 use crate::runs::{
-    FORM, Run, form, joined, mount_tree, run_in_steps, run_over, served, status_over,
+    FORM, Run, form, form_on_two, joined, mount_tree, run_in_steps, run_over, served, status_over,
 };
 use fuse_config::SessionACL;
 use fuse_session::Ended;
@@ -92,13 +92,14 @@ fn expect_run(rt: &impl Abort, at: usize, run: &Run, status: u8, written: &[u8],
     expect_same(rt, &(at, found), &(at, (status, written, unread)));
 }
 
-/// The program ends so, in pieces of 1 and of 7 bytes.
+/// The program ends so by these words, in pieces of 1 and of 7 bytes.
 fn expect_ending<R: Threads + Wait + AllocGlobal + Abort + Sync>(
     rt: &R,
     at: usize,
+    words: &[&[u8]],
     ending: &Ending,
 ) {
-    let (words, parts, status, written, unread) = *ending;
+    let (_, parts, status, written, unread) = *ending;
     let expected = joined(rt, written);
     for step in [1, 7] {
         let run = run_in_steps(rt, words, parts, step);
@@ -109,7 +110,18 @@ fn expect_ending<R: Threads + Wait + AllocGlobal + Abort + Sync>(
 /// The program ends so over each input.
 fn expect_endings<R: Threads + Wait + AllocGlobal + Abort + Sync>(rt: &R, endings: &[Ending]) {
     for (at, ending) in endings.iter().enumerate() {
-        expect_ending(rt, at, ending);
+        expect_ending(rt, at, ending.0, ending);
+    }
+}
+
+/// So it does on one thread, and on two: no input here has more than one reply after that to INIT.
+fn expect_endings_on_threads<R: Threads + Wait + AllocGlobal + Abort + Sync>(
+    rt: &R,
+    endings: &[Ending],
+) {
+    expect_endings(rt, endings);
+    for (at, ending) in endings.iter().enumerate() {
+        expect_ending(rt, at, form_on_two(), ending);
     }
 }
 
@@ -165,7 +177,7 @@ fn inputs() -> &'static [Ending] {
 
 #[test]
 fn inputs_have_their_status_and_frames(rt: HostRuntime) {
-    expect_endings(&rt, inputs());
+    expect_endings_on_threads(&rt, inputs());
 }
 
 const REQUESTS: &[Ending] = &[
@@ -189,7 +201,7 @@ fn requests() -> &'static [Ending] {
 
 #[test]
 fn requests_have_their_frames(rt: HostRuntime) {
-    expect_endings(&rt, requests());
+    expect_endings_on_threads(&rt, requests());
 }
 
 /// DESTROY, a length below the header's, and a short header.
@@ -217,7 +229,7 @@ fn last_messages() -> &'static [Ending] {
 
 #[test]
 fn what_comes_after_the_last_message_is_unread(rt: HostRuntime) {
-    expect_endings(&rt, last_messages());
+    expect_endings_on_threads(&rt, last_messages());
 }
 
 /// The words of a form without a thread.
@@ -226,9 +238,10 @@ const IDLE: &[&[u8]] = &[b"serve", b"0", b"all", b"0", b"4096"];
 /// Words that are no form.
 const NO_FORM: &[&[u8]] = &[b"serve"];
 
-/// No thread, an empty page, and no words.
+/// No thread, a number of threads that is none, an empty page, and no words.
 const WORDS: &[Ending] = &[
     (IDLE, &[INIT, ZEROS], 10, &[REPLY], b""),
+    (&[b"serve", b"x", b"all", b"0", b"1"], &[INIT], 2, &[], INIT),
     (&[b"serve", b"1", b"all", b"0", b"0"], &[INIT], 2, &[], INIT),
     (&[], &[INIT], 2, &[], INIT),
 ];

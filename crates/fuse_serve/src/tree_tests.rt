@@ -15,8 +15,8 @@ type Parts = &'static [&'static [u8]];
 /// A request, by its opcode, its node, its user and its body.
 type Asked = (u16, u8, u8, Parts);
 
-/// A frame for the id 2, by the lowest byte of its status and its payload.
-type Sent = (u8, Parts);
+/// A frame, by its id, the lowest byte of its status, and its payload.
+type Sent = (u8, u8, Parts);
 
 /// A request of anybody, by its opcode, its node and its body, and the lowest byte of the status and the payload that it gets.
 type Case = (u16, u8, Parts, u8, Parts);
@@ -26,38 +26,50 @@ fn short(length: usize) -> u8 {
     length.min(255) as u8
 }
 
-/// The header of a message with the id 2, gid and pid 0, and a body of this length.
-fn header(opcode: u16, node: u8, uid: u8, length: usize) -> [u8; 40] {
+/// The id of the request at this place: the first has 2.
+fn id_at(place: usize) -> u8 {
+    short(place.saturating_add(2))
+}
+
+/// The header of a message with this id, gid and pid 0, and a body of this length.
+fn header(id: u8, opcode: u16, node: u8, uid: u8, length: usize) -> [u8; 40] {
     let [low, high] = opcode.to_le_bytes();
     let mut bytes = [0; 40];
     bytes[0] = short(length.saturating_add(40));
     bytes[4] = low;
     bytes[5] = high;
-    bytes[8] = 2;
+    bytes[8] = id;
     bytes[16] = node;
     bytes[24] = uid;
     bytes
 }
 
-/// A message with the id 2, gid and pid 0, and this body.
-fn message<R: AllocGlobal + Abort>(rt: &R, opcode: u16, node: u8, uid: u8, body: Parts) -> Vec<u8> {
+/// A message with this id, gid and pid 0, and this body.
+fn message<R: AllocGlobal + Abort>(
+    rt: &R,
+    id: u8,
+    opcode: u16,
+    node: u8,
+    uid: u8,
+    body: Parts,
+) -> Vec<u8> {
     let body = joined(rt, body);
-    joined(rt, &[&header(opcode, node, uid, body.len()), &body])
+    joined(rt, &[&header(id, opcode, node, uid, body.len()), &body])
 }
 
-/// The header of a frame for the id 2: this status, whose lowest byte is given, and the length of its payload.
-fn frame_header(status: u8, length: usize) -> [u8; 16] {
+/// The header of a frame for this id: this status, whose lowest byte is given, and the length of its payload.
+fn frame_header(id: u8, status: u8, length: usize) -> [u8; 16] {
     let above = if status == 0 { 0 } else { 0xff };
     let length = short(length.saturating_add(16));
     [
-        length, 0, 0, 0, status, above, above, above, 2, 0, 0, 0, 0, 0, 0, 0,
+        length, 0, 0, 0, status, above, above, above, id, 0, 0, 0, 0, 0, 0, 0,
     ]
 }
 
-/// A frame for the id 2: this status, whose lowest byte is given, and this payload.
-fn frame<R: AllocGlobal + Abort>(rt: &R, status: u8, payload: Parts) -> Vec<u8> {
+/// A frame for this id: this status, whose lowest byte is given, and this payload.
+fn frame<R: AllocGlobal + Abort>(rt: &R, id: u8, status: u8, payload: Parts) -> Vec<u8> {
     let payload = joined(rt, payload);
-    joined(rt, &[&frame_header(status, payload.len()), &payload])
+    joined(rt, &[&frame_header(id, status, payload.len()), &payload])
 }
 
 /// INIT of version 7.8, with the id 1.
@@ -73,11 +85,12 @@ fn put(rt: &impl Abort, all: &mut Vec<Vec<u8>>, bytes: Vec<u8>) {
     all.push(bytes).expect(rt, "there is memory");
 }
 
-/// These requests.
+/// These requests, each with the id of its place.
 fn messages_of<R: AllocGlobal + Abort>(rt: &R, requests: &[Asked]) -> Vec<Vec<u8>> {
     let mut messages = Vec::new(rt.alloc());
-    for (opcode, node, uid, body) in requests {
-        put(rt, &mut messages, message(rt, *opcode, *node, *uid, body));
+    for (place, (opcode, node, uid, body)) in requests.iter().enumerate() {
+        let asked = message(rt, id_at(place), *opcode, *node, *uid, body);
+        put(rt, &mut messages, asked);
     }
     messages
 }
@@ -85,8 +98,8 @@ fn messages_of<R: AllocGlobal + Abort>(rt: &R, requests: &[Asked]) -> Vec<Vec<u8
 /// These frames.
 fn frames_of<R: AllocGlobal + Abort>(rt: &R, replies: &[Sent]) -> Vec<Vec<u8>> {
     let mut frames = Vec::new(rt.alloc());
-    for (status, payload) in replies {
-        put(rt, &mut frames, frame(rt, *status, payload));
+    for (id, status, payload) in replies {
+        put(rt, &mut frames, frame(rt, *id, *status, payload));
     }
     frames
 }
@@ -109,7 +122,7 @@ fn after_init<R: AllocGlobal + Abort>(rt: &R, requests: &[Vec<u8>]) -> MemorySou
 }
 
 /// How often this frame stands among these.
-fn times(frames: &[Vec<u8>], frame: &[u8]) -> usize {
+pub(crate) fn times(frames: &[Vec<u8>], frame: &[u8]) -> usize {
     let mut count: usize = 0;
     for other in frames {
         if other.as_slice() == frame {
@@ -235,24 +248,26 @@ fn passes(opcode: u16) -> bool {
     )
 }
 
-/// The requests of these cases, of this user.
+/// The requests of these cases, of this user, each with the id of its place.
 fn asked_by<R: AllocGlobal + Abort>(rt: &R, uid: u8, cases: &[&[Case]]) -> Vec<Vec<u8>> {
     let mut messages = Vec::new(rt.alloc());
     for some in cases {
         for (opcode, node, body, _, _) in *some {
-            put(rt, &mut messages, message(rt, *opcode, *node, uid, body));
+            let id = id_at(messages.len());
+            let asked = message(rt, id, *opcode, *node, uid, body);
+            put(rt, &mut messages, asked);
         }
     }
     messages
 }
 
-/// The frame of this case: its own where the user is served, and EACCES where not.
-fn answer<R: AllocGlobal + Abort>(rt: &R, is_served: bool, case: &Case) -> Vec<u8> {
+/// The frame of this case for this id: its own where the user is served, and EACCES where not.
+fn answer<R: AllocGlobal + Abort>(rt: &R, id: u8, is_served: bool, case: &Case) -> Vec<u8> {
     let (opcode, _, _, status, payload) = *case;
     if is_served || passes(opcode) {
-        frame(rt, status, payload)
+        frame(rt, id, status, payload)
     } else {
-        frame(rt, 0xf3, &[])
+        frame(rt, id, 0xf3, &[])
     }
 }
 
@@ -261,7 +276,9 @@ fn answers<R: AllocGlobal + Abort>(rt: &R, is_served: bool, cases: &[&[Case]]) -
     let mut frames = Vec::new(rt.alloc());
     for some in cases {
         for case in *some {
-            put(rt, &mut frames, answer(rt, is_served, case));
+            let id = id_at(frames.len());
+            let answered = answer(rt, id, is_served, case);
+            put(rt, &mut frames, answered);
         }
     }
     frames
@@ -443,14 +460,14 @@ const FORGETS: &[Asked] = &[
 ];
 
 const AFTER_FORGETS: &[Sent] = &[
-    (0xda, &[]),
-    (0xda, &[]),
-    (0xda, &[]),
-    (0xf3, &[]),
-    (0, &[b"Hello World!\n"]),
+    (3, 0xda, &[]),
+    (6, 0xda, &[]),
+    (7, 0xda, &[]),
+    (8, 0xf3, &[]),
+    (9, 0, &[b"Hello World!\n"]),
 ];
 
-const NOTES: &[(RequestId, u64)] = &[(RequestId(2), 1), (RequestId(2), 2), (RequestId(2), 0)];
+const NOTES: &[(RequestId, u64)] = &[(RequestId(2), 1), (RequestId(4), 2), (RequestId(5), 0)];
 
 #[test]
 fn forgets_and_whom_it_serves(rt: HostRuntime) {
@@ -467,9 +484,19 @@ const USERS: &[Asked] = &[
     (1, 1, 0, &[b"none\0"]),
 ];
 
-const ROOT_AND_OWNER: &[Sent] = &[(0xfe, &[]), (0xfe, &[]), (0xf3, &[]), (0xfe, &[])];
+const ROOT_AND_OWNER: &[Sent] = &[
+    (2, 0xfe, &[]),
+    (3, 0xfe, &[]),
+    (4, 0xf3, &[]),
+    (5, 0xfe, &[]),
+];
 
-const OWNER: &[Sent] = &[(0xf3, &[]), (0xfe, &[]), (0xf3, &[]), (0xf3, &[])];
+const OWNER: &[Sent] = &[
+    (2, 0xf3, &[]),
+    (3, 0xfe, &[]),
+    (4, 0xf3, &[]),
+    (5, 0xf3, &[]),
+];
 
 /// Serves them under this rule, each with its frame.
 fn serve_users<R: Threads + Wait + AllocGlobal + Abort + Sync>(
@@ -695,9 +722,9 @@ fn what_is_odd_and_decodes(rt: HostRuntime) {
 #[test]
 fn bytes_after_those_that_a_header_counts_are_ignored(rt: HostRuntime) {
     let mut messages = Vec::new(rt.alloc());
-    let message = joined(&rt, &[&header(3, 2, 0, 16), &[0; 16], &[7; 44]]);
+    let message = joined(&rt, &[&header(2, 3, 2, 0, 16), &[0; 16], &[7; 44]]);
     put(&rt, &mut messages, message);
-    let frames = frames_of(&rt, &[(0, &[HELD, HELLO])]);
+    let frames = frames_of(&rt, &[(2, 0, &[HELD, HELLO])]);
     serves(&rt, SessionACL::All, &messages, &frames, &[]);
 }
 
