@@ -6,7 +6,7 @@ ghost use Rattle.fuse_wire.specs.declared.sink.Sending.TheVariants.{Failed, Abse
 use crate::asserts::expect_same;
 use crate::fault_tests::run_failing;
 use crate::generator_tests::{answers, five_requests_in_a_stream};
-use crate::runs::{Run, form, form_on_two, joined, mount_tree};
+use crate::runs::{form, form_on_two, joined, mount_tree};
 use crate::tree_tests::{put_turn, times};
 use fuse_config::SessionACL;
 use fuse_session::SessionError;
@@ -197,19 +197,33 @@ fn are_some(rt: &impl Abort, count: usize, found: &[Vec<u8>], all: &[Vec<u8>]) {
     }
 }
 
+/// Where the sink answers the frame at this place so, it is lost, and no other: on one thread that of the message at that place.
+fn is_lost<R: Threads + Wait + AllocGlobal + Abort + Sync>(
+    rt: &R,
+    place: usize,
+    reply: Part,
+    fault: Sending,
+)
+    requires { fault ≡ Failed ⊎ fault ≡ Absent }
+{
+    let number = (place as u64).saturating_add(1);
+    let replies = answers(rt);
+    let others = joined(
+        rt,
+        &[part(&replies, 0, reply.0), part(&replies, reply.1, 335)],
+    );
+    let found = sent_but_one(rt, 1, number, fault);
+    expect_same(rt, &(place, &found), &(place, &others));
+    let found = sent_but_one(rt, 2, number, fault);
+    are_some(rt, 6, &frames_in(rt, &found), &frames_in(rt, &replies));
+}
+
 /// Where the sink answers one frame so, it is lost, and no other.
 fn loses_one<R: Threads + Wait + AllocGlobal + Abort + Sync>(rt: &R, fault: Sending)
     requires { fault ≡ Failed ⊎ fault ≡ Absent }
 {
-    let replies = answers(rt);
-    let all = frames_in(rt, &replies);
-    for (place, (_, (start, end))) in places().iter().enumerate() {
-        let number = (place as u64).saturating_add(1);
-        let others = joined(rt, &[part(&replies, 0, *start), part(&replies, *end, 335)]);
-        let found = sent_but_one(rt, 1, number, fault);
-        expect_same(rt, &(number, &found), &(number, &others));
-        let found = sent_but_one(rt, 2, number, fault);
-        are_some(rt, 6, &frames_in(rt, &found), &all);
+    for (place, (_, reply)) in places().iter().enumerate() {
+        is_lost(rt, place, *reply, fault);
     }
 }
 
@@ -250,40 +264,29 @@ fn answered(byte: usize) -> usize {
     count
 }
 
-/// The program over this stream, on one thread, in such steps and with faults at these calls.
-fn run_alone<R: Threads + Wait + AllocGlobal + Abort + Sync>(
-    rt: &R,
-    stream: &[u8],
-    step: usize,
-    reads: &[u64],
-    writes: &[u64],
-) -> Run {
-    run_failing(rt, form(), &[stream], step, reads, writes)
+/// The words of a form with one thread, or with two.
+fn words_for(is_alone: bool) -> &'static [&'static [u8]] {
+    if is_alone { form() } else { form_on_two() }
 }
 
-/// The same on two threads.
-fn run_on_two<R: Threads + Wait + AllocGlobal + Abort + Sync>(
+/// The read of this number, which begins at this byte, fails: the messages that ended before are answered, and no more is
+/// read. None fails where no byte is left.
+fn read_fails<R: Threads + Wait + AllocGlobal + Abort + Sync>(
     rt: &R,
-    stream: &[u8],
-    step: usize,
-    reads: &[u64],
-    writes: &[u64],
-) -> Run {
-    run_failing(rt, form_on_two(), &[stream], step, reads, writes)
-}
-
-/// So it ended: with this status, these frames written, and so many bytes left unread.
-fn ended_so<R: AllocGlobal + Abort>(
-    rt: &R,
-    call: u64,
     is_alone: bool,
-    run: &Run,
-    expected: (u8, &[u8], usize),
+    step: usize,
+    number: u64,
+    byte: usize,
 ) {
-    let (status, written, unread) = expected;
-    let found = (call, run.status, run.unread.len());
-    expect_same(rt, &found, &(call, status, unread));
-    are_frames(rt, call as usize, is_alone, &run.written, written);
+    let stream = five_requests_in_a_stream(rt);
+    let run = run_failing(rt, words_for(is_alone), &[&stream], step, &[number], &[]);
+    let left = stream.len().saturating_sub(byte);
+    let status = if left > 0 { 7 } else { 0 };
+    let found = (number, run.status, run.unread.len());
+    expect_same(rt, &found, &(number, status, left));
+    let replies = answers(rt);
+    let before = part(&replies, 0, answered(byte));
+    are_frames(rt, byte, is_alone, &run.written, before);
 }
 
 /// In such steps, so many reads are made, each of which may fail.
@@ -293,57 +296,18 @@ fn each_read_fails<R: Threads + Wait + AllocGlobal + Abort + Sync>(
     step: usize,
     count: usize,
 ) {
-    let stream = five_requests_in_a_stream(rt);
-    let replies = answers(rt);
     let mut bytes = beginnings(rt, READ, step);
     expect_same(rt, &bytes.len(), &count);
-    // the call after the last, which is not made
-    bytes.push(stream.len()).expect(rt, "there is memory");
-    let mut number: u64 = 0;
-    for byte in bytes.iter() {
-        number = number.saturating_add(1);
-        let run = if is_alone {
-            run_alone(rt, &stream, step, &[number], &[])
-        } else {
-            run_on_two(rt, &stream, step, &[number], &[])
-        };
-        let status = if *byte < stream.len() { 7 } else { 0 };
-        let before = part(&replies, 0, answered(*byte));
-        let expected = (status, before, stream.len().saturating_sub(*byte));
-        ended_so(rt, number, is_alone, &run, expected);
+    // the read that would come after the last
+    bytes.push(519).expect(rt, "there is memory");
+    for (place, byte) in bytes.iter().enumerate() {
+        let number = (place as u64).saturating_add(1);
+        read_fails(rt, is_alone, step, number, *byte);
     }
 }
 
-/// In such steps, so many writes are made, each of which may fail.
-fn each_write_fails<R: Threads + Wait + AllocGlobal + Abort + Sync>(
-    rt: &R,
-    step: usize,
-    count: usize,
-) {
-    let stream = five_requests_in_a_stream(rt);
-    let replies = answers(rt);
-    let mut bytes = beginnings(rt, WRITTEN, step);
-    expect_same(rt, &bytes.len(), &count);
-    // the call after the last, which is not made
-    bytes.push(replies.len()).expect(rt, "there is memory");
-    let mut number: u64 = 0;
-    for byte in bytes.iter() {
-        number = number.saturating_add(1);
-        let run = run_alone(rt, &stream, step, &[], &[number]);
-        let status = if *byte < replies.len() { 8 } else { 0 };
-        let found = (status_of(&run), run.written.as_slice());
-        let expected = ((status, 0), part(&replies, 0, *byte));
-        expect_same(rt, &(number, found), &(number, expected));
-    }
-}
-
-/// The status of a run, and how many bytes it has left unread.
-fn status_of(run: &Run) -> (u8, usize) {
-    (run.status, run.unread.len())
-}
-
-/// These bytes are whole frames of those, none of them twice, and then the front of another.
-fn are_a_front<R: AllocGlobal + Abort>(rt: &R, number: u64, found: &[u8], all: &[Vec<u8>]) {
+/// These bytes are whole frames of those, none of them twice, and the front of another, unless they are all of them.
+fn are_a_front<R: AllocGlobal + Abort>(rt: &R, is_whole: bool, found: &[u8], all: &[Vec<u8>]) {
     let whole = frames_in(rt, found);
     are_some(rt, whole.len(), &whole, all);
     let mut begun = found;
@@ -356,44 +320,76 @@ fn are_a_front<R: AllocGlobal + Abort>(rt: &R, number: u64, found: &[u8], all: &
             others = others.saturating_add(1);
         }
     }
-    expect_same(rt, &(number, others > 0), &(number, true));
+    let found = (others > 0, whole.len() == all.len());
+    expect_same(rt, &found, &(!is_whole, is_whole));
 }
 
-#[test]
-fn each_write_on_two_threads_may_fail(rt: HostRuntime) {
-    let stream = five_requests_in_a_stream(&rt);
-    let all = frames_in(&rt, &answers(&rt));
-    for number in 1..=55u64 {
-        let run = run_on_two(&rt, &stream, 7, &[], &[number]);
-        expect_same(&rt, &(number, status_of(&run)), &(number, (8, 0)));
-        are_a_front(&rt, number, &run.written, &all);
+/// The write of this number fails, which on one thread begins at this byte: what was written before stays, and all messages
+/// are taken. None fails where all was written.
+fn write_fails<R: Threads + Wait + AllocGlobal + Abort + Sync>(
+    rt: &R,
+    is_alone: bool,
+    step: usize,
+    number: u64,
+    byte: usize,
+) {
+    let stream = five_requests_in_a_stream(rt);
+    let run = run_failing(rt, words_for(is_alone), &[&stream], step, &[], &[number]);
+    let replies = answers(rt);
+    let is_whole = byte == replies.len();
+    let status = if is_whole { 0 } else { 8 };
+    let found = (number, run.status, run.unread.len());
+    expect_same(rt, &found, &(number, status, 0));
+    if is_alone {
+        expect_same(rt, &run.written.as_slice(), &part(&replies, 0, byte));
+    } else {
+        are_a_front(rt, is_whole, &run.written, &frames_in(rt, &replies));
     }
-    let run = run_on_two(&rt, &stream, 7, &[], &[56]);
-    expect_same(&rt, &status_of(&run), &(0, 0));
-    are_frames(&rt, 56, false, &run.written, &answers(&rt));
 }
 
-#[test]
-fn each_read_of_a_byte_may_fail(rt: HostRuntime) {
-    each_read_fails(&rt, true, 1, 519);
+/// In such steps, so many writes are made, each of which may fail.
+fn each_write_fails<R: Threads + Wait + AllocGlobal + Abort + Sync>(
+    rt: &R,
+    is_alone: bool,
+    step: usize,
+    count: usize,
+) {
+    let mut bytes = beginnings(rt, WRITTEN, step);
+    expect_same(rt, &bytes.len(), &count);
+    // the write that would come after the last
+    bytes.push(335).expect(rt, "there is memory");
+    for (place, byte) in bytes.iter().enumerate() {
+        let number = (place as u64).saturating_add(1);
+        write_fails(rt, is_alone, step, number, *byte);
+    }
 }
 
-#[test]
-fn each_read_of_seven_bytes_may_fail(rt: HostRuntime) {
-    each_read_fails(&rt, true, 7, 79);
-}
+/// Whether one thread serves, how many bytes are read at a time, and how many reads this makes.
+const READS: &[(bool, usize, usize)] = &[
+    (true, 1, 519),
+    (true, 7, 79),
+    (true, 1000, 13),
+    (false, 7, 79),
+];
 
 #[test]
-fn each_read_on_two_threads_may_fail(rt: HostRuntime) {
-    each_read_fails(&rt, false, 7, 79);
+fn each_read_may_fail(rt: HostRuntime) {
+    for (is_alone, step, count) in READS {
+        each_read_fails(&rt, *is_alone, *step, *count);
+    }
 }
 
-#[test]
-fn each_write_of_a_byte_may_fail(rt: HostRuntime) {
-    each_write_fails(&rt, 1, 335);
-}
+/// The same of writes.
+const WRITES: &[(bool, usize, usize)] = &[
+    (true, 1, 335),
+    (true, 7, 55),
+    (true, 1000, 10),
+    (false, 7, 55),
+];
 
 #[test]
-fn each_write_of_seven_bytes_may_fail(rt: HostRuntime) {
-    each_write_fails(&rt, 7, 55);
+fn each_write_may_fail(rt: HostRuntime) {
+    for (is_alone, step, count) in WRITES {
+        each_write_fails(&rt, *is_alone, *step, *count);
+    }
 }
