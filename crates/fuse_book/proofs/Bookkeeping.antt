@@ -15,8 +15,8 @@ use Rattle.fuse_book.specs.declared.unmatched.Unmatched.TheVariants.{Marks, Fram
 use Rattle.fuse_book.specs.declared.book.Book.{Book}
 use Rattle.fuse_book.specs.Book.{Accounts, Backs, Counts, EachSent, EachWaiting, IsBookOf, Loses, Meets}
 use Rattle.fuse_book.specs.Book.{frames_of, frames_waiting, how_many, marks_waiting, tagged, tags_of, waiting}
-use Rattle.fuse_book.specs.Matched.{HasUnused, Matched, Tag, same, times}
-use Rattle.fuse_book.proofs.Matching.{Matched-from_times, once_if_same, same_is, same_self, times-cons}
+use Rattle.fuse_book.specs.AreMatched.{HasUnused, AreMatched, Tag, same, times}
+use Rattle.fuse_book.proofs.Matching.{AreMatched-from_times, once_if_same, same_is, same_self, times-cons}
 
 -- where no mark comes
 pub none_more : (k tag : Tag) (marks : List Tag) → times k marks ≡ times k marks + cond (same tag k) 0 0
@@ -238,8 +238,8 @@ module _ {F : Type 0} where
         by_test false e later under = under later
 
   module _ (book : Book F) (marks : List Tag) (came sent : List (Tag × F)) (h : IsBookOf book marks came sent) where
-    pub IsBookOf-matches : Matched marks (tags_of sent)
-    IsBookOf-matches = Matched-from_times marks (tags_of sent) (λ tag. omega (arith, h.backed tag, times-tags_of tag sent))
+    pub IsBookOf-matches : AreMatched marks (tags_of sent)
+    IsBookOf-matches = AreMatched-from_times marks (tags_of sent) (λ tag. omega (arith, h.backed tag, times-tags_of tag sent))
 
     no_unused : book.unrecorded ≡ 0 → (tag : Tag) → marks_waiting (waiting book tag) ≡ 0 → ¬ (HasUnused marks (tags_of sent) tag)
     no_unused whole tag none unused = omega (arith, (h.accounts whole).counted tag, none, unused, times-tags_of tag sent)

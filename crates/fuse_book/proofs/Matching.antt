@@ -4,7 +4,7 @@ use Rattle.std.proofs.Common.{refl, ap, subst, ⊎_elim, inl, inr, arith}
 use Rattle.std.proofs.lemmas.Bool.Decides.{nat_tests}
 use Rattle.std.proofs.lemmas.List.Sums.{sum_by-cons, sum_by-remove}
 use Rattle.std.proofs.lemmas.Option.{get_or_from_slice_get, slice_get_within}
-use Rattle.fuse_book.specs.Matched.{Matched, Tag, same, times}
+use Rattle.fuse_book.specs.AreMatched.{AreMatched, Tag, same, times}
 
 pub same_self : (tag : Tag) → same tag tag ≡ true
 same_self tag = grind (arith, nat_tests)
@@ -42,17 +42,17 @@ times-remove tag marks i at there =
     subst (λ t. times tag (remove marks i) + once_if_same t tag ≡ times tag marks) (get_or_from_slice_get marks i at at there)
     (sum_by-remove (λ t. once_if_same t tag) marks i at (slice_get_within marks i at there))
 
-pub Matched-from_times : (marks late : List Tag) → ((tag : Tag) → times tag late ≤ times tag marks) → Matched marks late
-Matched-from_times marks [] fewer = tt
-Matched-from_times marks (first ∷ late) fewer =
+pub AreMatched-from_times : (marks late : List Tag) → ((tag : Tag) → times tag late ≤ times tag marks) → AreMatched marks late
+AreMatched-from_times marks [] fewer = tt
+AreMatched-from_times marks (first ∷ late) fewer =
     let one : once_if_same first first ≡ 1 = ap (λ b. cond b 1 0) (same_self first) in
     let f = found first marks (omega (arith, fewer first, times-cons first first late, one)) in (
       f.0,
       f.1,
-      Matched-from_times (remove marks f.0) late (λ tag. omega (arith, fewer tag, times-cons tag first late, times-remove tag marks f.0 first f.1)),
+      AreMatched-from_times (remove marks f.0) late (λ tag. omega (arith, fewer tag, times-cons tag first late, times-remove tag marks f.0 first f.1)),
     )
 
-pub times-from_Matched : (marks late : List Tag) → Matched marks late → (tag : Tag) → times tag late ≤ times tag marks
-times-from_Matched marks [] m tag = omega arith
-times-from_Matched marks (first ∷ late) m tag =
-    omega (arith, times-from_Matched (remove marks m.0) late m.2 tag, times-cons tag first late, times-remove tag marks m.0 first m.1)
+pub times-from_AreMatched : (marks late : List Tag) → AreMatched marks late → (tag : Tag) → times tag late ≤ times tag marks
+times-from_AreMatched marks [] m tag = omega arith
+times-from_AreMatched marks (first ∷ late) m tag =
+    omega (arith, times-from_AreMatched (remove marks m.0) late m.2 tag, times-cons tag first late, times-remove tag marks m.0 first m.1)

@@ -7,7 +7,7 @@ use Rattle.fuse_wire.specs.Faults.{counted}
 use Rattle.fuse_book.specs.declared.book.Book.{Book}
 use Rattle.fuse_book.specs.declared.unmatched.Unmatched.{Unmatched}
 use Rattle.fuse_book.specs.declared.unmatched.Unmatched.TheVariants.{Marks, Frames}
-use Rattle.fuse_book.specs.Matched.{HasUnused, Tag, same, times}
+use Rattle.fuse_book.specs.AreMatched.{HasUnused, Tag, same, times}
 
 -- the tags of late frames
 abbrev pub tags_of : {F : Type 0} → List (Tag × F) → List Tag

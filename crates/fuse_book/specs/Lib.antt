@@ -1,2 +1,2 @@
-pub mod Matched
+pub mod AreMatched
 pub mod Book

@@ -2,13 +2,13 @@
 ghost use Rattle.std.specs.Prelude.{◌≡◌, List, []};
 ghost use Rattle.std.specs.List.{All, Contains};
 ghost use Rattle.fuse_book.specs.Book.{EachSent, IsBookOf, frames_waiting, tags_of, waiting};
-ghost use Rattle.fuse_book.specs.Matched.{HasUnused, Matched, Tag};
+ghost use Rattle.fuse_book.specs.AreMatched.{HasUnused, AreMatched, Tag};
 ghost use Rattle.fuse_book.specs.declared.book.Book.{Book as BookOf};
 
 /// The late frames that were sent go to different marks, each with its number and id. This holds whatever was lost.
 pub fn late_frames_go_to_different_marks<F: Drop>()
     ensures { (book : BookOf F) (marks : List Tag) (came sent : List (Tag × F)) → IsBookOf book marks came sent →
-        Matched marks (tags_of sent) }
+        AreMatched marks (tags_of sent) }
 {}
 
 /// Where all could be kept, each late frame that came was sent, or no mark of its number and id is unused.

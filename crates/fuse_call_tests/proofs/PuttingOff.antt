@@ -8,7 +8,7 @@ use Rattle.fuse_reply.specs.Frame.{reply}
 use Rattle.fuse_reply.specs.declared.door.NoDoor.{NoDoor}
 use Rattle.fuse_reply.specs.declared.out.Out.{Out}
 use Rattle.fuse_reply.specs.declared.out.Out.TheVariants.{Frame}
-use Rattle.fuse_dispatch.specs.Owed.{Answers}
+use Rattle.fuse_dispatch.specs.OwedMessage.{Answers}
 use Rattle.fuse_dispatch.proofs.Answering.{Answered-error}
 use Rattle.fuse_wire.specs.ErrorNumbers.{EIO}
 use Rattle.fuse_call_tests.specs.PuttingOff.{any_answer}

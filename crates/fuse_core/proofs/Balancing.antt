@@ -22,7 +22,7 @@ use Rattle.fuse_core.specs.declared.state.SentOut.{SentOut}
 use Rattle.fuse_core.specs.declared.state.State.{State}
 use Rattle.fuse_core.specs.Step.{Happens, HandAnswers, Runs, StandsFor, empty, job, with_hand, went}
 use Rattle.fuse_core.specs.Balanced.{Balanced, KeepsNumber, HandKeepsNumber, ParcelKeepsNumber, once_if, in_hand, on_parcel, settled}
-use Rattle.fuse_core.proofs.LateFrames.{Matched-late, Matched-marked}
+use Rattle.fuse_core.proofs.LateFrames.{AreMatched-late, AreMatched-marked}
 
 -- once where the number is below the count, and else not at all
 abbrev once_below : (number count : ℕ) → ℕ
@@ -156,7 +156,7 @@ balanced_send s (Prompt seq (Deferred n id)) rest is b = record {
   );
   hands = b.hands;
   line = All-rest ParcelKeepsNumber (Prompt seq (Deferred n id)) rest s.line is b.line;
-  matched = Matched-marked s.marks s.late s.held (record { seq = n; id = id }) b.matched;
+  matched = AreMatched-marked s.marks s.late s.held (record { seq = n; id = id }) b.matched;
 }
 balanced_send s (Prompt seq (Frame f)) rest is b = record {
   each_once = λ number. omega (
@@ -187,7 +187,7 @@ balanced_send s (Later late) rest is b = by_test (is_unused (late_tag late) s.ma
     each_once = λ number. omega (arith, b.each_once number, sum_first (on_parcel number) s.line rest (Later late) is);
     hands = b.hands;
     line = All-rest ParcelKeepsNumber (Later late) rest s.line is b.line;
-    matched = Matched-late s.marks s.late late is_so b.matched;
+    matched = AreMatched-late s.marks s.late late is_so b.matched;
   }
   by_test false is_so = record {
     each_once = λ number. omega (arith, b.each_once number, sum_first (on_parcel number) s.line rest (Later late) is);

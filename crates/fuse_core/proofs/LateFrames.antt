@@ -7,9 +7,9 @@ use Rattle.std.proofs.lemmas.List.{append-nil, append_assoc, at_drop_all, at_dro
 use Rattle.std.proofs.lemmas.List.Sums.{sum_by-append, sum_by_push}
 use Rattle.fuse_reply.specs.Late.{LateSeen}
 use Rattle.fuse_core.specs.Marks.{is_unused, late_tag, let_go, still_held, tag_of}
-use Rattle.fuse_book.specs.Matched.{Matched, Tag, same, times}
+use Rattle.fuse_book.specs.AreMatched.{AreMatched, Tag, same, times}
 use Rattle.fuse_core.specs.declared.state.Mark.{Mark}
-use Rattle.fuse_book.proofs.Matching.{Matched-from_times, once_if_same, same_is, times-cons, times-from_Matched}
+use Rattle.fuse_book.proofs.Matching.{AreMatched-from_times, once_if_same, same_is, times-cons, times-from_AreMatched}
 
 times-append : (tag : Tag) (xs ys : List Tag) → times tag (xs ++ ys) ≡ times tag xs + times tag ys
 times-append tag xs ys = sum_by-append (λ t. once_if_same t tag) xs ys
@@ -28,28 +28,28 @@ let_go-once tag other (x ∷ xs) = by_test (same (late_tag x) tag) refl (let_go-
   by_test false is later = later
 
 -- a mark came, and the first held frame that goes to it was sent
-pub Matched-marked : (marks : List Mark) (lates held : List LateSeen) (mark : Mark) → Matched (map tag_of marks) (map late_tag lates)
-    → Matched (map tag_of (marks ++ mark ∷ [])) (map late_tag (lates ++ let_go (tag_of mark) held))
-Matched-marked marks lates held mark h =
+pub AreMatched-marked : (marks : List Mark) (lates held : List LateSeen) (mark : Mark) → AreMatched (map tag_of marks) (map late_tag lates)
+    → AreMatched (map tag_of (marks ++ mark ∷ [])) (map late_tag (lates ++ let_go (tag_of mark) held))
+AreMatched-marked marks lates held mark h =
     let tags = map tag_of marks in
     let late = map late_tag lates in
     let go = map late_tag (let_go (tag_of mark) held) in
-    subst (λ (l : List Tag). Matched l (map late_tag (lates ++ let_go (tag_of mark) held))) (sym (map-append tag_of marks (mark ∷ [])))
-    (subst (Matched (tags ++ tag_of mark ∷ [])) (sym (map-append late_tag lates (let_go (tag_of mark) held)))
-    (Matched-from_times (tags ++ tag_of mark ∷ []) (late ++ go) (λ tag. omega (
+    subst (λ (l : List Tag). AreMatched l (map late_tag (lates ++ let_go (tag_of mark) held))) (sym (map-append tag_of marks (mark ∷ [])))
+    (subst (AreMatched (tags ++ tag_of mark ∷ [])) (sym (map-append late_tag lates (let_go (tag_of mark) held)))
+    (AreMatched-from_times (tags ++ tag_of mark ∷ []) (late ++ go) (λ tag. omega (
       arith,
-      times-from_Matched tags late h tag,
+      times-from_AreMatched tags late h tag,
       times-append tag late go,
       let_go-once (tag_of mark) tag held,
       times-push tag tags (tag_of mark),
     ))))
 
 -- a late frame was sent, for which a mark is unused
-pub Matched-late : (marks : List Mark) (lates : List LateSeen) (late : LateSeen) → is_unused (late_tag late) marks lates ≡ true
-    → Matched (map tag_of marks) (map late_tag lates) → Matched (map tag_of marks) (map late_tag (lates ++ late ∷ []))
-Matched-late marks lates late unused h =
-    subst (Matched (map tag_of marks)) (sym (map-append late_tag lates (late ∷ [])))
-    (Matched-from_times (map tag_of marks) (map late_tag lates ++ late_tag late ∷ []) (λ tag. by_test tag (same (late_tag late) tag) refl)) where
+pub AreMatched-late : (marks : List Mark) (lates : List LateSeen) (late : LateSeen) → is_unused (late_tag late) marks lates ≡ true
+    → AreMatched (map tag_of marks) (map late_tag lates) → AreMatched (map tag_of marks) (map late_tag (lates ++ late ∷ []))
+AreMatched-late marks lates late unused h =
+    subst (AreMatched (map tag_of marks)) (sym (map-append late_tag lates (late ∷ [])))
+    (AreMatched-from_times (map tag_of marks) (map late_tag lates ++ late_tag late ∷ []) (λ tag. by_test tag (same (late_tag late) tag) refl)) where
       by_test : (tag : Tag) (b : Bool) → same (late_tag late) tag ≡ b
           → times tag (map late_tag lates ++ late_tag late ∷ []) ≤ times tag (map tag_of marks)
       by_test tag true is =
@@ -62,7 +62,7 @@ Matched-late marks lates late unused h =
           let none : once_if_same (late_tag late) tag ≡ 0 = ap (λ (b : Bool). cond b 1 0) is in
           omega (
             arith,
-            times-from_Matched (map tag_of marks) (map late_tag lates) h tag,
+            times-from_AreMatched (map tag_of marks) (map late_tag lates) h tag,
             times-push tag (map late_tag lates) (late_tag late),
             none,
           )

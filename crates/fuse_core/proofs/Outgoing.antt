@@ -20,7 +20,7 @@ use Rattle.fuse_core.specs.declared.state.SentOut.{SentOut}
 use Rattle.fuse_core.specs.declared.state.State.{State}
 use Rattle.fuse_core.specs.Step.{HandAnswers, Happens, Runs, empty, job, with_hand, went}
 use Rattle.fuse_core.specs.Balanced.{Balanced, ParcelKeepsNumber}
-use Rattle.fuse_core.specs.OneEach.{Owing}
+use Rattle.fuse_core.specs.OnePerMessage.{Owing}
 use Rattle.fuse_core.specs.Owing.{OwedAt, OwedInHand, EachOwed, OwedToNumber, OwedApart, SendsOwed}
 use Rattle.fuse_core.proofs.Balancing.{Balanced-apart, Happens-balanced, all_at, empty-balanced, first_keeps}
 

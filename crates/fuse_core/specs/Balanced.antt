@@ -6,7 +6,7 @@ use Rattle.fuse_reply.specs.declared.out.Out.TheVariants.{Frame, Note, Deferred}
 use Rattle.fuse_reply.specs.declared.parcel.Parcel.{Parcel}
 use Rattle.fuse_reply.specs.declared.parcel.Parcel.TheVariants.{Prompt, Notice, Late}
 use Rattle.fuse_core.specs.Marks.{late_tag, tag_of}
-use Rattle.fuse_book.specs.Matched.{Matched}
+use Rattle.fuse_book.specs.AreMatched.{AreMatched}
 use Rattle.fuse_core.specs.declared.state.WorkerHand.{WorkerHand}
 use Rattle.fuse_core.specs.declared.state.WorkerHand.TheVariants.{Empty, Asked, Answered}
 use Rattle.fuse_core.specs.declared.state.State.{State}
@@ -59,4 +59,4 @@ pub record Balanced (s : State) : Type 0 where
   pub each_once : (number : ℕ) → stands number s ≡ (if nat_lt number (length s.received) then 1 else 0)
   pub hands : All HandKeepsNumber s.hands
   pub line : All ParcelKeepsNumber s.line
-  pub matched : Matched (map tag_of s.marks) (map late_tag s.late)
+  pub matched : AreMatched (map tag_of s.marks) (map late_tag s.late)

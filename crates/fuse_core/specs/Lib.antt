@@ -1,5 +1,5 @@
 pub mod Marks
 pub mod Step
 pub mod Balanced
-pub mod OneEach
+pub mod OnePerMessage
 pub mod Owing

@@ -9,7 +9,7 @@ use Rattle.fuse_core.specs.declared.state.WorkerHand.TheVariants.{Asked}
 use Rattle.fuse_core.specs.declared.state.Job.{Job}
 use Rattle.fuse_core.specs.declared.state.State.{State}
 use Rattle.fuse_core.specs.Balanced.{settled}
-use Rattle.fuse_core.specs.OneEach.{Owing}
+use Rattle.fuse_core.specs.OnePerMessage.{Owing}
 use Rattle.fuse_core.specs.Step.{Happens, Runs, empty}
 
 -- what passes a test is owed

@@ -12,7 +12,7 @@ use Rattle.fuse_reply.specs.declared.out.Out.{Out}
 use Rattle.fuse_reply.specs.declared.out.Out.TheVariants.{Frame}
 use Rattle.fuse_dispatch.specs.Promise.{MayAnswer}
 use Rattle.fuse_dispatch.specs.Kind.{IsOfKind}
-use Rattle.fuse_dispatch.specs.Owed.{Answers}
+use Rattle.fuse_dispatch.specs.OwedMessage.{Answers}
 
 -- the reply came to this answer, which the promise allows
 pub Answered-replies : {F : Type 0} {may_answer : MayAnswer F} {fs : F} {request : Request} {c : Call} {id : ℕ} {door : Result DoorSeen NoDoor}

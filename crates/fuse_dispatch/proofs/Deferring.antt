@@ -9,7 +9,7 @@ use Rattle.fuse_reply.specs.declared.out.Out.{Out}
 use Rattle.fuse_reply.specs.declared.out.Out.TheVariants.{Deferred}
 use Rattle.fuse_loop.specs.Answering.{DoorFits}
 use Rattle.fuse_dispatch.specs.Asked.{ComesBy}
-use Rattle.fuse_dispatch.specs.Owed.{IsPutOff, Owes}
+use Rattle.fuse_dispatch.specs.OwedMessage.{IsPutOff, Owes}
 use Rattle.fuse_dispatch.specs.Verdict.{Verdict}
 use Rattle.fuse_dispatch.specs.Verdict.Verdict.{Broken, Ends, Fixed, Forgets, Calls}
 

@@ -16,7 +16,7 @@ use Rattle.fuse_loop.specs.Incoming.{IsBroken, id_of}
 use Rattle.fuse_dispatch.specs.Promise.{Promise}
 use Rattle.fuse_dispatch.specs.Verdict.{Verdict, verdict, verdict_by}
 use Rattle.fuse_dispatch.specs.Verdict.Verdict.{Broken, Ends, Fixed, Forgets, Calls}
-use Rattle.fuse_dispatch.specs.Owed.{Owed, OwedBy}
+use Rattle.fuse_dispatch.specs.OwedMessage.{OwedByPromise, OwedBy}
 
 ok-header : (a b c : Bool) (x y z : RequestError) (f h : Header)
     → (if a then Err x else if b then Err y else if c then Err z else Ok f) ≡ Ok h → h ≡ f
@@ -45,14 +45,14 @@ no-mark promise fs request (Calls c) seq id number of never (inl answered) = by_
 no-mark promise fs request (Calls c) seq id number of never (inr (inl poll)) = let is = poll.1 in let bad : ⊥ = cc in bad
 no-mark promise fs request (Calls c) seq id number of never (inr (inr later)) = let is = later.0 in let bad : ⊥ = cc in bad
 
-pub Owed-at_once : {F : Type 0} (promise : Promise F) (fs : F) (acl : SessionACL) (owner : ℕ) → promise.defers ≡ false
-    → (seq : ℕ) (m : List ℕ) (number : ℕ) (of : RequestId) → Owed promise fs acl owner seq m (Deferred number of) → ⊥
-Owed-at_once promise fs acl owner never seq m number of owed =
+pub OwedByPromise-at_once : {F : Type 0} (promise : Promise F) (fs : F) (acl : SessionACL) (owner : ℕ) → promise.defers ≡ false
+    → (seq : ℕ) (m : List ℕ) (number : ℕ) (of : RequestId) → OwedByPromise promise fs acl owner seq m (Deferred number of) → ⊥
+OwedByPromise-at_once promise fs acl owner never seq m number of owed =
     no-mark promise fs (request_of (header_fields m)) (verdict acl owner m) seq (id_of m) number of never owed
 
 -- nothing is owed to a message without a good header
-pub Owed-broken : {F : Type 0} (promise : Promise F) (fs : F) (acl : SessionACL) (owner seq : ℕ) (m : List ℕ) (out : Out)
-    → Owed promise fs acl owner seq m out → IsBroken m → ⊥
-Owed-broken promise fs acl owner seq m out owed broken =
+pub OwedByPromise-broken : {F : Type 0} (promise : Promise F) (fs : F) (acl : SessionACL) (owner seq : ℕ) (m : List ℕ) (out : Out)
+    → OwedByPromise promise fs acl owner seq m out → IsBroken m → ⊥
+OwedByPromise-broken promise fs acl owner seq m out owed broken =
     subst (λ (r : Result Header RequestError). OwedBy promise fs (request_of (header_fields m)) (verdict_by acl owner r (body m)) seq (id_of m) out)
     broken.1 owed

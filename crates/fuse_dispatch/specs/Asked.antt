@@ -7,7 +7,7 @@ use Rattle.fuse_reply.specs.Door.{DoorSeen}
 use Rattle.fuse_reply.specs.declared.door.NoDoor.{NoDoor}
 use Rattle.fuse_reply.specs.declared.out.Out.{Out}
 use Rattle.fuse_loop.specs.Progress.{IsPrompt}
-use Rattle.fuse_dispatch.specs.Owed.{IsPutOff, Owes}
+use Rattle.fuse_dispatch.specs.OwedMessage.{IsPutOff, Owes}
 use Rattle.fuse_dispatch.specs.Verdict.{Verdict, served}
 use Rattle.fuse_dispatch.specs.Verdict.Verdict.{Calls}
 use Rattle.fuse_dispatch.specs.declared.asked.Asked.{Asked}

@@ -3,6 +3,6 @@ pub mod Verdict
 pub mod Kind
 pub mod Defaults
 pub mod Found
-pub mod Owed
+pub mod OwedMessage
 pub mod Asked
 pub mod Decided

@@ -1,6 +1,6 @@
 // How a filesystem is asked.
 ghost use Rattle.std.proofs.Common.{◌∙◌, inr, refl};
-ghost use Rattle.fuse_dispatch.specs.Owed.{OwedBy};
+ghost use Rattle.fuse_dispatch.specs.OwedMessage.{OwedBy};
 
 use crate::Filesystem;
 use crate::asked::Asked;

@@ -2,7 +2,7 @@
 ghost use Rattle.std.specs.Prelude.{◌≡◌, false};
 ghost use Rattle.fuse_header.specs.Header.{header_fields, request_of};
 ghost use Rattle.fuse_dispatch.specs.Asked.{ComesBy, IsOwed};
-ghost use Rattle.fuse_dispatch.specs.Owed.{Owed-destroy, Owed-destroy-alone, OwedMessage};
+ghost use Rattle.fuse_dispatch.specs.OwedMessage.{OwedMessage-destroy, OwedMessage-destroy-alone, OwedMessage};
 ghost use Rattle.fuse_dispatch.specs.Verdict.{verdict};
 ghost use Rattle.fuse_loop.specs.Answering.{IsRequest};
 ghost use Rattle.fuse_loop.specs.Incoming.{id_of};
@@ -166,11 +166,11 @@ impl<H: Handler + Sync> Work for Service<H> {
     }
 
     ghost owed_to_destroy = { λ service seq m is.
-        Owed-destroy (H.owes service.handler) (H.owes_end service.handler)
+        OwedMessage-destroy (H.owes service.handler) (H.owes_end service.handler)
         service.rule.acl service.rule.owner seq m is };
 
     ghost alone_to_destroy = { λ service seq m out is owed.
-        Owed-destroy-alone (H.owes service.handler) (H.owes_end_alone service.handler)
+        OwedMessage-destroy-alone (H.owes service.handler) (H.owes_end_alone service.handler)
         service.rule.acl service.rule.owner seq m out is owed };
 }
 
@@ -199,10 +199,10 @@ impl<H: Handler + Sync> Work for Shared<H> {
     }
 
     ghost owed_to_destroy = { λ shared seq m is.
-        Owed-destroy (H.owes shared.service.handler) (H.owes_end shared.service.handler)
+        OwedMessage-destroy (H.owes shared.service.handler) (H.owes_end shared.service.handler)
         shared.service.rule.acl shared.service.rule.owner seq m is };
 
     ghost alone_to_destroy = { λ shared seq m out is owed.
-        Owed-destroy-alone (H.owes shared.service.handler) (H.owes_end_alone shared.service.handler)
+        OwedMessage-destroy-alone (H.owes shared.service.handler) (H.owes_end_alone shared.service.handler)
         shared.service.rule.acl shared.service.rule.owner seq m out is owed };
 }

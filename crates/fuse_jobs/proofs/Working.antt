@@ -13,7 +13,7 @@ use Rattle.fuse_reply.specs.declared.out.Out.{Out}
 use Rattle.fuse_reply.specs.declared.parcel.Parcel.{Parcel}
 use Rattle.fuse_reply.specs.declared.parcel.Parcel.TheVariants.{Prompt, Notice, Late}
 use Rattle.fuse_core.specs.declared.state.Job.{Job}
-use Rattle.fuse_core.specs.OneEach.{Owing, number_of}
+use Rattle.fuse_core.specs.OnePerMessage.{Owing, number_of}
 use Rattle.fuse_sender.specs.Pairing.{InTurn, Pairs, numbered, outs_of}
 use Rattle.fuse_jobs.specs.Answered.{PromptAnswers, IsCaller, IsServed, pair_of}
 use Rattle.fuse_sender.proofs.Pairing.{InTurn-append, InTurn-one, Pairs-append, Pairs-in_turn, Pairs-left, Pairs-one}

@@ -7,7 +7,7 @@ use Rattle.fuse_line.specs.declared.hand.Kind.TheVariants.{First, Inner}
 use Rattle.fuse_reply.specs.declared.parcel.Parcel.{Parcel}
 use Rattle.fuse_reply.specs.declared.parcel.Parcel.TheVariants.{Prompt, Notice, Late}
 use Rattle.fuse_core.specs.declared.state.Job.{Job}
-use Rattle.fuse_core.specs.OneEach.{Owing}
+use Rattle.fuse_core.specs.OnePerMessage.{Owing}
 use Rattle.fuse_sender.specs.Pairing.{InTurn, Pairs, numbered}
 
 -- a job's number and message

@@ -1,6 +1,6 @@
 -- A turn of the caller, which takes messages for workers.
 use Rattle.std.specs.Prelude.{◌≡◌, ◌++◌, ℕ, List, [], ◌∷◌, Option, None, Some, length}
-use Rattle.fuse_core.specs.OneEach.{Owing, number_of}
+use Rattle.fuse_core.specs.OnePerMessage.{Owing, number_of}
 use Rattle.fuse_sender.specs.Hearing.{HearsLast, HearsOn}
 use Rattle.fuse_jobs.specs.Answered.{IsCaller}
 use Rattle.fuse_core.specs.declared.state.Job.{Job}

@@ -8,7 +8,7 @@ ghost use Rattle.fuse_loop.specs.Progress.{IntakeState};
 ghost use Rattle.fuse_sender.specs.HandingOn.{answered_last};
 ghost use Rattle.fuse_sender.specs.Hearing.{Hears};
 ghost use Rattle.fuse_jobs.specs.Hearing.{TurnHeard};
-ghost use Rattle.fuse_core.specs.OneEach.{number_of};
+ghost use Rattle.fuse_core.specs.OnePerMessage.{number_of};
 ghost use Rattle.fuse_jobs.specs.Callers.{CallerOn};
 ghost use Rattle.fuse_jobs.specs.Answered.{IsCaller};
 

@@ -7,7 +7,7 @@ use Rattle.fuse_reply.specs.Frame.{reply}
 use Rattle.fuse_reply.specs.declared.door.NoDoor.{NoDoor}
 use Rattle.fuse_reply.specs.declared.out.Out.{Out}
 use Rattle.fuse_reply.specs.declared.out.Out.TheVariants.{Frame}
-use Rattle.fuse_dispatch.specs.Owed.{IsPutOff}
+use Rattle.fuse_dispatch.specs.OwedMessage.{IsPutOff}
 
 -- that there is no such name, or an error, or the mark of a reply that comes later
 abbrev pub ComesOfLookup : (id : ℕ) → Result DoorSeen NoDoor → Out → Type 0

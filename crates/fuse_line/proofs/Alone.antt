@@ -13,7 +13,7 @@ use Rattle.fuse_line.specs.declared.hand.Kind.{Kind}
 use Rattle.fuse_line.specs.declared.hand.Kind.TheVariants.{First, Inner, Door, Spent}
 use Rattle.fuse_line.specs.Hand.{hand, inner_of}
 use Rattle.fuse_line.specs.Laws.{OthersAreIdle, TookAsOftenAsPushed}
-use Rattle.fuse_line.specs.MovedOnce.{first_of, total, puts, takens, SoundAs, IsSound, MovedOnce}
+use Rattle.fuse_line.specs.LineRule.{first_of, total, puts, takens, SoundAs, IsSound, LineRule}
 use Rattle.fuse_line.specs.Tells.{IsSettled, Tells}
 use Rattle.fuse_line.proofs.FilteredOrder.{filtered_order}
 use Rattle.fuse_line.proofs.Views.{Each, total_at, total_set}
@@ -74,7 +74,7 @@ module _ {T : Type 0} (inner : T → Bool) where
       let there = total_at (λ u. first_of u.kind) xs n v at in
       gathered_more x xs v.others v.put v.taken (s 0 x refl) (omega arith) (alone xs n v at is (λ j u at. s (suc j) u at) (omega arith))
 
-  pub tells : (place : ℕ) (v : Hand T) → Learns (MovedOnce inner) place v (Tells inner v)
+  pub tells : (place : ℕ) (v : Hand T) → Learns (LineRule inner) place v (Tells inner v)
   tells place v items views rule at first none =
       let a = alone views place v at (ap first_of first) rule.sound rule.one in
       let counted = rule.counted in

@@ -13,7 +13,7 @@ use Rattle.fuse_line.specs.declared.hand.Hand.{Hand}
 use Rattle.fuse_line.specs.declared.hand.Kind.{Kind}
 use Rattle.fuse_line.specs.declared.hand.Kind.TheVariants.{First, Inner, Door, Spent}
 use Rattle.fuse_line.specs.Hand.{hand, inner_of, joined, with_other, with_put, with_taken}
-use Rattle.fuse_line.specs.MovedOnce.{first_of, puts, takens, SoundAs, IsSound, MovedOnce}
+use Rattle.fuse_line.specs.LineRule.{first_of, puts, takens, SoundAs, IsSound, LineRule}
 use Rattle.fuse_line.specs.Permits.{MayPush, MayPop, MayJoin}
 use Rattle.fuse_line.specs.Tells.{Tells}
 use Rattle.fuse_line.proofs.Alone.{tells}
@@ -44,7 +44,7 @@ module _ {T : Type 0} (inner : T → Bool) where
   sound_taken Door others put taken more may s = absurd may
   sound_taken Spent others put taken more may s = absurd may
 
-  pub pushes : (n place : ℕ) (v : Hand T) (x : T) → MayPush inner v.kind x → Pushes (MovedOnce inner) n place v x (λ w. w ≡ with_put v x)
+  pub pushes : (n place : ℕ) (v : Hand T) (x : T) → MayPush inner v.kind x → Pushes (LineRule inner) n place v x (λ w. w ≡ with_put v x)
   pushes n place v x may items views room rule at =
       let w : Hand T = with_put v x in
       let put = flat_grown put_of views place v w (x ∷ []) at refl in
@@ -67,7 +67,7 @@ module _ {T : Type 0} (inner : T → Bool) where
       )
 
   pub pops : (place : ℕ) (v : Hand T) → MayPop v.kind
-      → Pops (MovedOnce inner) place v (λ x w. (w ≡ with_taken v x) × ((rest : List T) × Tells inner v (x ∷ rest)))
+      → Pops (LineRule inner) place v (λ x w. (w ≡ with_taken v x) × ((rest : List T) × Tells inner v (x ∷ rest)))
   pops place v may x items views rule at =
       let w : Hand T = with_taken v x in
       let put = flat_kept put_of views place v w at refl in
@@ -92,7 +92,7 @@ module _ {T : Type 0} (inner : T → Bool) where
   -- a pass with nothing comes off one that keeps its items
   split_into : (place : ℕ) (v w r : Hand T) → w.put ≡ v.put → w.taken ≡ v.taken → w.kind ≡ v.kind → r.put ≡ [] → r.taken ≡ []
       → first_of r.kind ≡ 0 → inner_of r.kind + v.others ≤ w.others + r.others
-      → (IsSound inner v → IsSound inner w) → IsSound inner r → Forks (MovedOnce inner) place v w r
+      → (IsSound inner v → IsSound inner w) → IsSound inner r → Forks (LineRule inner) place v w r
   split_into place v w r put taken kind none nothing first counts keeps fresh items views rule at =
       let there : List (Hand T) = set views place w in
       let all_put : puts (there ++ r ∷ []) ≡ puts views = flat_more put_of there r none ∙ flat_kept put_of views place v w at put in
@@ -119,12 +119,12 @@ module _ {T : Type 0} (inner : T → Bool) where
   sound_first Door others others' put taken is s = cc
   sound_first Spent others others' put taken is s = cc
 
-  pub splits_inner : (place : ℕ) (v : Hand T) → v.kind ≡ First → Forks (MovedOnce inner) place v (with_other v) (hand Inner 0 [] [])
+  pub splits_inner : (place : ℕ) (v : Hand T) → v.kind ≡ First → Forks (LineRule inner) place v (with_other v) (hand Inner 0 [] [])
   splits_inner place v first =
       split_into place v (with_other v) (hand Inner 0 [] []) refl refl refl refl refl refl (omega arith)
       (λ s. sound_first v.kind v.others _ v.put v.taken first s) refl
 
-  pub splits_door : (place : ℕ) (v : Hand T) → Forks (MovedOnce inner) place v v (hand Door 0 [] [])
+  pub splits_door : (place : ℕ) (v : Hand T) → Forks (LineRule inner) place v v (hand Door 0 [] [])
   splits_door place v = split_into place v v (hand Door 0 [] []) refl refl refl refl refl refl (omega arith) (λ s. s) (refl, refl, refl)
 
   sound_joined : (kind kind' : Kind) (others others' : ℕ) (put taken put' taken' : List T) → MayJoin kind kind' → SoundAs inner kind others put taken
@@ -150,7 +150,7 @@ module _ {T : Type 0} (inner : T → Bool) where
   joins_none Spent First others' put' taken' may t = absurd may
 
   pub merges : (place : ℕ) (v : Hand T) (other : ℕ) (w : Hand T) → MayJoin v.kind w.kind
-      → Merges (MovedOnce inner) place v other w (joined v w) (hand Spent 0 [] [])
+      → Merges (LineRule inner) place v other w (joined v w) (hand Spent 0 [] [])
   merges place v other w may items views rule at apart at' =
       let both : Hand T = joined v w in
       let spent : Hand T = hand Spent 0 [] [] in

@@ -7,7 +7,7 @@ use mathlib.Core.Option.{some, some-injective, some-ne-none}
 use lib.ListN.{get_elem?}
 use Rattle.crossbeam_queue.proofs.Lists.{at_set, at_snoc}
 use Rattle.fuse_line.specs.declared.hand.Hand.{Hand}
-use Rattle.fuse_line.specs.MovedOnce.{total}
+use Rattle.fuse_line.specs.LineRule.{total}
 
 pub set_apart : {H : Type 0} (views : List H) (i j : ℕ) (v w : H) → i ≢ j → set (set views i v) j w ≡ set (set views j w) i v
 set_apart [] i j v w apart = refl

@@ -4,12 +4,12 @@ use mathlib.Core.Option.{some}
 use lib.ListN.{get_elem?}
 use Rattle.fuse_line.specs.declared.hand.Hand.{Hand}
 use Rattle.fuse_line.specs.declared.hand.Kind.TheVariants.{First}
-use Rattle.fuse_line.specs.MovedOnce.{MovedOnce}
+use Rattle.fuse_line.specs.LineRule.{LineRule}
 use Rattle.fuse_line.specs.Tells.{IsSettled}
 
 -- while the first pass counts no other, no other has pushed an inner item or taken anything
 abbrev pub OthersAreIdle : {T : Type 0} → (T → Bool) → Type 0
-OthersAreIdle {T} inner = (items : List T) (views : List (Hand T)) (place other : ℕ) (first hand : Hand T) → MovedOnce inner items views
+OthersAreIdle {T} inner = (items : List T) (views : List (Hand T)) (place other : ℕ) (first hand : Hand T) → LineRule inner items views
     → get_elem? views place ≡ some first → first.kind ≡ First → first.others ≡ 0
     → get_elem? views other ≡ some hand → other ≢ place → (filter inner hand.put ≡ []) × (hand.taken ≡ [])
 

@@ -1,6 +1,6 @@
 pub mod Hand
 pub mod Laws
-pub mod MovedOnce
+pub mod LineRule
 pub mod Permits
 pub mod Seen
 pub mod Tells

@@ -2,7 +2,7 @@
 ghost use Rattle.std.specs.Prelude.{◌≡◌, [], ◌∷◌, List};
 ghost use Rattle.fuse_line.specs.declared.hand.Kind.TheVariants.{First, Inner, Door, Spent};
 ghost use Rattle.fuse_line.specs.Hand.{hand, joined, with_other, with_put, with_taken};
-ghost use Rattle.fuse_line.specs.MovedOnce.{MovedOnce};
+ghost use Rattle.fuse_line.specs.LineRule.{LineRule};
 ghost use Rattle.fuse_line.specs.Tells.{Tells};
 
 use crate::Class;
@@ -13,7 +13,7 @@ use crossbeam_queue::protocol::{Join, Lesson, Outcome, Protocol, Split};
 pub struct LineRule;
 
 impl<T: Class> Protocol<T, Hand<T>> for LineRule {
-    ghost holds = { MovedOnce T.is_inner };
+    ghost holds = { LineRule T.is_inner };
 
     ghost first = { hand First 0 [] [] };
 }

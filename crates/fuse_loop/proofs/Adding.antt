@@ -5,7 +5,7 @@ use Rattle.fuse_wire.specs.Source.{SourceState}
 use Rattle.fuse_wire.specs.Sink.{SinkState, Note}
 use Rattle.fuse_reply.specs.declared.out.Out.{Out}
 use Rattle.fuse_loop.specs.EventLoop.{Run}
-use Rattle.fuse_core.specs.OneEach.{Accounting}
+use Rattle.fuse_core.specs.OnePerMessage.{Accounting}
 use Rattle.fuse_loop.specs.Progress.{Moves, added, but_unrecorded, nothing_yet, progress, tally}
 use Rattle.fuse_loop.specs.declared.end.End.{End}
 use Rattle.fuse_loop.specs.declared.transcript.Transcript.{Transcript}

@@ -13,7 +13,7 @@ use Rattle.fuse_reply.specs.declared.door.NoDoor.TheVariants.{Shut}
 use Rattle.std.specs.Prelude.{if◌then◌else◌, ◌==◌}
 use Rattle.fuse_reply.specs.declared.out.Out.{Out}
 use Rattle.fuse_reply.specs.declared.out.Out.TheVariants.{Frame, Note as Noting, Deferred}
-use Rattle.fuse_core.specs.OneEach.{Owing, InOrder, number_of}
+use Rattle.fuse_core.specs.OnePerMessage.{Owing, InOrder, number_of}
 use Rattle.fuse_loop.specs.Answering.{IsRequest, MayComeLater}
 use Rattle.fuse_loop.specs.Incoming.{AllGoOn, IsBroken, incoming, incoming_by}
 use Rattle.fuse_loop.specs.Incoming.{Incoming}

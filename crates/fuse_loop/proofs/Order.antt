@@ -4,7 +4,7 @@ use Rattle.std.specs.Prelude.{Some, slice_get, remove}
 use Rattle.fuse_wire.specs.Sink.{Note}
 use Rattle.fuse_reply.specs.declared.out.Out.{Out}
 use Rattle.fuse_reply.specs.declared.out.Out.TheVariants.{Frame, Note as Noted}
-use Rattle.fuse_core.specs.OneEach.{InOrder, OneEach, Owing, number_of}
+use Rattle.fuse_core.specs.OnePerMessage.{InOrder, OnePerMessage, Owing, number_of}
 
 -- one message that a frame was written for
 pub InOrder-framed : (owed : Owing) (place : ℕ) (m f : List ℕ) → owed (number_of place) m (Frame f) → InOrder owed place (m ∷ []) (f ∷ []) [] []
@@ -68,32 +68,32 @@ InOrder-append owed place (m ∷ ms) ms' fs gs ns ns' ks ls (inr (inr p)) later 
     ))
 
 -- what is in order is one for each, with no reply that comes later, where nothing is owed to a broken message
-pub OneEach-from_order : (owed : Owing) (broken : List ℕ → Type 0) → ((seq : ℕ) (m : List ℕ) (out : Out) → owed seq m out → broken m → ⊥)
+pub OnePerMessage-from_order : (owed : Owing) (broken : List ℕ → Type 0) → ((seq : ℕ) (m : List ℕ) (out : Out) → owed seq m out → broken m → ⊥)
     → (place : ℕ) (ms fs : List (List ℕ)) (ns : List Note) (ks : List Out)
-    → InOrder owed place ms fs ns ks → OneEach owed broken place ms fs ns [] (length ks)
-OneEach-from_order owed broken whole place [] fs ns ks done = (done.0, done.1, refl, ap (λ (x : List Out). length x) done.2)
-OneEach-from_order owed broken whole place (m ∷ ms) fs ns ks (inl p) =
+    → InOrder owed place ms fs ns ks → OnePerMessage owed broken place ms fs ns [] (length ks)
+OnePerMessage-from_order owed broken whole place [] fs ns ks done = (done.0, done.1, refl, ap (λ (x : List Out). length x) done.2)
+OnePerMessage-from_order owed broken whole place (m ∷ ms) fs ns ks (inl p) =
     inl (
       0,
       p.0,
       (subst (λ (x : List (List ℕ)). slice_get x 0 ≡ Some p.0) (sym p.2) refl),
       p.3,
-      subst (λ (x : List (List ℕ)). OneEach owed broken (suc place) ms x ns [] (length ks)) (sym (ap (λ (x : List (List ℕ)). remove x 0) p.2))
-          (OneEach-from_order owed broken whole (suc place) ms p.1 ns ks p.4),
+      subst (λ (x : List (List ℕ)). OnePerMessage owed broken (suc place) ms x ns [] (length ks)) (sym (ap (λ (x : List (List ℕ)). remove x 0) p.2))
+          (OnePerMessage-from_order owed broken whole (suc place) ms p.1 ns ks p.4),
     )
-OneEach-from_order owed broken whole place (m ∷ ms) fs ns ks (inr (inl p)) =
+OnePerMessage-from_order owed broken whole place (m ∷ ms) fs ns ks (inr (inl p)) =
     inr (inl (
       0,
       p.0,
       (subst (λ (x : List Note). slice_get x 0 ≡ Some p.0) (sym p.2) refl),
       p.3,
-      subst (λ (x : List Note). OneEach owed broken (suc place) ms fs x [] (length ks)) (sym (ap (λ (x : List Note). remove x 0) p.2))
-          (OneEach-from_order owed broken whole (suc place) ms fs p.1 ks p.4),
+      subst (λ (x : List Note). OnePerMessage owed broken (suc place) ms fs x [] (length ks)) (sym (ap (λ (x : List Note). remove x 0) p.2))
+          (OnePerMessage-from_order owed broken whole (suc place) ms fs p.1 ks p.4),
     ))
-OneEach-from_order owed broken whole place (m ∷ ms) fs ns ks (inr (inr p)) =
+OnePerMessage-from_order owed broken whole place (m ∷ ms) fs ns ks (inr (inr p)) =
     inr (inr (inr (
       length p.1,
       ap (λ (x : List Out). length x) p.2,
       whole (number_of place) m p.0 p.3,
-      OneEach-from_order owed broken whole (suc place) ms fs ns p.1 p.4,
+      OnePerMessage-from_order owed broken whole (suc place) ms fs ns p.1 p.4,
     )))

@@ -10,7 +10,7 @@ use Rattle.fuse_reply.specs.declared.door.NoDoor.{NoDoor}
 use Rattle.fuse_reply.specs.declared.door.NoDoor.TheVariants.{Shut}
 use Rattle.fuse_reply.specs.declared.out.Out.{Out}
 use Rattle.fuse_reply.specs.declared.out.Out.TheVariants.{Frame, Note, Deferred}
-use Rattle.fuse_core.specs.OneEach.{Owing}
+use Rattle.fuse_core.specs.OnePerMessage.{Owing}
 use Rattle.fuse_core.specs.Step.{StandsFor}
 use Rattle.fuse_core.specs.declared.state.Job.{Job}
 use Rattle.fuse_loop.specs.Incoming.{Incoming, IsBroken, incoming, incoming_by}

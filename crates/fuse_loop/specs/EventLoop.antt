@@ -5,7 +5,7 @@ use Rattle.fuse_wire.specs.Sink.{Note}
 use Rattle.fuse_reply.specs.declared.out.Out.{Out}
 use Rattle.fuse_loop.specs.Incoming.{AllGoOn, HeaderRefused, incoming}
 use Rattle.fuse_loop.specs.Incoming.Incoming.{Destroy}
-use Rattle.fuse_core.specs.OneEach.{Accounting, Owing, InOrder, number_of}
+use Rattle.fuse_core.specs.OnePerMessage.{Accounting, Owing, InOrder, number_of}
 use Rattle.fuse_loop.specs.Progress.{Progress, Moves, Begins}
 use Rattle.fuse_loop.specs.declared.end.End.{End}
 use Rattle.fuse_loop.specs.declared.end.End.TheVariants.{Gone, Destroyed, Broken, Failed}

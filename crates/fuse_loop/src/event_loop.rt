@@ -4,7 +4,7 @@ ghost use Rattle.fuse_reply.specs.Answer.Answer.{Empty};
 ghost use Rattle.fuse_reply.specs.Frame.{reply};
 ghost use Rattle.fuse_loop.specs.EventLoop.{OneTurn, Run};
 ghost use Rattle.fuse_loop.specs.Lines.{IsOn, IsUnused, notices_in, unasked_of};
-ghost use Rattle.fuse_core.specs.OneEach.{InOrder};
+ghost use Rattle.fuse_core.specs.OnePerMessage.{InOrder};
 ghost use Rattle.fuse_loop.specs.Progress.{NoticesAlone, PassesOnAll, Progress, Quiet, beside, nothing_yet, progress};
 
 use crate::run_line::RunLine;

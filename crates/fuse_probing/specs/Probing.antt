@@ -8,7 +8,7 @@ use Rattle.fuse_reply.specs.Door.{DoorSeen}
 use Rattle.fuse_reply.specs.declared.door.NoDoor.{NoDoor}
 use Rattle.fuse_reply.specs.declared.out.Out.{Out}
 use Rattle.fuse_dispatch.specs.Defaults.{default_answer}
-use Rattle.fuse_dispatch.specs.Owed.{Answers}
+use Rattle.fuse_dispatch.specs.OwedMessage.{Answers}
 
 -- which answer a call may have
 abbrev pub Allows : Type 1

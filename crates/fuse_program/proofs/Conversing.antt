@@ -159,7 +159,7 @@ EachAnswered-headline form input input' output output' sink broken tree h stands
       (WritesFrames-stands h.appended h.notes output output' sink broken h.written stands);
   replied = h.replied;
   set_aside = h.set_aside;
-  one_each = h.one_each;
+  one_per_message = h.one_per_message;
   ended = EndsWell-map (map message h.ls) (NothingLeft (stream_source_told input')) (NoByteLeft input') (NoByteLeft-nothing input') h.ended;
 }
 

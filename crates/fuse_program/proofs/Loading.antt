@@ -153,7 +153,7 @@ Summarizes-ok form tree tree' left k v summary few h mounted is = (
       heard = sym (stream-received form.seed form.count) ∙ (ap (map message) all ∙ map-append message h.hs h.ls);
       said = refl;
       handshake = h.handshake;
-      one_each = h.one_each;
+      one_per_message = h.one_per_message;
     }
 
     counts : summary_of v.received (replies k.frames) (length k.notes)

@@ -22,11 +22,11 @@ use Rattle.fuse_config.specs.Configuration.{init_payload, start}
 use Rattle.fuse_config.specs.Values.{Configuration}
 use Rattle.fuse_config.specs.declared.session_acl.SessionACL.TheVariants.{All}
 use Rattle.fuse_loop.specs.Incoming.{IsBroken}
-use Rattle.fuse_core.specs.OneEach.{OneEach, Owing}
+use Rattle.fuse_core.specs.OnePerMessage.{OnePerMessage, Owing}
 use Rattle.fuse_handshake.specs.Handshake.{Greets, Handshake, HandshakeEnd, NegotiationReply}
 use Rattle.fuse_handshake.specs.Handshake.{greeting, greeting_by_header, greeting_by_operation, offer_of}
 use Rattle.fuse_handshake.specs.Handshake.HandshakeEnd.{Accepted}
-use Rattle.fuse_dispatch.specs.Owed.{Owed}
+use Rattle.fuse_dispatch.specs.OwedMessage.{OwedByPromise}
 use Rattle.fuse_tree.specs.Generated.{init_message, stream}
 use Rattle.fuse_tree.specs.Store.{is_error, line, summary_of}
 use Rattle.fuse_program.specs.Load.{AnsweredByTree, Loads, SameStream, Summarizes, WritesOneLine}
@@ -76,7 +76,7 @@ module _ (owed : Owing) (broken : List ℕ → Type 0) (out : List ℕ → Out) 
   InSomeOrder ms frames notes = IsPermutation frames (all_frames ms) × IsPermutation notes (all_notes ms)
 
   in_some_order : (place : ℕ) (ms frames : List (List ℕ)) (notes : List Noted) → AllByRecursion OwesOne ms
-      → OneEach owed broken place ms frames notes [] 0 → InSomeOrder ms frames notes
+      → OnePerMessage owed broken place ms frames notes [] 0 → InSomeOrder ms frames notes
   in_some_order place [] frames notes each done = (
     subst (λ (l : List (List ℕ)). IsPermutation l []) (sym done.0) (IsPermutation-refl []),
     subst (λ (l : List Noted). IsPermutation l []) (sym done.1) (IsPermutation-refl []),
@@ -147,18 +147,19 @@ All-at [] f each = tt
 All-at (m ∷ ms) f each = (f m each.0, All-at ms f each.1)
 
 later_order : (tree : Hello) (seed count : ℕ) (frames : List (List ℕ)) (notes : List Noted)
-    → OneEach (Owed tree_promise tree All 0) IsBroken 0 (later seed count) frames notes [] 0
-    → InSomeOrder (Owed tree_promise tree All 0) IsBroken out_of (later seed count) frames notes
-later_order tree seed count frames notes one_each =
-    in_some_order (Owed tree_promise tree All 0) IsBroken out_of 0 (later seed count) frames notes
-    (All-at {P = IsOwedOne} {Q = OwesOne (Owed tree_promise tree All 0) IsBroken out_of} (later seed count) (λ m one. one tree) (later-one seed count))
-    one_each
+    → OnePerMessage (OwedByPromise tree_promise tree All 0) IsBroken 0 (later seed count) frames notes [] 0
+    → InSomeOrder (OwedByPromise tree_promise tree All 0) IsBroken out_of (later seed count) frames notes
+later_order tree seed count frames notes one_per_message =
+    in_some_order (OwedByPromise tree_promise tree All 0) IsBroken out_of 0 (later seed count) frames notes
+    (All-at {P = IsOwedOne} {Q = OwesOne (OwedByPromise tree_promise tree All 0) IsBroken out_of} (later seed count) (λ m one. one tree) (later-one seed count))
+    one_per_message
 
 ordered : (seed count : ℕ) (frames : List (List ℕ)) (notes : List Noted) → AnsweredByTree (stream seed count) frames notes → Ordered seed count frames notes
 ordered seed count frames notes a =
     let first = shaken a.tree a.tree1 (later seed count) a.hs a.ls a.handshake_replies a.heard a.handshake in
     let order = later_order a.tree1 seed count a.later_replies notes
-    (subst (λ (ls : List (List ℕ)). OneEach (Owed tree_promise a.tree1 All 0) IsBroken 0 ls a.later_replies notes [] 0) first.1 a.one_each) in (
+    (subst (λ (ls : List (List ℕ)). OnePerMessage (OwedByPromise tree_promise a.tree1 All 0) IsBroken 0 ls a.later_replies notes [] 0)
+    first.1 a.one_per_message) in (
       subst (λ (l : List (List ℕ)). IsPermutation l (init_reply ∷ flat_map (λ m. frames_in (out_of m)) (later seed count)))
           (sym (a.said ∙ ap (λ (l : List (List ℕ)). l ++ a.later_replies) first.0))
           (IsPermutation-cons init_reply a.later_replies (flat_map (λ m. frames_in (out_of m)) (later seed count)) order.0),

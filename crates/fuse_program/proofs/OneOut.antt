@@ -31,7 +31,7 @@ use Rattle.fuse_reply.specs.declared.out.Out.TheVariants.{Frame, Note}
 use Rattle.fuse_config.specs.declared.session_acl.SessionACL.TheVariants.{All}
 use Rattle.fuse_loop.specs.Incoming.{id_of}
 use Rattle.fuse_dispatch.specs.Found.{found_attributes, found_entry}
-use Rattle.fuse_dispatch.specs.Owed.{IsPoll, Owed, OwedBy, OwedCall}
+use Rattle.fuse_dispatch.specs.OwedMessage.{IsPoll, OwedByPromise, OwedBy, OwedCall}
 use Rattle.fuse_dispatch.specs.Verdict.{Verdict, admitted, admitted_operation, asking, fixed_error, fixed_or, is_forget, serving, verdict, verdict_by}
 use Rattle.fuse_dispatch.specs.Verdict.Verdict.{Broken, Ends, Fixed, Forgets, Calls}
 use Rattle.fuse_tree.specs.Generated.{destroy_message, generated_message, name_body, read_body, request, request_at, requests, write_body, x_after}
@@ -114,7 +114,7 @@ owed_by tree request (Calls c) seq id out short owed = called tree request c seq
 
 -- what the tree owes a message is one
 abbrev pub IsOwedOne : List ℕ → Type 0
-IsOwedOne m = (tree : Hello) (seq : ℕ) (out : Out) → Owed tree_promise tree All 0 seq m out → out ≡ out_of m
+IsOwedOne m = (tree : Hello) (seq : ℕ) (out : Out) → OwedByPromise tree_promise tree All 0 seq m out → out ≡ out_of m
 
 pub one-out : (m : List ℕ) → Short (verdict All 0 m) → IsOwedOne m
 one-out m short tree seq out owed = owed_by tree (request_of (header_fields m)) (verdict All 0 m) seq (id_of m) out short owed

@@ -7,8 +7,8 @@ use Rattle.fuse_config.specs.declared.session_acl.SessionACL.TheVariants.{All}
 use Rattle.fuse_handshake.specs.Handshake.{Handshake}
 use Rattle.fuse_handshake.specs.Handshake.HandshakeEnd.{Accepted}
 use Rattle.fuse_loop.specs.Incoming.{IsBroken}
-use Rattle.fuse_core.specs.OneEach.{OneEach}
-use Rattle.fuse_dispatch.specs.Owed.{Owed}
+use Rattle.fuse_core.specs.OnePerMessage.{OnePerMessage}
+use Rattle.fuse_dispatch.specs.OwedMessage.{OwedByPromise}
 use Rattle.fuse_run.specs.declared.error.SessionError.{SessionError}
 use Rattle.fuse_run.specs.declared.error.SessionError.TheVariants.{Memory, Threads}
 use Rattle.fuse_tree.specs.Generated.{stream}
@@ -31,7 +31,7 @@ pub record AnsweredByTree (messages frames : List (List ℕ)) (notes : List Note
   pub heard : messages ≡ hs ++ ls
   pub said : frames ≡ handshake_replies ++ later_replies
   pub handshake : Handshake tree_promise.may_init 4096 tree hs handshake_replies tree1 Accepted
-  pub one_each : OneEach (Owed tree_promise tree1 All 0) IsBroken 0 ls later_replies notes [] 0
+  pub one_per_message : OnePerMessage (OwedByPromise tree_promise tree1 All 0) IsBroken 0 ls later_replies notes [] 0
 
 -- the summary of the stream, whose every message has what it is owed
 abbrev pub Summarizes : LoadForm → Summary → Type 0

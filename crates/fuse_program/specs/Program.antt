@@ -12,8 +12,8 @@ use Rattle.fuse_wire.specs.StreamSink.{IsTorn}
 use Rattle.fuse_reply.specs.declared.out.Out.{Out}
 use Rattle.fuse_reply.specs.declared.out.Out.TheVariants.{Frame, Note, Deferred}
 use Rattle.fuse_loop.specs.Incoming.{IsBroken, EndsWell}
-use Rattle.fuse_dispatch.specs.Owed.{Owed}
-use Rattle.fuse_core.specs.OneEach.{OneEach}
+use Rattle.fuse_dispatch.specs.OwedMessage.{OwedByPromise}
+use Rattle.fuse_core.specs.OnePerMessage.{OnePerMessage}
 use Rattle.fuse_session.specs.Complete.{OpensWell}
 use Rattle.fuse_session.specs.Exchange.{Setup, Dialogue, setup_of}
 use Rattle.fuse_run.specs.SessionEnd.{Outcome}
@@ -71,7 +71,7 @@ pub record EachAnswered (form : ServeForm) (input input' : ByteSourceState) (out
   pub written : WritesFrames appended [] output output'
   pub replied : replies appended ≡ handshake_replies ++ later_replies
   pub set_aside : AllByRecursion NoticeOrReply appended
-  pub one_each : OneEach (Owed tree_promise tree1 form.acl form.owner) IsBroken 0 ls later_replies notes [] 0
+  pub one_per_message : OnePerMessage (OwedByPromise tree_promise tree1 form.acl form.owner) IsBroken 0 ls later_replies notes [] 0
   pub ended : EndsWell ls (NoByteLeft input')
 
 -- A session over the program's bytes, whose outcome gives its status.

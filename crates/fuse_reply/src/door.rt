@@ -72,7 +72,7 @@ impl Door {
 
 /// A door whose reply was put off. It can't be dropped: it is let go once what the reply was spent into was queued, or by a
 /// note that the run has ended. A contract sees the door.
-pub struct LateDoor {
+pub(crate) struct LateDoor {
     door: Door,
 }
 

@@ -6,15 +6,15 @@ use Rattle.fuse_wire.specs.declared.newtypes.RequestId.{RequestId}
 use Rattle.fuse_reply.specs.Late.{LateSeen}
 use Rattle.fuse_reply.specs.declared.out.Out.{Out}
 use Rattle.fuse_reply.specs.declared.out.Out.TheVariants.{Deferred}
-use Rattle.fuse_core.specs.OneEach.{Accounting, InOrder, Owing, UpToOrder}
+use Rattle.fuse_core.specs.OnePerMessage.{Accounting, InOrder, Owing, UpToOrder}
 use Rattle.fuse_loop.specs.EventLoop.{Run}
 use Rattle.fuse_loop.specs.Incoming.{IsBroken}
 use Rattle.fuse_loop.specs.Progress.{Progress, progress}
 use Rattle.fuse_loop.specs.declared.end.End.{End}
 use Rattle.fuse_loop.specs.declared.transcript.Transcript.{Transcript}
-use Rattle.fuse_loop.proofs.Order.{OneEach-from_order}
-use Rattle.fuse_workers.specs.OneEachLater.{NoneHeldBack}
-use Rattle.fuse_workers.proofs.Accounts.{OneEachLater-prompt, UpToOrder-from_later}
+use Rattle.fuse_loop.proofs.Order.{OnePerMessage-from_order}
+use Rattle.fuse_workers.specs.OnePerMessageLater.{NoneHeldBack}
+use Rattle.fuse_workers.proofs.Accounts.{OnePerMessageLater-prompt, UpToOrder-from_later}
 use Rattle.fuse_dispatch.specs.Promise.{Promise}
 use Rattle.fuse_run.specs.Accounted.{Accounted, ManyThreads, NeverLater}
 use Rattle.fuse_run.specs.Ran.{LaterServed, Opened, Ran}
@@ -43,11 +43,11 @@ pub Accounted-one : (owed : Owing) → ((seq : ℕ) (m : List ℕ) (out : Out) �
     (end : End) (p q : Progress) → Run (InOrder owed 0) end p q → Run (Accounted threads defers owed) end p q
 Accounted-one owed not_broken threads defers end p q run =
     let each : UpToOrder owed IsBroken run.answered run.sent run.notes run.lost =
-    OneEach-from_order owed IsBroken not_broken 0 run.answered run.sent run.notes run.lost run.order in
+    OnePerMessage-from_order owed IsBroken not_broken 0 run.answered run.sent run.notes run.lost run.order in
     Run-accounted run (record {
-      one_each = λ _. each;
+      one_per_message = λ _. each;
       in_order = λ _. run.order;
-      later = OneEachLater-prompt each;
+      later = OnePerMessageLater-prompt each;
     })
 
 -- a run on several threads
@@ -56,9 +56,9 @@ pub Accounted-many : (owed : Owing) (threads : Option ℕ) (defers : Bool)
     → {came : List LateSeen} {recorded : Type 0} (end : End) (p q : Progress) → Run (NoneHeldBack owed IsBroken came recorded) end p q
     → Run (Accounted threads defers owed) end p q
 Accounted-many owed threads defers never many end p q run = Run-accounted run (record {
-  one_each = λ none_later. UpToOrder-from_later owed IsBroken (never (none_later many)) run.order.one_each;
+  one_per_message = λ none_later. UpToOrder-from_later owed IsBroken (never (none_later many)) run.order.one_per_message;
   in_order = λ single. absurd (single many);
-  later = run.order.one_each;
+  later = run.order.one_per_message;
 })
 
 -- a session that ended so, and all that is left of it

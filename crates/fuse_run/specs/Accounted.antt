@@ -3,8 +3,8 @@ use Rattle.std.specs.Prelude.{◌≡◌, ◌<◌, ℕ, Bool, false, List, Option
 use Rattle.fuse_wire.specs.Sink.{Note}
 use Rattle.fuse_reply.specs.declared.out.Out.{Out}
 use Rattle.fuse_loop.specs.Incoming.{IsBroken}
-use Rattle.fuse_core.specs.OneEach.{InOrder, Owing, UpToOrder}
-use Rattle.fuse_workers.specs.OneEachLater.{OneEachLater}
+use Rattle.fuse_core.specs.OnePerMessage.{InOrder, Owing, UpToOrder}
+use Rattle.fuse_workers.specs.OnePerMessageLater.{OnePerMessageLater}
 
 -- so many threads are more than one; where no number is given, one serves
 abbrev pub ManyThreads : Option ℕ → Type 0
@@ -19,6 +19,6 @@ NeverLater threads defers = ManyThreads threads → defers ≡ false
 -- where no more than one thread serves
 pub record Accounted (threads : Option ℕ) (defers : Bool) (owed : Owing) (messages frames : List (List ℕ)) (notes : List Note) (lost : List Out)
     : Type 0 where
-  pub one_each : NeverLater threads defers → UpToOrder owed IsBroken messages frames notes lost
+  pub one_per_message : NeverLater threads defers → UpToOrder owed IsBroken messages frames notes lost
   pub in_order : ¬ (ManyThreads threads) → InOrder owed 0 messages frames notes lost
-  pub later : OneEachLater owed IsBroken messages frames notes lost
+  pub later : OnePerMessageLater owed IsBroken messages frames notes lost

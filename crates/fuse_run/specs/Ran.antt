@@ -8,7 +8,7 @@ use Rattle.fuse_loop.specs.EventLoop.{Run}
 use Rattle.fuse_loop.specs.Progress.{Progress, progress}
 use Rattle.fuse_loop.specs.declared.end.End.{End}
 use Rattle.fuse_loop.specs.declared.transcript.Transcript.{Transcript}
-use Rattle.fuse_dispatch.specs.Owed.{Owed}
+use Rattle.fuse_dispatch.specs.OwedMessage.{OwedByPromise}
 use Rattle.fuse_dispatch.specs.Promise.{Promise}
 use Rattle.fuse_run.specs.Accounted.{Accounted, NeverLater}
 use Rattle.fuse_run.specs.SessionEnd.{Outcome, run_outcome}
@@ -28,7 +28,8 @@ pub record Opened (F : Type 0) : Type 0 where
 abbrev pub LaterServed : {F : Type 0} → Promise F → F → SessionACL → (owner : ℕ) → (threads : Option ℕ) → Outcome → (before after : Progress) → Type 0
 LaterServed promise fs acl owner threads outcome before after =
     ((threads ≡ Some 0) × (outcome ≡ Err Threads) × (after ≡ before))
-    ⊎ ((threads ≢ Some 0) × ((end : End) × (outcome ≡ run_outcome end) × Run (Accounted threads promise.defers (Owed promise fs acl owner)) end before after))
+    ⊎ ((threads ≢ Some 0) × ((end : End) × (outcome ≡ run_outcome end)
+    × Run (Accounted threads promise.defers (OwedByPromise promise fs acl owner)) end before after))
 
 -- it was run to its end, at which `destroy` was called once; and all could be recorded, where no reply comes later
 pub record Ran {F : Type 0} (promise : Promise F) (session : Opened F) (fs' : F) (outcome : Outcome)

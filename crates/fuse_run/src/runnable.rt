@@ -1,7 +1,7 @@
 // What runs of a session.
 ghost use Rattle.std.specs.Prelude.{◌≡◌, ℕ, List, [], Some};
 ghost use Rattle.fuse_run.specs.Accounted.{Accounted, NeverLater};
-ghost use Rattle.fuse_dispatch.specs.Owed.{Owed};
+ghost use Rattle.fuse_dispatch.specs.OwedMessage.{OwedByPromise};
 ghost use Rattle.fuse_run.specs.Ran.{LaterServed, Ran};
 ghost use Rattle.fuse_run.specs.SessionEnd.{run_outcome};
 ghost use Rattle.fuse_loop.specs.EventLoop.{Run};
@@ -69,7 +69,7 @@ fn answer_all<R: Threads + Wait + AllocGlobal + Sync, FS: Filesystem, S: Source,
     buffers: Buffers,
 ) -> RunEnd<S, K>
     requires unused { IsUnused buffers }
-    ensures run { Run (Accounted n_threads FS.promise.defers (Owed FS.promise shared.now.service.handler.filesystem
+    ensures run { Run (Accounted n_threads FS.promise.defers (OwedByPromise FS.promise shared.now.service.handler.filesystem
         shared.now.service.rule.acl shared.now.service.rule.owner)) result.end
         (progress (S.told source) (K.told sink) nothing_yet [])
         (progress (S.told result.source) (K.told result.sink) result.transcript (unasked_of result.buffers)) }

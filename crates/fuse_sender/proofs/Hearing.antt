@@ -10,7 +10,7 @@ use Rattle.fuse_header.specs.declared.error.RequestError.{RequestError}
 use Rattle.fuse_sender.specs.Hearing.{HearsLast, HearsOn, StopsWith}
 use Rattle.fuse_loop.specs.Incoming.{id_of, incoming}
 use Rattle.fuse_loop.specs.Incoming.Incoming.{Destroy as IsDestroy, Request}
-use Rattle.fuse_core.specs.OneEach.{number_of}
+use Rattle.fuse_core.specs.OnePerMessage.{number_of}
 use Rattle.fuse_loop.specs.Progress.{IntakeState, TakesIn}
 use Rattle.fuse_sender.specs.declared.stopped.Stopped.{Stopped}
 use Rattle.fuse_sender.specs.declared.stopped.Stopped.TheVariants.{Gone, Destroy, Broken, Failed}

@@ -14,7 +14,7 @@ use Rattle.fuse_reply.specs.declared.out.Out.{Out}
 use Rattle.fuse_reply.specs.declared.out.Out.TheVariants.{Frame, Note, Deferred}
 use Rattle.fuse_reply.specs.declared.parcel.Parcel.{Parcel}
 use Rattle.fuse_reply.specs.declared.parcel.Parcel.TheVariants.{Prompt, Notice, Late}
-use Rattle.fuse_core.specs.OneEach.{OneEach, Owing, number_of}
+use Rattle.fuse_core.specs.OnePerMessage.{OnePerMessage, Owing, number_of}
 use Rattle.fuse_sender.specs.Pairing.{InTurn, Pairs, Parts, numbered, outs_of}
 use Rattle.fuse_loop.specs.Progress.{IsPrompt}
 use Rattle.fuse_sender.proofs.Places.{Without, Without-at, Without-first, Without-length, Without-under, found}
@@ -255,9 +255,10 @@ Parts-prompt (out ∷ outs) fs ns marks lost now (inr (inr (inr p))) =
 module _ (owed : Owing) (broken : List ℕ → Type 0) (whole : (seq : ℕ) (m : List ℕ) (out : Out) → owed seq m out → broken m → ⊥) where
   -- the first message, where the others are one each in what is left
   one_first : (place : ℕ) (m : List ℕ) (ms : List (List ℕ)) (y : Out) (P : List (List ℕ) → List Noted → List Noted → List Out → Type 0)
-      → ((fs : List (List ℕ)) (ns marks : List Noted) (lost : List Out) → P fs ns marks lost → OneEach owed broken (suc place) ms fs ns marks (length lost))
+      → ((fs : List (List ℕ)) (ns marks : List Noted) (lost : List Out) → P fs ns marks lost
+      → OnePerMessage owed broken (suc place) ms fs ns marks (length lost))
       → owed (number_of place) m y → (fs : List (List ℕ)) (ns marks : List Noted) (lost : List Out) → OneLess P y fs ns marks lost
-      → OneEach owed broken place (m ∷ ms) fs ns marks (length lost)
+      → OnePerMessage owed broken place (m ∷ ms) fs ns marks (length lost)
   one_first place m ms y P others pays fs ns marks lost (inl p) =
       let at = Without-at fs p.0 p.1 p.3 in
       inl (
@@ -265,7 +266,7 @@ module _ (owed : Owing) (broken : List ℕ → Type 0) (whole : (seq : ℕ) (m :
         p.0,
         at.1,
         subst (owed (number_of place) m) p.2 pays,
-        subst (λ (l : List (List ℕ)). OneEach owed broken (suc place) ms l ns marks (length lost)) at.2 (others p.1 ns marks lost p.4),
+        subst (λ (l : List (List ℕ)). OnePerMessage owed broken (suc place) ms l ns marks (length lost)) at.2 (others p.1 ns marks lost p.4),
       )
   one_first place m ms y P others pays fs ns marks lost (inr (inl p)) =
       let at = Without-at ns p.0 p.1 p.3 in
@@ -274,7 +275,7 @@ module _ (owed : Owing) (broken : List ℕ → Type 0) (whole : (seq : ℕ) (m :
         p.0,
         at.1,
         subst (owed (number_of place) m) p.2 pays,
-        subst (λ (l : List Noted). OneEach owed broken (suc place) ms fs l marks (length lost)) at.2 (others fs p.1 marks lost p.4),
+        subst (λ (l : List Noted). OnePerMessage owed broken (suc place) ms fs l marks (length lost)) at.2 (others fs p.1 marks lost p.4),
       ))
   one_first place m ms y P others pays fs ns marks lost (inr (inr (inl p))) =
       let at = Without-at marks p.0 p.1 p.3 in
@@ -283,7 +284,7 @@ module _ (owed : Owing) (broken : List ℕ → Type 0) (whole : (seq : ℕ) (m :
         p.0,
         at.1,
         subst (owed (number_of place) m) p.2 pays,
-        subst (λ (l : List Noted). OneEach owed broken (suc place) ms fs ns l (length lost)) at.2 (others fs ns p.1 lost p.4),
+        subst (λ (l : List Noted). OnePerMessage owed broken (suc place) ms fs ns l (length lost)) at.2 (others fs ns p.1 lost p.4),
       )))
   one_first place m ms y P others pays fs ns marks lost (inr (inr (inr p))) =
       inr (inr (inr (
@@ -294,14 +295,14 @@ module _ (owed : Owing) (broken : List ℕ → Type 0) (whole : (seq : ℕ) (m :
       )))
 
   -- pairs of messages and outs are one frame, note, mark or lost one for each message, where nothing is owed to a broken one
-  pub OneEach-parts : (place : ℕ) (ms fs : List (List ℕ)) (ns marks : List Noted) (outs lost : List Out)
+  pub OnePerMessage-parts : (place : ℕ) (ms fs : List (List ℕ)) (ns marks : List Noted) (outs lost : List Out)
       → Pairs (λ (p : ℕ × List ℕ) (o : Out). owed p.0 p.1 o) (numbered place ms) outs → Parts outs fs ns marks lost
-      → OneEach owed broken place ms fs ns marks (length lost)
-  OneEach-parts place [] fs ns marks outs lost h parts =
+      → OnePerMessage owed broken place ms fs ns marks (length lost)
+  OnePerMessage-parts place [] fs ns marks outs lost h parts =
       let none = subst (λ (o : List Out). Parts o fs ns marks lost) h parts in
       (none.0, none.1, none.2, ap (λ (l : List Out). length l) none.3)
-  OneEach-parts place (m ∷ ms) fs ns marks outs lost h parts =
+  OnePerMessage-parts place (m ∷ ms) fs ns marks outs lost h parts =
       one_first place m ms h.1 (Parts (h.0 ++ h.2))
-      (λ fs' ns' marks' lost' p. OneEach-parts (suc place) ms fs' ns' marks' (h.0 ++ h.2) lost' h.5 p)
+      (λ fs' ns' marks' lost' p. OnePerMessage-parts (suc place) ms fs' ns' marks' (h.0 ++ h.2) lost' h.5 p)
       h.4 fs ns marks lost
       (Parts-removed h.0 h.1 h.2 fs ns marks lost (subst (λ (o : List Out). Parts o fs ns marks lost) h.3 parts))

@@ -20,7 +20,7 @@ use Rattle.fuse_reply.specs.declared.parcel.Parcel.TheVariants.{Prompt, Notice, 
 use Rattle.fuse_book.specs.Book.{EachWaiting, IsBookOf, tagged}
 use Rattle.fuse_loop.specs.Lines.{late_in, lates_in, notices_in}
 use Rattle.fuse_core.specs.Marks.{late_tag}
-use Rattle.fuse_book.specs.Matched.{Tag}
+use Rattle.fuse_book.specs.AreMatched.{Tag}
 use Rattle.fuse_sender.specs.Pairing.{Parts, outs_of}
 use Rattle.fuse_loop.specs.Progress.{LeavesOut, Moves, OutletState, counting, progress}
 use Rattle.fuse_sender.specs.Relays.{HandsEach, IsLateReply, IsRelayed, RelayState, Relays, SendsLate, SendsOut, SendsParcel, TakesLate}

@@ -16,7 +16,7 @@ use Rattle.fuse_sender.specs.Alone.{AnswersLast, ServesAlone}
 use Rattle.fuse_sender.specs.HandingOn.{AnsweredBy, answered_last}
 use Rattle.fuse_sender.specs.Hearing.{HearsLast, HearsOn}
 use Rattle.fuse_loop.specs.Lines.{lates_in, notices_in}
-use Rattle.fuse_core.specs.OneEach.{Owing, number_of}
+use Rattle.fuse_core.specs.OnePerMessage.{Owing, number_of}
 use Rattle.fuse_sender.specs.Pairing.{Pairs, numbered, outs_of}
 use Rattle.fuse_loop.specs.Progress.{IntakeState}
 use Rattle.fuse_sender.specs.Relays.{RelayState, Relays}

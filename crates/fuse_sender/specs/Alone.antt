@@ -5,7 +5,7 @@ use Rattle.fuse_reply.specs.declared.parcel.Parcel.{Parcel}
 use Rattle.fuse_sender.specs.HandingOn.{HandsOn, answered_last}
 use Rattle.fuse_sender.specs.Hearing.{HearsLast, HearsOn}
 use Rattle.fuse_loop.specs.Lines.{lates_in, notices_in}
-use Rattle.fuse_core.specs.OneEach.{Owing}
+use Rattle.fuse_core.specs.OnePerMessage.{Owing}
 use Rattle.fuse_loop.specs.Progress.{IntakeState}
 use Rattle.fuse_sender.specs.Relays.{RelayState, SendsOut}
 use Rattle.fuse_sender.specs.declared.stopped.Stopped.{Stopped}

@@ -3,7 +3,7 @@ use Rattle.std.specs.Prelude.{◌++◌, ℕ, List, []}
 use Rattle.fuse_reply.specs.declared.out.Out.{Out}
 use Rattle.fuse_reply.specs.declared.parcel.Parcel.{Parcel}
 use Rattle.fuse_sender.specs.Hearing.{Hears}
-use Rattle.fuse_core.specs.OneEach.{Owing}
+use Rattle.fuse_core.specs.OnePerMessage.{Owing}
 use Rattle.fuse_sender.specs.Pairing.{Pairs, numbered, outs_of}
 use Rattle.fuse_loop.specs.Progress.{IntakeState}
 use Rattle.fuse_sender.specs.Relays.{RelayState, Relays}

@@ -3,7 +3,7 @@ use Rattle.std.specs.Prelude.{◌≡◌, ◌≢◌, ◌+◌, ◌++◌, ℕ, List
 use Rattle.fuse_wire.specs.Source.{Takes, message, NothingLeft, SourceFailed}
 use Rattle.fuse_loop.specs.Incoming.{AllGoOn, HeaderRefused, id_of, incoming}
 use Rattle.fuse_loop.specs.Incoming.Incoming.{Destroy as IsDestroy}
-use Rattle.fuse_core.specs.OneEach.{number_of}
+use Rattle.fuse_core.specs.OnePerMessage.{number_of}
 use Rattle.fuse_loop.specs.declared.end.End.{End}
 use Rattle.fuse_loop.specs.declared.end.End.TheVariants as end
 use Rattle.fuse_loop.specs.Progress.{Begins, IntakeState}

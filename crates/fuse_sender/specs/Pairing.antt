@@ -6,7 +6,7 @@ use Rattle.fuse_reply.specs.declared.out.Out.{Out}
 use Rattle.fuse_reply.specs.declared.out.Out.TheVariants.{Frame, Note, Deferred}
 use Rattle.fuse_reply.specs.declared.parcel.Parcel.{Parcel}
 use Rattle.fuse_reply.specs.declared.parcel.Parcel.TheVariants.{Prompt, Notice, Late}
-use Rattle.fuse_core.specs.OneEach.{number_of}
+use Rattle.fuse_core.specs.OnePerMessage.{number_of}
 
 -- each item stands in it to the item at its own place of the other list, and there are no more
 abbrev pub InTurn : {A B : Type 0} → (A → B → Type 0) → List A → List B → Type 0

@@ -14,7 +14,7 @@ use Rattle.fuse_reply.specs.declared.parcel.Parcel.TheVariants.{Prompt, Notice, 
 use Rattle.fuse_book.specs.Book.{EachWaiting, IsBookOf, tagged}
 use Rattle.fuse_loop.specs.Lines.{lates_in, notices_in}
 use Rattle.fuse_core.specs.Marks.{late_tag}
-use Rattle.fuse_book.specs.Matched.{Tag, same}
+use Rattle.fuse_book.specs.AreMatched.{Tag, same}
 use Rattle.fuse_sender.specs.Pairing.{Parts, outs_of}
 use Rattle.fuse_loop.specs.Progress.{LeavesOut, Moves, OutletState, SendsNotice, SendsOnce, progress}
 use Rattle.fuse_book.specs.declared.book.Book.{Book}

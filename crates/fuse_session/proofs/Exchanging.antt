@@ -7,9 +7,9 @@ use Rattle.fuse_wire.proofs.Devices.{Takes-then}
 use Rattle.fuse_reply.specs.declared.out.Out.TheVariants.{Frame}
 use Rattle.fuse_loop.specs.Incoming.{Incoming, EndsAfter, EndsWell, AllGoOn, incoming}
 use Rattle.fuse_loop.specs.Incoming.Incoming.{Destroy}
-use Rattle.fuse_workers.proofs.Accounts.{OneEachLater-none}
+use Rattle.fuse_workers.proofs.Accounts.{OnePerMessageLater-none}
 use Rattle.fuse_run.specs.Accounted.{Accounted}
-use Rattle.fuse_dispatch.specs.Owed.{Owed}
+use Rattle.fuse_dispatch.specs.OwedMessage.{OwedByPromise}
 use Rattle.fuse_handshake.specs.Handshake.{HandshakeEnd}
 use Rattle.fuse_handshake.specs.HandshakeStep.{HandshakeRun}
 use Rattle.fuse_loop.specs.EventLoop.{Run, RunEnds}
@@ -63,7 +63,7 @@ alone {F} {setup} {fs} {fs1} {found} {p} {q} result shook takes ends = record {
     heard = sym (append-nil (map message shook.turns));
     handshake = shook.handshake;
     left_out = shook.left_out;
-    accounted = record { one_each = λ _. (refl, refl, refl, refl); in_order = λ _. (refl, refl, refl); later = OneEachLater-none };
+    accounted = record { one_per_message = λ _. (refl, refl, refl, refl); in_order = λ _. (refl, refl, refl); later = OnePerMessageLater-none };
     said = sym (append-nil shook.sent);
     missed = sym (append-nil (map Frame shook.lost));
     ended = ends;
@@ -128,7 +128,8 @@ ended-run Failed threads shook answered refused none_left failed failed' served 
 -- a session with a run after its handshake
 pub Exchange-ran : {F : Type 0} {setup : Setup F} {fs fs1 : F} {end : End} {p q r : Progress} → setup.threads ≢ Some 0
     → HandshakeRun setup.promise.may_init setup.page outcome.Accepted fs fs1 p q
-    → Run (Accounted setup.threads setup.promise.defers (Owed setup.promise fs1 setup.acl setup.owner)) end q r → Exchange setup fs fs1 (run_outcome end) p r
+    → Run (Accounted setup.threads setup.promise.defers (OwedByPromise setup.promise fs1 setup.acl setup.owner)) end q r
+    → Exchange setup fs fs1 (run_outcome end) p r
 Exchange-ran {F} {setup} {fs} {fs1} {end} {p} {q} {r} some shook run = record {
   turns = shook.turns ++ run.turns;
   sent = shook.sent ++ run.sent;

@@ -8,9 +8,9 @@ use Rattle.fuse_wire.specs.Sink.{Note}
 use Rattle.fuse_reply.specs.declared.out.Out.{Out}
 use Rattle.fuse_reply.specs.declared.out.Out.TheVariants.{Frame}
 use Rattle.fuse_loop.specs.Incoming.{IsBroken, EndsWell}
-use Rattle.fuse_dispatch.specs.Owed.{Owed}
-use Rattle.fuse_core.specs.OneEach.{OneEach, UpToOrder}
-use Rattle.fuse_workers.specs.OneEachLater.{OneEachLater}
+use Rattle.fuse_dispatch.specs.OwedMessage.{OwedByPromise}
+use Rattle.fuse_core.specs.OnePerMessage.{OnePerMessage, UpToOrder}
+use Rattle.fuse_workers.specs.OnePerMessageLater.{OnePerMessageLater}
 use Rattle.fuse_handshake.specs.Handshake.{HandshakeEnd, Handshake}
 use Rattle.fuse_handshake.specs.Handshake.HandshakeEnd.{Accepted}
 use Rattle.fuse_run.specs.Accounted.{Accounted, NeverLater}
@@ -35,7 +35,7 @@ lossless {received} {sent} {notes} {lost} {p} {q} moved start (inr none) =
 
 -- A session that ended well, whose later messages are accounted for in any way that its dialogue shows.
 EndedWell-from_exchange : {F : Type 0} (account : Account F) {setup : Setup F} {fs fs1 : F} {p q : Progress} (exchange : Exchange setup fs fs1 (Ok tt) p q)
-    → ((lost : List Out) → lost ≡ [] → Accounted setup.threads setup.promise.defers (Owed setup.promise fs1 setup.acl setup.owner)
+    → ((lost : List Out) → lost ≡ [] → Accounted setup.threads setup.promise.defers (OwedByPromise setup.promise fs1 setup.acl setup.owner)
     exchange.dialogue.answered exchange.dialogue.later_sent exchange.notes lost
     → account fs1 exchange.dialogue.answered exchange.dialogue.later_sent exchange.notes)
     → p.counts ≡ nothing_yet → Lossless p.sink q.sink q.counts
@@ -56,7 +56,7 @@ EndedWell-from_exchange {F} account {setup} {fs} {fs1} {p} {q} exchange shows st
       (LeavesOut-none d.handshake_replies d.handshake_sent
       (subst (λ (lost : List (List ℕ)). LeavesOut lost d.handshake_replies d.handshake_sent) none_first d.left_out)));
   set_aside = exchange.moved.set_aside;
-  one_each = subst (λ (ms : List (List ℕ)). account fs1 ms d.later_sent exchange.notes) (sym later) (shows d.lost_later none_later d.accounted);
+  one_per_message = subst (λ (ms : List (List ℕ)). account fs1 ms d.later_sent exchange.notes) (sym later) (shows d.lost_later none_later d.accounted);
   ended = subst (λ (ms : List (List ℕ)). EndsWell ms (NothingLeft q.source)) (sym later) d.ended.2;
 } where
   d : Dialogue setup fs fs1 (Ok tt) (NothingLeft q.source) (SourceFailed p.source q.source) (map message exchange.turns)
@@ -85,17 +85,19 @@ pub Headline-from_exchange : {F : Type 0} {setup : Setup F} {fs fs1 : F} {p q : 
     → Exchange setup fs fs1 (Ok tt) p q → p.counts ≡ nothing_yet → Lossless p.sink q.sink q.counts
     → Headline setup.promise setup.page setup.acl setup.owner fs p.source q.source p.sink q.sink
 Headline-from_exchange {F} {setup} {fs} {fs1} {p} {q} never exchange start quiet =
-    EndedWell-from_exchange (λ at messages replies notes. OneEach (Owed setup.promise at setup.acl setup.owner) IsBroken 0 messages replies notes [] 0)
+    EndedWell-from_exchange
+    (λ at messages replies notes. OnePerMessage (OwedByPromise setup.promise at setup.acl setup.owner) IsBroken 0 messages replies notes [] 0)
     exchange (λ lost none accounted.
-    subst (λ (outs : List Out). UpToOrder (Owed setup.promise fs1 setup.acl setup.owner) IsBroken exchange.dialogue.answered exchange.dialogue.later_sent
-    exchange.notes outs) none (accounted.one_each never)) start quiet
+    subst (λ (outs : List Out). UpToOrder (OwedByPromise setup.promise fs1 setup.acl setup.owner) IsBroken exchange.dialogue.answered
+    exchange.dialogue.later_sent exchange.notes outs) none (accounted.one_per_message never)) start quiet
 
 -- or the mark of one that came later
 pub LaterHeadline-from_exchange : {F : Type 0} {setup : Setup F} {fs fs1 : F} {p q : Progress}
     → Exchange setup fs fs1 (Ok tt) p q → p.counts ≡ nothing_yet → Lossless p.sink q.sink q.counts
     → LaterHeadline setup.promise setup.page setup.acl setup.owner fs p.source q.source p.sink q.sink
 LaterHeadline-from_exchange {F} {setup} {fs} {fs1} {p} {q} exchange start quiet =
-    EndedWell-from_exchange (λ at messages replies notes. OneEachLater (Owed setup.promise at setup.acl setup.owner) IsBroken messages replies notes [])
+    EndedWell-from_exchange
+    (λ at messages replies notes. OnePerMessageLater (OwedByPromise setup.promise at setup.acl setup.owner) IsBroken messages replies notes [])
     exchange (λ lost none accounted.
-    subst (λ (outs : List Out). OneEachLater (Owed setup.promise fs1 setup.acl setup.owner) IsBroken exchange.dialogue.answered
+    subst (λ (outs : List Out). OnePerMessageLater (OwedByPromise setup.promise fs1 setup.acl setup.owner) IsBroken exchange.dialogue.answered
     exchange.dialogue.later_sent exchange.notes outs) none accounted.later) start quiet

@@ -9,8 +9,8 @@ use Rattle.fuse_loop.specs.EventLoop.{Run}
 use Rattle.fuse_session.specs.Exchange.{Closed, Exchange, Mounted, Setup, Unopened, setup_of}
 use Rattle.fuse_run.specs.SessionEnd.{Outcome, handshake_error, run_outcome}
 use Rattle.fuse_session.specs.Headline.{Headline, LaterHeadline, Lossless}
-use Rattle.fuse_dispatch.specs.Owed.{Owed}
-use Rattle.fuse_core.specs.OneEach.{Accounting}
+use Rattle.fuse_dispatch.specs.OwedMessage.{OwedByPromise}
+use Rattle.fuse_core.specs.OnePerMessage.{Accounting}
 use Rattle.fuse_loop.specs.Progress.{Progress, nothing_yet, progress}
 use Rattle.fuse_dispatch.specs.Promise.{Promise}
 use Rattle.fuse_run.specs.Ran.{LaterServed, Opened, Ran}
@@ -103,8 +103,8 @@ Ok-from_run promise session fs' outcome source' sink' counts ran well =
         (progress source' sink' counts ran.unasked) → outcome ≡ Ok tt
     by_end (inl none) = absurd (well.served none.0)
     by_end (inr some) =
-        some.1.1 ∙ Ok-from_end (Accounted session.threads promise.defers (Owed promise session.filesystem session.acl session.owner)) some.1.0 session.progress
-        (progress source' sink' counts ran.unasked) well.turns some.1.2 well.told well.good
+        some.1.1 ∙ Ok-from_end (Accounted session.threads promise.defers (OwedByPromise promise session.filesystem session.acl session.owner)) some.1.0
+        session.progress (progress source' sink' counts ran.unasked) well.turns some.1.2 well.told well.good
         well.unfailing
 
 ends_run-outcome : (end : End) → EndsRun (run_outcome end)

@@ -11,7 +11,7 @@ use Rattle.fuse_run.specs.Accounted.{Accounted}
 use Rattle.fuse_run.specs.SessionEnd.{Outcome}
 use Rattle.fuse_dispatch.specs.Promise.{Promise}
 use Rattle.fuse_loop.specs.Incoming.{AllGoOn, EndsWell, HeaderRefused}
-use Rattle.fuse_dispatch.specs.Owed.{Owed}
+use Rattle.fuse_dispatch.specs.OwedMessage.{OwedByPromise}
 use Rattle.fuse_handshake.specs.Handshake.{HandshakeEnd, Handshake}
 use Rattle.fuse_handshake.specs.Handshake.HandshakeEnd.{Open, Accepted, Failed}
 use Rattle.fuse_loop.specs.Progress.{Progress, Moves, Begins, LeavesOut, nothing_yet, progress}
@@ -84,7 +84,7 @@ pub record Dialogue {F : Type 0} (setup : Setup F) (fs fs1 : F) (outcome : Outco
   pub heard : messages ≡ hs ++ (answered ++ refused)
   pub handshake : Handshake setup.promise.may_init setup.page fs hs handshake_replies fs1 end
   pub left_out : LeavesOut lost_first handshake_replies handshake_sent
-  pub accounted : Accounted setup.threads setup.promise.defers (Owed setup.promise fs1 setup.acl setup.owner) answered later_sent notes lost_later
+  pub accounted : Accounted setup.threads setup.promise.defers (OwedByPromise setup.promise fs1 setup.acl setup.owner) answered later_sent notes lost_later
   pub said : sent ≡ handshake_sent ++ later_sent
   pub missed : lost ≡ map Frame lost_first ++ lost_later
   pub ended : EndedBy outcome setup.threads end answered refused none_left failed

@@ -5,9 +5,9 @@ use Rattle.fuse_wire.specs.Source.{SourceState, Takes, message, NothingLeft}
 use Rattle.fuse_wire.specs.Sink.{SinkState, Note, Appends}
 use Rattle.fuse_config.specs.declared.session_acl.SessionACL.{SessionACL}
 use Rattle.fuse_loop.specs.Incoming.{IsBroken, EndsWell}
-use Rattle.fuse_dispatch.specs.Owed.{Owed}
-use Rattle.fuse_core.specs.OneEach.{OneEach}
-use Rattle.fuse_workers.specs.OneEachLater.{OneEachLater}
+use Rattle.fuse_dispatch.specs.OwedMessage.{OwedByPromise}
+use Rattle.fuse_core.specs.OnePerMessage.{OnePerMessage}
+use Rattle.fuse_workers.specs.OnePerMessageLater.{OnePerMessageLater}
 use Rattle.fuse_dispatch.specs.Promise.{Promise}
 use Rattle.fuse_handshake.specs.Handshake.{Handshake}
 use Rattle.fuse_handshake.specs.Handshake.HandshakeEnd.{Accepted}
@@ -41,17 +41,17 @@ pub record EndedWell {F : Type 0} (account : Account F) (promise : Promise F) (p
   pub written : Appends appended notes sink sink'
   pub replied : replies appended ≡ handshake_replies ++ later_replies
   pub set_aside : AllByRecursion NoticeOrReply appended
-  pub one_each : account fs1 (map message ls) later_replies notes
+  pub one_per_message : account fs1 (map message ls) later_replies notes
   pub ended : EndsWell (map message ls) (NothingLeft after)
 
 -- each later message has the one reply that it is owed, or a note
 abbrev pub Headline : {F : Type 0} → Promise F → (page : ℕ) → SessionACL → (owner : ℕ) → (fs : F) → (before after : SourceState) → (sink sink' : SinkState)
     → Type 0
 Headline promise page acl owner =
-    EndedWell (λ fs1 messages replies notes. OneEach (Owed promise fs1 acl owner) IsBroken 0 messages replies notes [] 0) promise page
+    EndedWell (λ fs1 messages replies notes. OnePerMessage (OwedByPromise promise fs1 acl owner) IsBroken 0 messages replies notes [] 0) promise page
 
 -- the same where replies may come later
 abbrev pub LaterHeadline : {F : Type 0} → Promise F → (page : ℕ) → SessionACL → (owner : ℕ) → (fs : F) → (before after : SourceState)
     → (sink sink' : SinkState) → Type 0
 LaterHeadline promise page acl owner =
-    EndedWell (λ fs1 messages replies notes. OneEachLater (Owed promise fs1 acl owner) IsBroken messages replies notes []) promise page
+    EndedWell (λ fs1 messages replies notes. OnePerMessageLater (OwedByPromise promise fs1 acl owner) IsBroken messages replies notes []) promise page

@@ -8,9 +8,9 @@ use Rattle.fuse_reply.specs.Late.{LateSeen}
 use Rattle.fuse_reply.specs.declared.out.Out.{Out}
 use Rattle.fuse_reply.specs.declared.out.Out.TheVariants.{Deferred}
 use Rattle.fuse_core.specs.Marks.{late_tag}
-use Rattle.fuse_book.specs.Matched.{Matched, Tag}
-use Rattle.fuse_core.specs.OneEach.{OneEach, Owing, UpToOrder}
-use Rattle.fuse_workers.specs.OneEachLater.{OneEachLater}
+use Rattle.fuse_book.specs.AreMatched.{AreMatched, Tag}
+use Rattle.fuse_core.specs.OnePerMessage.{OnePerMessage, Owing, UpToOrder}
+use Rattle.fuse_workers.specs.OnePerMessageLater.{OnePerMessageLater}
 use Rattle.fuse_loop.specs.Progress.{LeavesOut}
 use Rattle.fuse_sender.specs.Relays.{late_out}
 use Rattle.fuse_loop.proofs.Quieting.{LeavesOut-none}
@@ -21,9 +21,9 @@ LeavesOut-all [] = (refl, refl)
 LeavesOut-all (x ∷ xs) = inl (xs, refl, LeavesOut-all xs)
 
 -- what was accounted for at once is so where replies may come later
-pub OneEachLater-prompt : {owed : Owing} {broken : List ℕ → Type 0} {ms fs : List (List ℕ)} {ns : List Noted} {lost : List Out}
-    → UpToOrder owed broken ms fs ns lost → OneEachLater owed broken ms fs ns lost
-OneEachLater-prompt {fs = fs} {lost = lost} each = record {
+pub OnePerMessageLater-prompt : {owed : Owing} {broken : List ℕ → Type 0} {ms fs : List (List ℕ)} {ns : List Noted} {lost : List Out}
+    → UpToOrder owed broken ms fs ns lost → OnePerMessageLater owed broken ms fs ns lost
+OnePerMessageLater-prompt {fs = fs} {lost = lost} each = record {
   at_once = fs;
   marks = [];
   lost_at_once = lost;
@@ -39,12 +39,12 @@ OneEachLater-prompt {fs = fs} {lost = lost} each = record {
 }
 
 -- no message was taken
-pub OneEachLater-none : {owed : Owing} {broken : List ℕ → Type 0} → OneEachLater owed broken [] [] [] []
-OneEachLater-none = OneEachLater-prompt (refl, refl, refl, refl)
+pub OnePerMessageLater-none : {owed : Owing} {broken : List ℕ → Type 0} → OnePerMessageLater owed broken [] [] [] []
+OnePerMessageLater-none = OnePerMessageLater-prompt (refl, refl, refl, refl)
 
 module _ (owed : Owing) (broken : List ℕ → Type 0) (never : (seq : ℕ) (m : List ℕ) (number : ℕ) (id : RequestId) → owed seq m (Deferred number id) → ⊥) where
   -- no message has a mark to which none is owed
-  unmarked : (place : ℕ) (ms fs : List (List ℕ)) (ns marks : List Noted) (lost : ℕ) → OneEach owed broken place ms fs ns marks lost → marks ≡ []
+  unmarked : (place : ℕ) (ms fs : List (List ℕ)) (ns marks : List Noted) (lost : ℕ) → OnePerMessage owed broken place ms fs ns marks lost → marks ≡ []
   unmarked place [] fs ns marks lost each = each.2
   unmarked place (m ∷ ms) fs ns marks lost (inl p) = unmarked (suc place) ms (remove fs p.0) ns marks lost p.4
   unmarked place (m ∷ ms) fs ns marks lost (inr (inl p)) = unmarked (suc place) ms fs (remove ns p.0) marks lost p.4
@@ -52,21 +52,21 @@ module _ (owed : Owing) (broken : List ℕ → Type 0) (never : (seq : ℕ) (m :
   unmarked place (m ∷ ms) fs ns marks lost (inr (inr (inr p))) = unmarked (suc place) ms fs ns marks p.0 p.3
 
   -- so none comes later, and each was accounted for at once
-  pub UpToOrder-from_later : {ms fs : List (List ℕ)} {ns : List Noted} {lost : List Out} → OneEachLater owed broken ms fs ns lost
+  pub UpToOrder-from_later : {ms fs : List (List ℕ)} {ns : List Noted} {lost : List Out} → OnePerMessageLater owed broken ms fs ns lost
       → UpToOrder owed broken ms fs ns lost
   UpToOrder-from_later {ms} {fs} {ns} {lost} later =
-      subst (λ (l : List Noted × List (List ℕ) × List Out). OneEach owed broken 0 ms l.1 ns l.0 (length l.2))
+      subst (λ (l : List Noted × List (List ℕ) × List Out). OnePerMessage owed broken 0 ms l.1 ns l.0 (length l.2))
       (λ i. (none_marked i, all_sent i, all_missed i)) later.each
     where
       none_marked : later.marks ≡ []
       none_marked = unmarked 0 ms later.at_once ns later.marks (length later.lost_at_once) later.each
 
-      no_late : (gone : List LateSeen) → Matched [] (map late_tag gone) → gone ≡ []
+      no_late : (gone : List LateSeen) → AreMatched [] (map late_tag gone) → gone ≡ []
       no_late [] matched = refl
       no_late (l ∷ gone) matched = absurd (none-some _ matched.1)
 
       none_gone : later.gone ≡ []
-      none_gone = no_late later.gone (subst (λ (marks : List Tag). Matched marks (map late_tag later.gone)) none_marked later.matched)
+      none_gone = no_late later.gone (subst (λ (marks : List Tag). AreMatched marks (map late_tag later.gone)) none_marked later.matched)
 
       none : (later.late ≡ []) × (later.lost_late ≡ [])
       none = subst (λ (gone : List LateSeen). LeavesOut later.lost_late gone later.late) none_gone later.parted

@@ -17,11 +17,11 @@ use Rattle.fuse_sender.specs.Hearing.{Hears, StopsWith, end_of}
 use Rattle.fuse_loop.specs.Incoming.{AllGoOn, IsBroken}
 use Rattle.fuse_loop.specs.Lines.{lates_in, notices_in}
 use Rattle.fuse_book.specs.Book.{EachWaiting, IsBookOf, tags_of}
-use Rattle.fuse_book.specs.Matched.{Matched, Tag}
-use Rattle.fuse_workers.specs.OneEachLater.{EachLetGo, NoneHeldBack, OneEachLater}
+use Rattle.fuse_book.specs.AreMatched.{AreMatched, Tag}
+use Rattle.fuse_workers.specs.OnePerMessageLater.{EachLetGo, NoneHeldBack, OnePerMessageLater}
 use Rattle.fuse_sender.specs.Relays.{RelayState, Relays, is_own, late_out, with_tag}
 use Rattle.fuse_reply.specs.Late.{LateSeen}
-use Rattle.fuse_core.specs.OneEach.{Accounting, OneEach, Owing, UpToOrder, number_of}
+use Rattle.fuse_core.specs.OnePerMessage.{Accounting, OnePerMessage, Owing, UpToOrder, number_of}
 use Rattle.fuse_sender.specs.Pairing.{Parts, numbered, outs_of}
 use Rattle.fuse_loop.specs.Progress.{IntakeState, IsPrompt, LeavesOut, Moves, but_unrecorded, nothing_yet, progress, tally}
 use Rattle.fuse_loop.specs.Answering.{answering}
@@ -31,35 +31,35 @@ use Rattle.fuse_core.specs.declared.state.Job.{Job}
 use Rattle.fuse_loop.specs.declared.transcript.Transcript.{Transcript}
 use Rattle.fuse_book.proofs.Bookkeeping.{IsBookOf-matches}
 use Rattle.fuse_workers.proofs.LateReplies.{each-arrived, each-let_go, gone-matched, none-arrived, none-gone, none-unused, replies-gone}
-use Rattle.fuse_sender.proofs.Pairing.{OneEach-parts, Pairs-all, Parts-prompt}
+use Rattle.fuse_sender.proofs.Pairing.{OnePerMessage-parts, Pairs-all, Parts-prompt}
 use Rattle.fuse_loop.proofs.Quieting.{LeavesOut-none}
 use Rattle.fuse_workers.proofs.Splitting.{Split, bytes_of, frames_gone, split}
 
 -- what is owed in a stricter sense is owed
-pub OneEach-weaken : (strict owed : Owing) (broken : List ℕ → Type 0) → ((seq : ℕ) (m : List ℕ) (out : Out) → strict seq m out → owed seq m out)
+pub OnePerMessage-weaken : (strict owed : Owing) (broken : List ℕ → Type 0) → ((seq : ℕ) (m : List ℕ) (out : Out) → strict seq m out → owed seq m out)
     → (place : ℕ) (ms fs : List (List ℕ)) (ns marks : List Note) (lost : ℕ)
-    → OneEach strict broken place ms fs ns marks lost → OneEach owed broken place ms fs ns marks lost
-OneEach-weaken strict owed broken weak place [] fs ns marks lost h = h
-OneEach-weaken strict owed broken weak place (m ∷ ms) fs ns marks lost (inl p) =
-    inl (p.0, p.1, p.2, weak (number_of place) m (Frame p.1) p.3, OneEach-weaken strict owed broken weak (suc place) ms (remove fs p.0) ns marks lost p.4)
-OneEach-weaken strict owed broken weak place (m ∷ ms) fs ns marks lost (inr (inl p)) =
+    → OnePerMessage strict broken place ms fs ns marks lost → OnePerMessage owed broken place ms fs ns marks lost
+OnePerMessage-weaken strict owed broken weak place [] fs ns marks lost h = h
+OnePerMessage-weaken strict owed broken weak place (m ∷ ms) fs ns marks lost (inl p) =
+    inl (p.0, p.1, p.2, weak (number_of place) m (Frame p.1) p.3, OnePerMessage-weaken strict owed broken weak (suc place) ms (remove fs p.0) ns marks lost p.4)
+OnePerMessage-weaken strict owed broken weak place (m ∷ ms) fs ns marks lost (inr (inl p)) =
     inr (inl (
       p.0,
       p.1,
       p.2,
       weak (number_of place) m (Noting (record { 0 = p.1.0 }) p.1.1) p.3,
-      OneEach-weaken strict owed broken weak (suc place) ms fs (remove ns p.0) marks lost p.4,
+      OnePerMessage-weaken strict owed broken weak (suc place) ms fs (remove ns p.0) marks lost p.4,
     ))
-OneEach-weaken strict owed broken weak place (m ∷ ms) fs ns marks lost (inr (inr (inl p))) =
+OnePerMessage-weaken strict owed broken weak place (m ∷ ms) fs ns marks lost (inr (inr (inl p))) =
     inr (inr (inl (
       p.0,
       p.1,
       p.2,
       weak (number_of place) m (Deferred p.1.0 (record { 0 = p.1.1 })) p.3,
-      OneEach-weaken strict owed broken weak (suc place) ms fs ns (remove marks p.0) lost p.4,
+      OnePerMessage-weaken strict owed broken weak (suc place) ms fs ns (remove marks p.0) lost p.4,
     )))
-OneEach-weaken strict owed broken weak place (m ∷ ms) fs ns marks lost (inr (inr (inr p))) =
-    inr (inr (inr (p.0, p.1, p.2, OneEach-weaken strict owed broken weak (suc place) ms fs ns marks p.0 p.3)))
+OnePerMessage-weaken strict owed broken weak place (m ∷ ms) fs ns marks lost (inr (inr (inr p))) =
+    inr (inr (inr (p.0, p.1, p.2, OnePerMessage-weaken strict owed broken weak (suc place) ms fs ns marks p.0 p.3)))
 
 -- what was counted from nothing, with the messages that were taken, and with what could not be recorded
 Moves-counted : {fs : List (List ℕ)} {ns : List Note} {ls : List Out} (turns received unrecorded : ℕ) (source source' : SourceState) (sink sink' : SinkState)
@@ -120,10 +120,10 @@ ends-parts Failed number ms last none_left failed go stops = (refl, subst AllGoO
 -- what was accounted for in a stricter sense of what is owed, up to order
 module _ (owed : Owing) (defers : Bool) where
   each-part : (ms fs : List (List ℕ)) (ns marks : List Note) (outs lost : List Out) → AnsweredBy (answering owed defers) ms outs
-      → Parts outs fs ns marks lost → OneEach owed IsBroken 0 ms fs ns marks (length lost)
+      → Parts outs fs ns marks lost → OnePerMessage owed IsBroken 0 ms fs ns marks (length lost)
   each-part ms fs ns marks outs lost answered parts =
-      OneEach-weaken (answering owed defers) owed IsBroken (λ seq m out pays. pays.0) 0 ms fs ns marks (length lost)
-      (OneEach-parts (answering owed defers) IsBroken (λ seq m out pays broken. pays.2 broken) 0 ms fs ns marks outs lost answered parts)
+      OnePerMessage-weaken (answering owed defers) owed IsBroken (λ seq m out pays. pays.0) 0 ms fs ns marks (length lost)
+      (OnePerMessage-parts (answering owed defers) IsBroken (λ seq m out pays broken. pays.2 broken) 0 ms fs ns marks outs lost answered parts)
 
   -- no mark came where no reply comes later
   none-marked : defers ≡ false → (ms fs : List (List ℕ)) (ns marks : List Note) (outs lost : List Out) → AnsweredBy (answering owed defers) ms outs
@@ -137,7 +137,7 @@ module _ (owed : Owing) (defers : Bool) where
     abbrev parted : Split relays.gone (outs_of parcels) relays.sent relays.notes relays.marks relays.lost
     parted = split relays.outs relays.gone (outs_of parcels) relays.sent relays.notes relays.marks relays.lost relays.mixed relays.parts
 
-    each : OneEach owed IsBroken 0 ms parted.at_once relays.notes relays.marks (length parted.lost_at_once)
+    each : OnePerMessage owed IsBroken 0 ms parted.at_once relays.notes relays.marks (length parted.lost_at_once)
     each = each-part ms parted.at_once relays.notes relays.marks (outs_of parcels) parted.lost_at_once answered parted.parts
 
     book : IsBookOf b'.book relays.marks (map with_tag (lates_in parcels)) relays.gone
@@ -148,12 +148,12 @@ module _ (owed : Owing) (defers : Bool) where
 
     -- no late frame was let go where no reply comes later
     none-late : defers ≡ false → relays.gone ≡ []
-    none-late never = none-gone relays.gone (subst (λ (marks : List Tag). Matched marks (tags_of relays.gone)) (unmarked never)
+    none-late never = none-gone relays.gone (subst (λ (marks : List Tag). AreMatched marks (tags_of relays.gone)) (unmarked never)
         (IsBookOf-matches b'.book relays.marks (map with_tag (lates_in parcels)) relays.gone book))
 
     pub UpToOrder-prompt : defers ≡ false → UpToOrder owed IsBroken ms relays.sent relays.notes relays.lost
     UpToOrder-prompt never =
-        subst (λ (l : List Note × List (List ℕ) × List Out). OneEach owed IsBroken 0 ms l.1 relays.notes l.0 (length l.2))
+        subst (λ (l : List Note × List (List ℕ) × List Out). OnePerMessage owed IsBroken 0 ms l.1 relays.notes l.0 (length l.2))
         (λ i. (unmarked never i, sent i, missed i)) each
       where
         none : (parted.late ≡ []) × (parted.lost_late ≡ [])
@@ -167,8 +167,8 @@ module _ (owed : Owing) (defers : Bool) where
         missed = LeavesOut-none relays.lost parted.lost_at_once
             (subst (λ (late : List LateSeen). LeavesOut (map late_out late) relays.lost parted.lost_at_once) none.1 parted.missed)
 
-    pub OneEachLater-kept : OneEachLater owed IsBroken ms relays.sent relays.notes relays.lost
-    OneEachLater-kept = record {
+    pub OnePerMessageLater-kept : OnePerMessageLater owed IsBroken ms relays.sent relays.notes relays.lost
+    OnePerMessageLater-kept = record {
       at_once = parted.at_once;
       marks = relays.marks;
       lost_at_once = parted.lost_at_once;
@@ -201,9 +201,9 @@ module _ (owed : Owing) (defers : Bool) where
 
     pub NoneHeldBack-kept : (came : List LateSeen) (recorded : Type 0) → lates_in parcels ≡ came
         → (recorded → (b'.book.unrecorded ≡ 0) ⊎ (defers ≡ false)) → NoneHeldBack owed IsBroken came recorded ms relays.sent relays.notes relays.lost
-    unfolding OneEachLater-kept
+    unfolding OnePerMessageLater-kept
     NoneHeldBack-kept came recorded same kept = record {
-      one_each = OneEachLater-kept;
+      one_per_message = OnePerMessageLater-kept;
       arrived = λ r. arrived-by came same (kept r);
       let_go = λ r. let-go-by came same (kept r);
     }

@@ -18,7 +18,7 @@ use Rattle.fuse_sender.specs.Hearing.{Hears}
 use Rattle.atomic_table.specs.Seated.{TableId}
 use Rattle.std.specs.List.Sorted.{IsPermutation}
 use Rattle.fuse_loop.specs.Lines.{IsAlone, IsDrained, LinesState, lates_in, notices_in}
-use Rattle.fuse_core.specs.OneEach.{Owing}
+use Rattle.fuse_core.specs.OnePerMessage.{Owing}
 use Rattle.fuse_sender.specs.Pairing.{outs_of}
 use Rattle.fuse_loop.specs.Progress.{IntakeState}
 use Rattle.fuse_sender.specs.Relays.{IsRelayed, RelayState, Relays}

@@ -6,8 +6,8 @@ use Rattle.std.proofs.lemmas.Option.{none-some}
 use Rattle.fuse_reply.specs.Late.{LateSeen}
 use Rattle.fuse_book.specs.Book.{IsBookOf, tags_of}
 use Rattle.fuse_core.specs.Marks.{late_tag}
-use Rattle.fuse_book.specs.Matched.{HasUnused, Matched, Tag}
-use Rattle.fuse_workers.specs.OneEachLater.{EachLetGo}
+use Rattle.fuse_book.specs.AreMatched.{HasUnused, AreMatched, Tag}
+use Rattle.fuse_workers.specs.OnePerMessageLater.{EachLetGo}
 use Rattle.fuse_sender.specs.Relays.{IsLateReply, is_own, with_tag}
 use Rattle.fuse_book.specs.declared.book.Book.{Book}
 use Rattle.fuse_book.proofs.Bookkeeping.{IsBookOf-came, IsBookOf-matches, IsBookOf-sent, first_or_later, Contains-first, Contains-later}
@@ -41,7 +41,7 @@ all-under P (l ∷ came) all = All-cons (λ x. P (with_tag x)) l came (All-head 
     (all-under P came (All-tail P (with_tag l) (map with_tag came) all))
 
 -- without a mark none was let go
-pub none-gone : (gone : List (Tag × LateSeen)) → Matched [] (tags_of gone) → gone ≡ []
+pub none-gone : (gone : List (Tag × LateSeen)) → AreMatched [] (tags_of gone) → gone ≡ []
 none-gone [] matched = refl
 none-gone (g ∷ gone) matched = absurd (none-some _ matched.1)
 
@@ -65,8 +65,8 @@ module _ (book : Book LateSeen) (marks : List Tag) (came gone : List (Tag × Lat
   their-tags = ap tags_of their-own ∙ tags-frames (frames_gone gone)
 
   -- they go to different marks, each with its number and id
-  pub gone-matched : Matched marks (map late_tag (frames_gone gone))
-  gone-matched = subst (λ (tags : List Tag). Matched marks tags) their-tags (IsBookOf-matches book marks came gone is)
+  pub gone-matched : AreMatched marks (map late_tag (frames_gone gone))
+  gone-matched = subst (λ (tags : List Tag). AreMatched marks tags) their-tags (IsBookOf-matches book marks came gone is)
 
 module _ (book : Book LateSeen) (marks : List Tag) (came : List LateSeen) (gone : List (Tag × LateSeen))
     (is : IsBookOf book marks (map with_tag came) gone) (own : AllByRecursion (λ l. is_own l.0 l.1 ≡ true) gone) (whole : book.unrecorded ≡ 0) where

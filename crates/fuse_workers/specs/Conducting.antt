@@ -6,7 +6,7 @@ use Rattle.fuse_line.specs.declared.hand.Kind.TheVariants.{First}
 use Rattle.fuse_reply.specs.Parcel.{is_prompt}
 use Rattle.fuse_reply.specs.declared.parcel.Parcel.{Parcel}
 use Rattle.fuse_loop.specs.Lines.{lates_in, notices_in}
-use Rattle.fuse_core.specs.OneEach.{Owing}
+use Rattle.fuse_core.specs.OnePerMessage.{Owing}
 use Rattle.fuse_loop.specs.Progress.{IntakeState}
 use Rattle.fuse_sender.specs.HandingOn.{HandsOn}
 use Rattle.fuse_sender.specs.Relays.{RelayState}

@@ -1,3 +1,3 @@
 pub mod Promises
 pub mod Conducting
-pub mod OneEachLater
+pub mod OnePerMessageLater

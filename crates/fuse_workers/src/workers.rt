@@ -15,8 +15,8 @@ ghost use Rattle.fuse_loop.specs.EventLoop.{Run};
 ghost use Rattle.fuse_sender.specs.Hearing.{Hears};
 ghost use Rattle.fuse_loop.specs.Incoming.{IsBroken};
 ghost use Rattle.fuse_loop.specs.Lines.{IsAlone, IsDrained, IsOn, IsUnused, ended_by, late_of, unasked_of};
-ghost use Rattle.fuse_core.specs.OneEach.{UpToOrder};
-ghost use Rattle.fuse_workers.specs.OneEachLater.{NoneHeldBack};
+ghost use Rattle.fuse_core.specs.OnePerMessage.{UpToOrder};
+ghost use Rattle.fuse_workers.specs.OnePerMessageLater.{NoneHeldBack};
 ghost use Rattle.fuse_sender.specs.Relays.{IsRelayed, RelayState, is_own, relay_of};
 ghost use Rattle.fuse_jobs.specs.Callers.{CallerOn};
 ghost use Rattle.fuse_workers.specs.Promises.{lines_of};
@@ -487,7 +487,7 @@ pub fn run_workers<R: Threads + Wait + AllocGlobal + Sync, W: Work, S: Source, K
         (progress (S.told source) (K.told sink) nothing_yet [])
         (progress (S.told result.source) (K.told result.sink) result.transcript (unasked_of result.buffers)) }
 
-    // The same where replies may come later: see `OneEachLater` and `NoneHeldBack`.
+    // The same where replies may come later: see `OnePerMessageLater` and `NoneHeldBack`.
     ensures later { Run (NoneHeldBack (W.owed work.now) IsBroken (late_of result.buffers)
         (result.transcript.unrecorded ≡ 0)) result.end
         (progress (S.told source) (K.told sink) nothing_yet [])

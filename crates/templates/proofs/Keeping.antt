@@ -10,7 +10,7 @@ use Rattle.fuse_reply.specs.declared.door.NoDoor.{NoDoor}
 use Rattle.fuse_reply.specs.declared.out.Out.{Out}
 use Rattle.fuse_reply.specs.declared.out.Out.TheVariants.{Frame}
 use Rattle.fuse_wire.specs.ErrorNumbers.{EACCES}
-use Rattle.fuse_dispatch.specs.Owed.{Answers}
+use Rattle.fuse_dispatch.specs.OwedMessage.{Answers}
 use Rattle.fuse_dispatch.specs.Promise.{MayAnswer}
 use Rattle.fuse_dispatch.proofs.Answering.{Answered-error}
 use Rattle.templates.specs.KeeperOnly.{IsDeniedOr}

@@ -7,7 +7,7 @@ use Rattle.fuse_reply.specs.Door.{DoorSeen}
 use Rattle.fuse_reply.specs.declared.door.NoDoor.{NoDoor}
 use Rattle.fuse_reply.specs.declared.out.Out.{Out}
 use Rattle.fuse_dispatch.specs.Kind.{IsOfKind}
-use Rattle.fuse_dispatch.specs.Owed.{Answers}
+use Rattle.fuse_dispatch.specs.OwedMessage.{Answers}
 use Rattle.fuse_dispatch.specs.Promise.{MayAnswer}
 use Rattle.fuse_dispatch.proofs.Answering.{Answered-error, Answered-frame}
 use Rattle.fuse_wire.specs.ErrorNumbers.{EDEADLK, ENOLCK}

@@ -15,7 +15,7 @@ use Rattle.fuse_reply.specs.declared.door.NoDoor.TheVariants.{Shut, Starved}
 use Rattle.fuse_reply.specs.declared.out.Out.{Out}
 use Rattle.fuse_reply.specs.declared.out.Out.TheVariants.{Frame}
 use Rattle.fuse_dispatch.specs.Defaults.{default_answer, default_mark}
-use Rattle.fuse_dispatch.specs.Owed.{IsPutOff}
+use Rattle.fuse_dispatch.specs.OwedMessage.{IsPutOff}
 use Rattle.fuse_dispatch.specs.Promise.{Promise}
 
 -- the kernel sends the calls for locks, in place of keeping them itself

@@ -1,7 +1,7 @@
 use Rattle.std.proofs.Common.{◌≡◌, ◌⊎◌, None, subst, sym}
 use Rattle.std.specs.HashMap.{get}
 use Rattle.std.specs.Map.{lookup, update}
-use Rattle.fuse_book.specs.Matched.{same}
+use Rattle.fuse_book.specs.AreMatched.{same}
 use Rattle.fuse_book.proofs.Bookkeeping.{put_or_none, same_not}
 use Rattle.fuse_book.proofs.book.keep.Goals as goal
 

@@ -12,7 +12,7 @@ use Rattle.fuse_sender.specs.HandingOn.{answered_last}
 use Rattle.fuse_sender.specs.Hearing.{StopsWith}
 use Rattle.fuse_loop.specs.Incoming.{id_of}
 use Rattle.fuse_sender.specs.declared.stopped.Stopped.{Stopped}
-use Rattle.fuse_core.specs.OneEach.{Owing, number_of}
+use Rattle.fuse_core.specs.OnePerMessage.{Owing, number_of}
 use Rattle.fuse_jobs.specs.Answered.{IsCaller}
 use Rattle.fuse_loop.specs.Answering.{answering}
 use Rattle.fuse_loop.proofs.LoopSteps.{destroy-not-broken}

@@ -3,7 +3,7 @@ use Rattle.fuse_line.specs.Hand.{with_put}
 use Rattle.fuse_line.specs.declared.hand.Hand.{Hand}
 use Rattle.fuse_reply.specs.declared.parcel.Parcel.{Parcel}
 use Rattle.fuse_reply.specs.declared.parcel.Parcel.TheVariants.{Prompt}
-use Rattle.fuse_core.specs.OneEach.{Owing}
+use Rattle.fuse_core.specs.OnePerMessage.{Owing}
 use Rattle.fuse_jobs.specs.Answered.{IsCaller}
 use Rattle.fuse_loop.specs.Answering.{answering, job_of}
 use Rattle.fuse_core.specs.declared.state.Job.{Job}

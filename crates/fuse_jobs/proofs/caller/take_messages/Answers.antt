@@ -2,7 +2,7 @@ use Rattle.std.proofs.Common.{◌++◌, ◌∷◌, [], ◌∙◌, ℕ, arith, le
 use Rattle.fuse_line.specs.declared.hand.Hand.{Hand}
 use Rattle.fuse_reply.specs.declared.parcel.Parcel.{Parcel}
 use Rattle.fuse_sender.specs.Hearing.{HearsLast}
-use Rattle.fuse_core.specs.OneEach.{Owing, number_of}
+use Rattle.fuse_core.specs.OnePerMessage.{Owing, number_of}
 use Rattle.fuse_jobs.specs.Answered.{IsCaller}
 use Rattle.fuse_loop.specs.Answering.{answering}
 use Rattle.fuse_core.specs.declared.state.Job.{Job}

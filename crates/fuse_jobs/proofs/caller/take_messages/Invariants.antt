@@ -1,6 +1,6 @@
 use Rattle.std.proofs.Common.{◌≡◌, ℕ, List, length}
 use Rattle.fuse_sender.specs.Hearing.{HearsOn}
-use Rattle.fuse_core.specs.OneEach.{number_of}
+use Rattle.fuse_core.specs.OnePerMessage.{number_of}
 use Rattle.fuse_jobs.specs.Answered.{IsCaller}
 use Rattle.fuse_loop.specs.Answering.{answering}
 use Rattle.fuse_jobs.proofs.caller.take_messages.Given as goal

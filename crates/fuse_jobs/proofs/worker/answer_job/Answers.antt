@@ -1,6 +1,6 @@
 use Rattle.std.proofs.Common.{ℕ, List, ap, subst}
 use Rattle.fuse_reply.specs.declared.parcel.Parcel.TheVariants.{Prompt}
-use Rattle.fuse_core.specs.OneEach.{Owing}
+use Rattle.fuse_core.specs.OnePerMessage.{Owing}
 use Rattle.fuse_loop.specs.Answering.{answering}
 use Rattle.fuse_jobs.proofs.worker.answer_job.Goals as goal
 

@@ -2,7 +2,7 @@ use Rattle.std.proofs.Common.{subst, sym}
 use Rattle.fuse_line.specs.Hand.{with_put, with_taken}
 use Rattle.fuse_line.specs.declared.hand.Hand.{Hand}
 use Rattle.fuse_reply.specs.declared.parcel.Parcel.{Parcel}
-use Rattle.fuse_core.specs.OneEach.{Owing}
+use Rattle.fuse_core.specs.OnePerMessage.{Owing}
 use Rattle.fuse_jobs.specs.Answered.{IsServed}
 use Rattle.fuse_loop.specs.Answering.{answering}
 use Rattle.fuse_core.specs.declared.state.Job.{Job}

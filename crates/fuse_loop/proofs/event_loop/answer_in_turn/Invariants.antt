@@ -1,7 +1,7 @@
 use Rattle.std.proofs.Common.{◌≡◌, length}
 use Rattle.fuse_loop.specs.EventLoop.{RunOn}
 use Rattle.fuse_loop.specs.Lines.{notices_in}
-use Rattle.fuse_core.specs.OneEach.{number_of}
+use Rattle.fuse_core.specs.OnePerMessage.{number_of}
 use Rattle.fuse_loop.specs.Progress.{beside}
 use Rattle.fuse_loop.proofs.event_loop.answer_in_turn.Given as goal
 

@@ -3,7 +3,7 @@ use Rattle.fuse_line.specs.declared.hand.Hand.{Hand}
 use Rattle.fuse_reply.specs.declared.parcel.Parcel.{Parcel}
 use Rattle.fuse_loop.specs.EventLoop.{Run}
 use Rattle.fuse_loop.specs.Lines.{LinesState, notices_in, unasked_of}
-use Rattle.fuse_core.specs.OneEach.{InOrder}
+use Rattle.fuse_core.specs.OnePerMessage.{InOrder}
 use Rattle.fuse_loop.specs.Progress.{Progress, beside, nothing_yet, progress}
 use Rattle.fuse_loop.proofs.Quieting.{PassesOnAll-quiet}
 use Rattle.fuse_loop.proofs.event_loop.run_inline.Goals as goal

@@ -1,10 +1,10 @@
 -- What came of the later messages.
 use Rattle.std.proofs.Common.{◌≡◌, ◌≢◌, [], Some, inr, rules, subst, sym}
 use Rattle.fuse_run.specs.Accounted.{Accounted}
-use Rattle.fuse_dispatch.specs.Owed.{Owed}
+use Rattle.fuse_dispatch.specs.OwedMessage.{OwedByPromise}
 use Rattle.fuse_loop.specs.EventLoop.{Run}
 use Rattle.fuse_loop.specs.Lines.{unasked_of}
-use Rattle.fuse_core.specs.OneEach.{Accounting}
+use Rattle.fuse_core.specs.OnePerMessage.{Accounting}
 use Rattle.fuse_loop.specs.Progress.{Progress, added, progress}
 use Rattle.fuse_loop.proofs.Adding.{Run-added}
 use Rattle.fuse_run.proofs.runnable.serve.Goals as goal
@@ -14,7 +14,7 @@ returns-clause-ends g c =
     let run = c.answer_all-run.result in
     let left = c.conclude.result in
     let last = unasked_of run.buffers in
-    let accounted : Accounting = Accounted c.args.n_threads g.FS.Filesystem.promise.defers (Owed g.FS.Filesystem.promise
+    let accounted : Accounting = Accounted c.args.n_threads g.FS.Filesystem.promise.defers (OwedByPromise g.FS.Filesystem.promise
     c.args.shared.now.service.handler.filesystem
     c.args.shared.now.service.rule.acl c.args.shared.now.service.rule.owner) in
     let some : c.args.n_threads ≢ Some 0 = search rules in

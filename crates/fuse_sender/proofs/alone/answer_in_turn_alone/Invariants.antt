@@ -2,7 +2,7 @@ use Rattle.std.proofs.Common.{◌≡◌, ◌++◌, [], ℕ, List, length}
 use Rattle.fuse_line.specs.Hand.{hand}
 use Rattle.fuse_line.specs.declared.hand.Kind.TheVariants.{First}
 use Rattle.fuse_reply.specs.declared.parcel.Parcel.{Parcel}
-use Rattle.fuse_core.specs.OneEach.{number_of}
+use Rattle.fuse_core.specs.OnePerMessage.{number_of}
 use Rattle.fuse_sender.specs.Pairing.{outs_of}
 use Rattle.fuse_sender.specs.Relays.{relay_of}
 use Rattle.fuse_loop.specs.Answering.{answering}

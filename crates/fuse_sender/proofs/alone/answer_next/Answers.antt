@@ -9,7 +9,7 @@ use Rattle.fuse_sender.specs.Relays.{relay_of}
 use Rattle.fuse_sender.specs.declared.stopped.Stopped.{Stopped}
 use Rattle.fuse_loop.specs.Answering.{answering}
 use Rattle.fuse_loop.specs.Incoming.{id_of}
-use Rattle.fuse_core.specs.OneEach.{Owing}
+use Rattle.fuse_core.specs.OnePerMessage.{Owing}
 use Rattle.fuse_loop.proofs.LoopSteps.{destroy-not-broken}
 use Rattle.fuse_sender.proofs.alone.answer_next.Goals as goal
 

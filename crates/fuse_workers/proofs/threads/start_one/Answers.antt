@@ -2,7 +2,7 @@ use Rattle.std.proofs.Common.{[], rules, subst, sym}
 use Rattle.fuse_line.specs.Hand.{joined, with_other}
 use Rattle.fuse_line.specs.declared.hand.Hand.{Hand}
 use Rattle.fuse_reply.specs.declared.parcel.Parcel.{Parcel}
-use Rattle.fuse_core.specs.OneEach.{Owing}
+use Rattle.fuse_core.specs.OnePerMessage.{Owing}
 use Rattle.fuse_jobs.specs.Answered.{IsCaller, IsServed}
 use Rattle.fuse_loop.specs.Answering.{answering}
 use Rattle.fuse_core.specs.declared.state.Job.{Job}

@@ -1,6 +1,6 @@
 use Rattle.std.proofs.Common.{◌∙◌, Some}
 use Rattle.std.specs.HashMap.{get}
-use Rattle.fuse_book.specs.Matched.{Tag, same}
+use Rattle.fuse_book.specs.AreMatched.{Tag, same}
 use Rattle.fuse_book.proofs.Bookkeeping.{Counts-after, EachWaiting-after, IsBookOf-after, none_more, same_not}
 use Rattle.fuse_book.proofs.book.Book.late.Goals as goal
 

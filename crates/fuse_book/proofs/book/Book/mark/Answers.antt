@@ -2,7 +2,7 @@ use Rattle.std.proofs.Common.{◌∙◌, ◌++◌, [], ◌∷◌, None, append-n
 use Rattle.std.specs.HashMap.{get}
 use Rattle.std.proofs.lemmas.List.Sums.{sum_by_push}
 use Rattle.fuse_book.specs.Book.{IsBookOf, tagged}
-use Rattle.fuse_book.specs.Matched.{Tag, same}
+use Rattle.fuse_book.specs.AreMatched.{Tag, same}
 use Rattle.fuse_book.proofs.Bookkeeping.{Counts-after, EachWaiting-after, IsBookOf-after, same_not}
 use Rattle.fuse_book.proofs.Matching.{once_if_same}
 use Rattle.fuse_book.proofs.book.Book.mark.Goals as goal

@@ -1,7 +1,7 @@
 use Rattle.std.proofs.Common.{subst, sym}
 use Rattle.fuse_reply.specs.Late.{LateSeen}
 use Rattle.fuse_reply.specs.declared.out.Out.{Out}
-use Rattle.fuse_book.specs.Matched.{Tag}
+use Rattle.fuse_book.specs.AreMatched.{Tag}
 use Rattle.fuse_sender.specs.Relays.{SendsOut, TakesMark, is_own, relay_of}
 use Rattle.fuse_book.specs.declared.book.Book.{Book}
 use Rattle.fuse_sender.proofs.relay.Relay.deliver.Goals as goal

@@ -79,8 +79,8 @@ OwedBy promise fs request (Calls c) seq id out = OwedCall promise fs request c s
 abbrev pub OwedMessage : Owes → SessionACL → (owner : ℕ) → (seq : ℕ) → (m : List ℕ) → Out → Type 0
 OwedMessage owes acl owner seq m out = owes (request_of (header_fields m)) (verdict acl owner m) seq (id_of m) out
 
-abbrev pub Owed : {F : Type 0} → Promise F → F → SessionACL → (owner : ℕ) → (seq : ℕ) → (m : List ℕ) → Out → Type 0
-Owed promise fs = OwedMessage (OwedBy promise fs)
+abbrev pub OwedByPromise : {F : Type 0} → Promise F → F → SessionACL → (owner : ℕ) → (seq : ℕ) → (m : List ℕ) → Out → Type 0
+OwedByPromise promise fs = OwedMessage (OwedBy promise fs)
 
 -- where the header says DESTROY, the verdict is that the run ends
 ends-destroy : (acl : SessionACL) (owner : ℕ) (r : Result Header RequestError) (rest : List ℕ)
@@ -93,18 +93,18 @@ ends-destroy acl owner (Ok h) rest is = by_test (h.opcode == FUSE_DESTROY) is wh
   by_test false is = absurd (let no : ⊥ = cc in no)
 
 -- DESTROY is owed an empty reply
-pub Owed-destroy : (owes : Owes) → ((request : Request) (seq id : ℕ) → owes request Ends seq id (Frame (reply id Empty)))
+pub OwedMessage-destroy : (owes : Owes) → ((request : Request) (seq id : ℕ) → owes request Ends seq id (Frame (reply id Empty)))
     → (acl : SessionACL) (owner seq : ℕ) (m : List ℕ) → incoming m ≡ Destroy
     → OwedMessage owes acl owner seq m (Frame (reply (id_of m) Empty))
-Owed-destroy owes owes_end acl owner seq m is =
+OwedMessage-destroy owes owes_end acl owner seq m is =
     subst (λ (v : Verdict). owes (request_of (header_fields m)) v seq (id_of m) (Frame (reply (id_of m) Empty)))
     (sym (ends-destroy acl owner (header m) (body m) is)) (owes_end (request_of (header_fields m)) seq (id_of m))
 
 -- and nothing else
-pub Owed-destroy-alone : (owes : Owes)
+pub OwedMessage-destroy-alone : (owes : Owes)
     → ((request : Request) (seq id : ℕ) (out : Out) → owes request Ends seq id out → out ≡ Frame (reply id Empty))
     → (acl : SessionACL) (owner seq : ℕ) (m : List ℕ) (out : Out) → incoming m ≡ Destroy
     → OwedMessage owes acl owner seq m out → out ≡ Frame (reply (id_of m) Empty)
-Owed-destroy-alone owes end_alone acl owner seq m out is owed =
+OwedMessage-destroy-alone owes end_alone acl owner seq m out is owed =
     end_alone (request_of (header_fields m)) seq (id_of m) out
     (subst (λ (v : Verdict). owes (request_of (header_fields m)) v seq (id_of m) out) (ends-destroy acl owner (header m) (body m) is) owed)

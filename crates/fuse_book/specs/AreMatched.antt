@@ -19,6 +19,6 @@ abbrev pub HasUnused : (marks sent : List Tag) → Tag → Type 0
 HasUnused marks sent tag = times tag sent < times tag marks
 
 -- The late frames go to different marks, each with its tag.
-abbrev pub Matched : (marks late : List Tag) → Type 0
-Matched marks [] = Unit {0}
-Matched marks (tag ∷ late) = (i : ℕ) × (slice_get marks i ≡ Some tag) × Matched (remove marks i) late
+abbrev pub AreMatched : (marks late : List Tag) → Type 0
+AreMatched marks [] = Unit {0}
+AreMatched marks (tag ∷ late) = (i : ℕ) × (slice_get marks i ≡ Some tag) × AreMatched (remove marks i) late

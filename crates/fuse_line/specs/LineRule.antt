@@ -37,7 +37,7 @@ SoundAs inner Spent others put taken = (others ≡ 0) × (put ≡ []) × (taken 
 abbrev pub IsSound : {T : Type 0} → (T → Bool) → Hand T → Type 0
 IsSound inner v = SoundAs inner v.kind v.others v.put v.taken
 
-pub record MovedOnce {T : Type 0} (inner : T → Bool) (items : List T) (views : List (Hand T)) : Type 0 where
+pub record LineRule {T : Type 0} (inner : T → Bool) (items : List T) (views : List (Hand T)) : Type 0 where
   -- each item was pushed as often as it was taken or lies in the line
   pub moved : IsPermutation (puts views) (takens views ++ items)
   -- one pass is the first

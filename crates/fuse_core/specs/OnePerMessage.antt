@@ -31,17 +31,17 @@ InOrder owed place (m ∷ ms) frames notes lost =
 
 -- The same with some place for the first one, with marks of replies that come later, a number and an id each, and with a count of
 -- the lost.
-abbrev pub OneEach : Owing → (List ℕ → Type 0) → (place : ℕ) → (messages frames : List (List ℕ)) → (notes marks : List Noted) → (lost : ℕ) → Type 0
-OneEach owed broken place [] frames notes marks lost = (frames ≡ []) × (notes ≡ []) × (marks ≡ []) × (lost ≡ 0)
-OneEach owed broken place (m ∷ ms) frames notes marks lost =
+abbrev pub OnePerMessage : Owing → (List ℕ → Type 0) → (place : ℕ) → (messages frames : List (List ℕ)) → (notes marks : List Noted) → (lost : ℕ) → Type 0
+OnePerMessage owed broken place [] frames notes marks lost = (frames ≡ []) × (notes ≡ []) × (marks ≡ []) × (lost ≡ 0)
+OnePerMessage owed broken place (m ∷ ms) frames notes marks lost =
     ((i : ℕ) × (f : List ℕ) × (slice_get frames i ≡ Some f) × owed (number_of place) m (Frame f)
-    × OneEach owed broken (suc place) ms (remove frames i) notes marks lost)
+    × OnePerMessage owed broken (suc place) ms (remove frames i) notes marks lost)
     ⊎ ((i : ℕ) × (n : Noted) × (slice_get notes i ≡ Some n) × owed (number_of place) m (Note (record { 0 = n.0 }) n.1)
-    × OneEach owed broken (suc place) ms frames (remove notes i) marks lost)
+    × OnePerMessage owed broken (suc place) ms frames (remove notes i) marks lost)
     ⊎ ((i : ℕ) × (n : Noted) × (slice_get marks i ≡ Some n) × owed (number_of place) m (Deferred n.0 (record { 0 = n.1 }))
-    × OneEach owed broken (suc place) ms frames notes (remove marks i) lost)
-    ⊎ ((fewer : ℕ) × (lost ≡ suc fewer) × ¬ (broken m) × OneEach owed broken (suc place) ms frames notes marks fewer)
+    × OnePerMessage owed broken (suc place) ms frames notes (remove marks i) lost)
+    ⊎ ((fewer : ℕ) × (lost ≡ suc fewer) × ¬ (broken m) × OnePerMessage owed broken (suc place) ms frames notes marks fewer)
 
 -- one for each message that is answered, up to order, with no reply that comes later
 abbrev pub UpToOrder : Owing → (List ℕ → Type 0) → Accounting
-UpToOrder owed broken messages frames notes lost = OneEach owed broken 0 messages frames notes [] (length lost)
+UpToOrder owed broken messages frames notes lost = OnePerMessage owed broken 0 messages frames notes [] (length lost)
