@@ -10,5 +10,5 @@ mod program;
 mod status;
 
 pub use arguments::{GenForm, LoadForm, ServeForm, gen_form, load_form, serve_form};
-pub use program::{Served, serve};
+pub use program::{Served, run, serve};
 pub use status::failure_status;

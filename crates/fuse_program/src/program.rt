@@ -12,7 +12,8 @@ use crate::status::{failure_status, status_of};
 use fuse_config::Config;
 use fuse_session::{Ended, mount};
 use fuse_tree::{Hello, write_stream};
-use fuse_wire::{ByteSink, ByteSource, StreamSink, StreamSource, write_all};
+use fuse_wire::{ByteSink, ByteSource, StdSink, StdSource, StreamSink, StreamSource, write_all};
+use std::io::{Read, Write};
 use std::sync::Wait;
 use std::thread::Threads;
 
@@ -175,4 +176,17 @@ pub fn serve<R: Threads + Wait + AllocGlobal + Sync, I: ByteSource, O: ByteSink 
             output,
         },
     }
+}
+
+/// The same over these streams of std, of which nothing is told: the exit status.
+pub fn run<R: Threads + Wait + AllocGlobal + Sync, I: Read + Drop, O: Write + Send + Drop>(
+    rt: &R,
+    words: &[&[u8]],
+    input: I,
+    output: O,
+) -> u8
+    ensures form { (result ≡ 2) ↔ IsNoForm (map (λ w. w.now) words.now) }
+    ensures statuses { IsExit result }
+{
+    serve(rt, words, StdSource::new(input), StdSink::new(output)).status
 }

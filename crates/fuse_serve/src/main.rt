@@ -2,32 +2,11 @@
 //! send to it, or serves these from memory and says what that came to.
 #![tactic(auto)]
 
-ghost use Rattle.std.specs.Prelude.{◌≡◌, ◌↔◌, IfNone, IfSome, map};
-ghost use Rattle.fuse_program.specs.Form.{IsNoForm, form_of};
-ghost use Rattle.fuse_program.specs.Status.{IsExit};
+ghost use Rattle.std.specs.Prelude.{◌≡◌, IfNone, IfSome, map};
+ghost use Rattle.fuse_program.specs.Form.{form_of};
 
-#[cfg(test)]
-mod arguments_tests;
-#[cfg(test)]
-mod asserts;
-#[cfg(test)]
-mod fault_tests;
-#[cfg(test)]
-mod generator_tests;
-#[cfg(test)]
-mod load_tests;
-#[cfg(test)]
-mod runs;
-#[cfg(test)]
-mod sweep_tests;
-#[cfg(test)]
-mod tests;
-#[cfg(test)]
-mod tree_tests;
-
-use fuse_program::{failure_status, serve, serve_form};
+use fuse_program::{failure_status, run, serve_form};
 use fuse_session::SessionError;
-use fuse_wire::{StdSink, StdSource};
 use std::alloc::{AllocError, Global};
 use std::io::{BufReader, Read, Write};
 use std::process::ExitCode;
@@ -48,19 +27,6 @@ fn read_ahead(words: &[&[u8]]) -> usize
         Some(_) => READ_AHEAD,
         None => 0,
     }
-}
-
-/// Runs the program on these arguments, without its own name, over these streams, and says with which status it ends.
-fn run<R: Threads + Wait + AllocGlobal + Sync, I: Read + Drop, O: Write + Send + Drop>(
-    rt: &R,
-    arguments: &[&[u8]],
-    input: I,
-    output: O,
-) -> u8
-    ensures form { (result ≡ 2) ↔ IsNoForm (map (λ argument. argument.now) arguments.now) }
-    ensures statuses { IsExit result }
-{
-    serve(rt, arguments, StdSource::new(input), StdSink::new(output)).status
 }
 
 /// The arguments of the process, without its own name.

@@ -1,14 +1,10 @@
-//! The tests of `fuse_workers`: the book of late frames, the steps of its core, and runs over memory on any number of
-//! threads, with works that count what they answer, hold an answer, put it off, or tell polls, and with devices that
-//! fail. They stand apart from the code that they test, since the gate proves a crate once more for the tests in it.
+//! The tests of `fuse_workers`: runs over memory on any number of threads, with works that count what they answer, hold an
+//! answer, put it off, or tell polls, and with devices that fail.
+//! They stand apart from the code that they test, since the gate proves a crate once more for the tests in it.
 #![tactic(auto)]
 
 #[cfg(test)]
 mod asserts;
-#[cfg(test)]
-mod book_tests;
-#[cfg(test)]
-mod core_tests;
 #[cfg(test)]
 mod deferred_tests;
 #[cfg(test)]

@@ -1,6 +1,6 @@
 // The tree in sessions from memory to memory: each request, and what it gets.
 use crate::asserts::expect_same;
-use crate::runs::{joined, mount_tree};
+use crate::sessions::{joined, mount_tree};
 use fuse_config::SessionACL;
 use fuse_header::RequestError;
 use fuse_session::{InvalidData, SessionError};
@@ -105,7 +105,7 @@ fn frames_of<R: AllocGlobal + Abort>(rt: &R, replies: &[Sent]) -> Vec<Vec<u8>> {
 }
 
 /// Puts a turn of this message at the end.
-pub(crate) fn put_turn<R: AllocGlobal + Abort>(rt: &R, turns: &mut Vec<Turn>, message: &[u8]) {
+fn put_turn<R: AllocGlobal + Abort>(rt: &R, turns: &mut Vec<Turn>, message: &[u8]) {
     let bytes = message.to_vec(rt.alloc()).expect(rt, "there is memory");
     let turn = Turn::Message(Items::from_vec(bytes));
     turns.push(turn).expect(rt, "there is memory");
@@ -122,7 +122,7 @@ fn after_init<R: AllocGlobal + Abort>(rt: &R, requests: &[Vec<u8>]) -> MemorySou
 }
 
 /// How often this frame stands among these.
-pub(crate) fn times(frames: &[Vec<u8>], frame: &[u8]) -> usize {
+fn times(frames: &[Vec<u8>], frame: &[u8]) -> usize {
     let mut count: usize = 0;
     for other in frames {
         if other.as_slice() == frame {

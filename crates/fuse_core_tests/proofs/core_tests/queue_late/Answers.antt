@@ -4,7 +4,7 @@ use Rattle.fuse_reply.specs.Answer.Answer.{Empty}
 use Rattle.fuse_reply.specs.Frame.{reply}
 use Rattle.fuse_reply.specs.declared.out.Out.TheVariants.{Frame}
 use Rattle.fuse_reply.proofs.LateReplies.{frame_for}
-use Rattle.fuse_workers_tests.proofs.core_tests.queue_late.Goals as goal
+use Rattle.fuse_core_tests.proofs.core_tests.queue_late.Goals as goal
 
 pub send_or_retire-requires : goal.send_or_retire-requires
 send_or_retire-requires g c =

@@ -1,9 +1,9 @@
 // What comes of events, from the state in which nothing has happened yet.
 use crate::asserts::expect_same;
+use fuse_core::{Event, Mark, State, run, step};
 use fuse_loop::{Doors, Ending, RunLine};
 use fuse_reply::{LateFrame, NoticeFrame, Out, Parcel, ReplyData, ReplyEmpty};
 use fuse_wire::{Errno, Items, PollHandle, RequestId};
-use fuse_workers::{Event, Mark, State, run, step};
 use std::process::Abort;
 use std::sync::Wait;
 

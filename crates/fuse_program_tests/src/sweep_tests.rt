@@ -7,10 +7,9 @@ use crate::asserts::expect_same;
 use crate::fault_tests::run_failing;
 use crate::generator_tests::{answers, five_requests_in_a_stream};
 use crate::runs::{form, form_on_two, joined, mount_tree};
-use crate::tree_tests::{put_turn, times};
 use fuse_config::SessionACL;
 use fuse_session::SessionError;
-use fuse_wire::{MemorySink, MemorySource, Sending, Turn};
+use fuse_wire::{Items, MemorySink, MemorySource, Sending, Turn};
 use std::process::Abort;
 use std::sync::Wait;
 use std::thread::Threads;
@@ -37,6 +36,13 @@ fn places() -> &'static [(Part, Part)] {
 /// This part of these bytes.
 fn part(bytes: &[u8], start: usize, end: usize) -> &[u8] {
     bytes.get(start..end).unwrap_or(b"not so many bytes")
+}
+
+/// Puts a turn of this message at the end.
+fn put_turn<R: AllocGlobal + Abort>(rt: &R, turns: &mut Vec<Turn>, message: &[u8]) {
+    let bytes = message.to_vec(rt.alloc()).expect(rt, "there is memory");
+    let turn = Turn::Message(Items::from_vec(bytes));
+    turns.push(turn).expect(rt, "there is memory");
 }
 
 /// The messages of the stream, and before the one at this place nothing, or a fault.
@@ -95,6 +101,17 @@ fn frames_in<R: AllocGlobal + Abort>(rt: &R, bytes: &[u8]) -> Vec<Vec<u8>> {
         start = end;
     }
     frames
+}
+
+/// How often this frame stands among these.
+fn times(frames: &[Vec<u8>], frame: &[u8]) -> usize {
+    let mut count: usize = 0;
+    for other in frames {
+        if other.as_slice() == frame {
+            count = count.saturating_add(1);
+        }
+    }
+    count
 }
 
 /// These bytes are those frames: in this order where one thread served, and in any order where two did.

@@ -1,6 +1,6 @@
 use Rattle.std.proofs.Common.{refl}
 use Rattle.fuse_wire.specs.Numbers.{number}
-use Rattle.fuse_serve.proofs.load_tests.notices_are_taken_and_not_counted.Goals as goal
+use Rattle.fuse_program_tests.proofs.load_tests.notices_are_taken_and_not_counted.Goals as goal
 
 pub send-requires : goal.send-requires
 unfolding number

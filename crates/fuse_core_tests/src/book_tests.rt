@@ -1,7 +1,7 @@
 // Marks and late frames in every order, many at once, and where memory is wanting.
 use crate::asserts::expect_same;
+use fuse_book::Book;
 use fuse_wire::RequestId;
-use fuse_workers::Book;
 use std::alloc::Global;
 use std::process::Abort;
 

@@ -1,6 +1,5 @@
 // Messages taken apart: their headers, what they ask, and why some are none.
 use crate::asserts::expect_same;
-use crate::vectors::INIT;
 use bitflags::Flags;
 use fuse_request::{
     AnyRequest, CopyFileRangeFile, FilenameInDir, ForgetList, ForgetOne, GetXAttrSize,
@@ -9,6 +8,12 @@ use fuse_request::{
 use std::alloc::{AllocError, Global};
 use std::fmt::{Debug, Display};
 use std::test::Fail;
+
+/// INIT of version 7.8.
+const INIT: &[u8; 104] =
+    b"\x68\0\0\0\x1a\0\0\0\x0d\xf0\xad\xba\xef\xbe\xad\xde\x88\x77\x66\x55\x44\x33\x22\x11\
+    \x0d\xd0\x01\xc0\xfe\xca\x01\xc0\x5e\xba\xde\xc0\0\0\0\0\x07\0\0\0\x08\0\0\0\0\x10\0\0\
+    \0\0\0\0\0\0\0\0\0\0\0\0\0\0\0\0\0\0\0\0\0\0\0\0\0\0\0\0\0\0\0\0\0\0\0\0\0\0\0\0\0\0\0\0\0\0\0\0\0\0\0\0";
 
 /// Why a message is no request, or its operation can't be told.
 pub(crate) fn refusal(message: &[u8]) -> Option<RequestError> {
@@ -42,7 +47,7 @@ fn asker(request: Request) -> [u64; 4] {
 
 #[test]
 fn tells_who_asks(rt: HostRuntime) -> Result<(), Fail> {
-    let message = INIT;
+    let message = *INIT;
     let request = AnyRequest::try_from(&message)?;
     let expected = [0xdead_beef_baad_f00d, 0xc001_d00d, 0xc001_cafe, 0xc0de_ba5e];
     expect_same(&rt, &asker(request.request()), &expected);
@@ -64,7 +69,7 @@ fn offered(message: &[u8]) -> Option<(u32, u32, u32, u64)> {
 
 #[test]
 fn a_second_word_of_capabilities_counts_with_its_bit(rt: HostRuntime) {
-    let mut second_word = INIT;
+    let mut second_word = *INIT;
     second_word[56] = 2;
     expect_same(&rt, &offered(&second_word), &Some((7, 8, 4096, 0)));
     second_word[55] = 0x40;
@@ -87,7 +92,7 @@ const REFUSED: &[(u8, [u8; 3], RequestError)] = &[
 #[test]
 fn refuses_what_is_no_request(rt: HostRuntime) {
     for &(counted, opcode, expected) in REFUSED {
-        let mut message = INIT;
+        let mut message = *INIT;
         message[0] = counted;
         message[4..7].copy_from_slice(&opcode);
         expect_same(&rt, &refusal(&message), &Some(expected));

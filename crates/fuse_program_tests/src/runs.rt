@@ -1,7 +1,6 @@
 // Runs of the program and of its tree over memory, and what they come to.
-use crate::run;
 use fuse_config::{Config, SessionACL};
-use fuse_program::{Served, serve};
+use fuse_program::{Served, run, serve};
 use fuse_session::{Ended, mount};
 use fuse_tree::Hello;
 use fuse_wire::{ByteRead, ByteSink, ByteSource, MemoryBytes, MemoryOut, Sink, Source};
