@@ -1,2 +1,1 @@
 mod Nodes
-mod Waiting

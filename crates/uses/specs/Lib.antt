@@ -1,3 +1,2 @@
 pub mod Notepad
 pub mod OneFile
-pub mod OneLock

@@ -3,10 +3,10 @@ use crate::asserts::expect_same;
 use crate::rows::{Bytes, INIT, NOTHING, OPENING, Row, frame};
 use crate::serving::{Rest, ended_well, expect_frames, expect_served, serve};
 use fuse_wire::Items;
+use locks::OneLock;
 use std::process::Abort;
 use std::sync::Wait;
 use std::thread::Threads;
-use uses::OneLock;
 
 // Linux's numbers: `include/uapi/linux/fuse.h`, `fcntl.h`, `errno-base.h` and `errno.h`.
 const FLUSH: u8 = 25;

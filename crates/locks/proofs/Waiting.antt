@@ -11,7 +11,7 @@ use Rattle.fuse_dispatch.specs.OwedMessage.{Answers}
 use Rattle.fuse_dispatch.specs.Promise.{MayAnswer}
 use Rattle.fuse_dispatch.proofs.Answering.{Answered-error, Answered-frame}
 use Rattle.fuse_wire.specs.ErrorNumbers.{EDEADLK, ENOLCK}
-use Rattle.uses.specs.OneLock.{ComesOfWaiting}
+use Rattle.locks.specs.OneLock.{ComesOfWaiting}
 
 -- where the promise allows the call to be done, or to fail by either error
 pub Answers-waiting : {F : Type 0} {may_answer : MayAnswer F} {fs : F} {request : Request} {c : Call} {id : ℕ}

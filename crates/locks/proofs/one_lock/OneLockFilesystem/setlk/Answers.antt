@@ -3,9 +3,9 @@ use Rattle.std.proofs.Common.{refl, inl, inr, sym, subst, Bool, arith}
 use Rattle.fuse_reply.specs.Answer.Answer.{Empty, Error}
 use Rattle.fuse_dispatch.proofs.Answering.{Answered-error, Answered-frame}
 use Rattle.fuse_wire.specs.ErrorNumbers.{EAGAIN, EDEADLK, ENOLCK}
-use Rattle.uses.specs.OneLock.{MayFail}
-use Rattle.uses.proofs.Waiting.{Answers-waiting}
-use Rattle.uses.proofs.one_lock.OneLockFilesystem.setlk.Goals as goal
+use Rattle.locks.specs.OneLock.{MayFail}
+use Rattle.locks.proofs.Waiting.{Answers-waiting}
+use Rattle.locks.proofs.one_lock.OneLockFilesystem.setlk.Goals as goal
 
 pub returns-then-typ-eq-UNLOCKED : goal.returns-then-typ-eq-UNLOCKED
 returns-then-typ-eq-UNLOCKED g c = Answered-frame Empty tt tt (inl refl) c.ok.ensures

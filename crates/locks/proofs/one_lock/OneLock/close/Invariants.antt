@@ -1,4 +1,4 @@
-use Rattle.uses.proofs.one_lock.OneLock.close.Given as goal
+use Rattle.locks.proofs.one_lock.OneLock.close.Given as goal
 
 -- a waiter less each time
 abbrev pub decreases-loop-waiter : goal.decreases-loop-waiter

@@ -5,7 +5,7 @@ use Rattle.fuse_reply.specs.Answer.Answer.{Error}
 use Rattle.fuse_reply.specs.Frame.{reply}
 use Rattle.fuse_reply.specs.declared.out.Out.TheVariants.{Frame}
 use Rattle.fuse_reply.proofs.LateReplies.{frame_for}
-use Rattle.uses.proofs.one_lock.refuse.Goals as goal
+use Rattle.locks.proofs.one_lock.refuse.Goals as goal
 
 pub returns-clause-frame : goal.returns-clause-frame
 returns-clause-frame c =

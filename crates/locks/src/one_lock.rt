@@ -6,9 +6,10 @@ ghost use Rattle.fuse_reply.specs.Frame.{reply};
 ghost use Rattle.fuse_reply.specs.Late.{IsFrameFor};
 ghost use Rattle.fuse_reply.specs.declared.out.Out.TheVariants.{Frame};
 ghost use Rattle.fuse_wire.specs.ErrorNumbers.{ENOLCK};
-ghost use Rattle.uses.specs.OneLock.{ComesOfWaiting, promise};
+ghost use Rattle.locks.specs.OneLock.{ComesOfWaiting, promise};
 
 use fuse_config::KernelConfig;
+use fuse_dispatch::{Filesystem, defaults};
 use fuse_notify::PollNotifier;
 use fuse_reply::{
     Later, NoDoor, Replied, ReplyAttr, ReplyBmap, ReplyCreate, ReplyData, ReplyDirectory,
@@ -16,7 +17,6 @@ use fuse_reply::{
     ReplyPoll, ReplyStatfs, ReplyWrite, ReplyXattr,
 };
 use fuse_request::{ForgetList, Request};
-use fuse_session::{Filesystem, defaults};
 use fuse_wire::{
     AccessFlags, BsdFileFlags, CopyFileRangeFlags, Errno, FileHandle, INodeNo, InitFlags,
     IoctlFlags, LockOwner, OpenFlags, PollEvents, PollFlags, RenameFlags, SystemTime, TimeOrNow,
