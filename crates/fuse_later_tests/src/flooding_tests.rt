@@ -112,17 +112,15 @@ fn tell<R: Wait + AllocGlobal>(rt: &R, made: Result<Notifier, NoMemory>) {
     }
 }
 
-/// What is left of a session on so many threads that gets these messages, where a notice was queued before its run.
-fn run_told_before<R: Threads + Wait + AllocGlobal + Abort + Send + Sync + Copy>(
+/// Serves a filesystem on so many threads, in a session for which a notice was queued before its run.
+fn serve_told<R: Threads + Wait + AllocGlobal + Sync, FS: Filesystem>(
     rt: &R,
+    filesystem: FS,
+    source: MemorySource,
+    sink: MemorySink,
     n_threads: Option<usize>,
-    messages: &[&[u8]],
-) -> Rest<Probing<Telling<R>>> {
+) -> Rest<FS> {
     let config = everybody(rt.alloc(), n_threads);
-    let probe = Telling::new(*rt, rt.alloc(), None);
-    let source = source_of(rt.alloc(), messages).expect(rt, "there is memory");
-    let sink = MemorySink::new(rt.alloc(), Vec::new(rt.alloc()));
-    let filesystem = Probing { probe };
     rest_of(
         match Session::new(rt, filesystem, source, sink, 0, 4096, &config) {
             Ok(mut session) => {
@@ -132,6 +130,18 @@ fn run_told_before<R: Threads + Wait + AllocGlobal + Abort + Send + Sync + Copy>
             Err(over) => over,
         },
     )
+}
+
+/// What is left of such a session, which gets these messages.
+fn run_told_before<R: Threads + Wait + AllocGlobal + Abort + Send + Sync + Copy>(
+    rt: &R,
+    n_threads: Option<usize>,
+    messages: &[&[u8]],
+) -> Rest<Probing<Telling<R>>> {
+    let probe = Telling::new(*rt, rt.alloc(), None);
+    let source = source_of(rt.alloc(), messages).expect(rt, "there is memory");
+    let sink = MemorySink::new(rt.alloc(), Vec::new(rt.alloc()));
+    serve_told(rt, Probing { probe }, source, sink, n_threads)
 }
 
 /// Also where no reply goes out that they could follow.
