@@ -107,13 +107,9 @@ fn are_queued<R: Wait + AllocGlobal>(rt: &R, made: Result<Notifier, NoMemory>) -
     }
 }
 
-/// Waits for the end of a session in the background, and says whether this was seen of it before.
-fn joined<R: Threads + Wait + AllocGlobal + Sync>(
-    rt: &R,
-    mut background: Background,
-    look: Look<'_>,
-) -> (Over, bool) {
-    let seen = match look {
+/// Whether this was seen of a session in the background.
+fn is_seen<R: Wait + AllocGlobal>(rt: &R, background: &mut Background, look: Look<'_>) -> bool {
+    match look {
         Look::Nothing => true,
         Look::Notifier => background.notifier().is_ok(),
         Look::Calls(calls) => {
@@ -126,8 +122,17 @@ fn joined<R: Threads + Wait + AllocGlobal + Sync>(
             calls.fetch_add(SEEN, Ordering::SeqCst);
             are_queued
         }
-    };
-    (background.join(rt), seen)
+    }
+}
+
+/// Waits for the end of a session in the background, and says whether this was seen of it before.
+fn joined<R: Threads + Wait + AllocGlobal + Sync>(
+    rt: &R,
+    mut background: Background,
+    look: Look<'_>,
+) -> (Over, bool) {
+    let is_seen = is_seen(rt, &mut background, look);
+    (background.join(rt), is_seen)
 }
 
 /// What came of a session that a spawner was to start.
@@ -520,11 +525,17 @@ fn a_session_that_is_refused_can_be_started_later(rt: HostRuntime) {
     expect_same(&rt, &notified, &true);
 }
 
-/// A session over streams of bytes, in pieces of seven, which a thread of its own serves: its outcome, and what it wrote.
-fn over_streams<R: Threads + Wait + AllocGlobal + Abort + Send + Sync + Copy + 'static>(
+type OverStreams = BackgroundSession<
+    Probing<Counting>,
+    StreamSource<MemoryBytes>,
+    StreamSink<MemoryOut>,
+>;
+
+/// A session over streams of bytes, in pieces of seven, which a thread of its own serves.
+fn spawn_over_streams<R: Threads + Wait + AllocGlobal + Abort + Send + Sync + Copy + 'static>(
     rt: &R,
     messages: Vec<u8>,
-) -> (Result<(), SessionError>, Vec<u8>) {
+) -> OverStreams {
     let alloc = rt.alloc();
     let source = StreamSource::new(MemoryBytes::new(messages, 7, Vec::new(alloc)));
     let sink = StreamSink::new(MemoryOut::new(alloc, 7, Vec::new(alloc)));
@@ -533,12 +544,19 @@ fn over_streams<R: Threads + Wait + AllocGlobal + Abort + Send + Sync + Copy + '
     };
     let config = Config::new(alloc);
     let mut spawner = spawner_of(rt, None);
-    let spawned = spawn_mount(rt, &mut spawner, filesystem, source, sink, 0, 4096, &config);
-    let Ok(background) = spawned else {
-        panic!(rt; "not started");
-    };
-    let ended = background.join(rt);
-    let written = ended.sink.into_inner().bytes().to_vec(alloc);
+    match spawn_mount(rt, &mut spawner, filesystem, source, sink, 0, 4096, &config) {
+        Ok(background) => background,
+        Err(_) => panic!(rt; "not started"),
+    }
+}
+
+/// The outcome of that session, and what it wrote.
+fn over_streams<R: Threads + Wait + AllocGlobal + Abort + Send + Sync + Copy + 'static>(
+    rt: &R,
+    messages: Vec<u8>,
+) -> (Result<(), SessionError>, Vec<u8>) {
+    let ended = spawn_over_streams(rt, messages).join(rt);
+    let written = ended.sink.into_inner().bytes().to_vec(rt.alloc());
     (ended.outcome, written.expect(rt, "there is memory"))
 }
 
