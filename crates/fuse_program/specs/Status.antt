@@ -32,3 +32,11 @@ IsSessionStatus n = (n ≡ 0) ⊎ (n ≡ 3) ⊎ (n ≡ 4) ⊎ (n ≡ 5) ⊎ (n �
 -- the statuses of the program
 abbrev pub IsExit : ℕ → Type 0
 IsExit n = (n ≡ 2) ⊎ IsSessionStatus n
+
+-- the statuses of `gen`: all was written, or a write failed
+abbrev pub IsGenStatus : ℕ → Type 0
+IsGenStatus n = (n ≡ 0) ⊎ (n ≡ 8)
+
+-- the statuses of `load` on so many threads: the line was written, a write failed, there was no memory, or no thread was to serve
+abbrev pub IsLoadStatus : (threads n : ℕ) → Type 0
+IsLoadStatus threads n = (n ≡ 0) ⊎ (n ≡ 8) ⊎ (n ≡ 9) ⊎ ((n ≡ 10) × (threads ≡ 0))

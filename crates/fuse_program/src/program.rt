@@ -4,7 +4,7 @@ ghost use Rattle.fuse_program.specs.Form.{IsNoForm, form_of, gen_form_of, load_f
 ghost use Rattle.fuse_program.specs.Generated.{Generates};
 ghost use Rattle.fuse_program.specs.Load.{Loads, WritesOneLine};
 ghost use Rattle.fuse_program.specs.Program.{ByteExchange, EachAnswered, InputWell, Still};
-ghost use Rattle.fuse_program.specs.Status.{IsExit, IsSessionStatus};
+ghost use Rattle.fuse_program.specs.Status.{IsExit, IsGenStatus, IsLoadStatus, IsSessionStatus};
 
 use crate::arguments::{GenForm, LoadForm, ServeForm, gen_form, load_form, serve_form};
 use crate::load::summary_line;
@@ -187,6 +187,8 @@ pub fn run<R: Threads + Wait + AllocGlobal + Sync, I: Read + Drop, O: Write + Se
 ) -> u8
     ensures form { (result ≡ 2) ↔ IsNoForm (map (λ w. w.now) words.now) }
     ensures statuses { IsExit result }
+    ensures generated { IfSome (gen_form_of (map (λ w. w.now) words.now)) (λ form. IsGenStatus result) }
+    ensures loaded { IfSome (load_form_of (map (λ w. w.now) words.now)) (λ form. IsLoadStatus form.threads result) }
 {
     serve(rt, words, StdSource::new(input), StdSink::new(output)).status
 }
