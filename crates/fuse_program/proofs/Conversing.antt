@@ -15,14 +15,14 @@ use Rattle.fuse_wire.specs.StreamSink.{Stands, stream_sink_told}
 use Rattle.fuse_reply.specs.declared.out.Out.{Out}
 use Rattle.fuse_loop.specs.Incoming.{Incoming, EndsAfter, EndsWell, incoming}
 use Rattle.fuse_loop.specs.Incoming.Incoming.{Broken, Destroy, Request}
-use Rattle.fuse_handshake.specs.Handshake.{HandshakeEnd}
+use Rattle.fuse_session.specs.Handshake.{HandshakeEnd}
 use Rattle.fuse_session.specs.Exchange.{Setup, EndedBy, Dialogue, Exchange, Mounted}
-use Rattle.fuse_run.specs.SessionEnd.{Outcome}
+use Rattle.fuse_session.specs.SessionEnd.{Outcome}
 use Rattle.fuse_session.specs.Headline.{Headline}
 use Rattle.fuse_session.specs.Complete.{AcceptsAll, OpensWell, SessionWell}
 use Rattle.fuse_loop.specs.Progress.{is_notice, nothing_yet, progress}
 use Rattle.fuse_loop.specs.declared.transcript.Transcript.{Transcript}
-use Rattle.fuse_run.specs.declared.error.SessionError.TheVariants as session
+use Rattle.fuse_session.specs.declared.error.SessionError.TheVariants as session
 use Rattle.fuse_program.specs.Status.{status}
 use Rattle.fuse_tree.specs.Tree.{tree_promise, tree_may_init}
 use Rattle.fuse_program.specs.Program.{Fronts, WritesFrames, EachAnswered, Still, ByteExchange, InputWell, form_setup}

@@ -9,13 +9,13 @@ use Rattle.fuse_wire.specs.Sink.{Note}
 use Rattle.fuse_wire.specs.Source.{message}
 use Rattle.fuse_config.specs.declared.session_acl.SessionACL.TheVariants.{All}
 use Rattle.fuse_session.specs.Exchange.{Exchange, Mounted, setup_of}
-use Rattle.fuse_run.specs.SessionEnd.{Outcome}
+use Rattle.fuse_session.specs.SessionEnd.{Outcome}
 use Rattle.fuse_session.specs.Headline.{Headline}
 use Rattle.fuse_loop.specs.Incoming.{EndsAfter, EndsWell, Incoming, incoming}
 use Rattle.fuse_loop.specs.Incoming.Incoming.{Broken, Destroy, Request}
 use Rattle.fuse_loop.specs.Progress.{nothing_yet, progress, replies}
-use Rattle.fuse_run.specs.declared.error.SessionError.{SessionError}
-use Rattle.fuse_run.specs.declared.error.SessionError.TheVariants as session
+use Rattle.fuse_session.specs.declared.error.SessionError.{SessionError}
+use Rattle.fuse_session.specs.declared.error.SessionError.TheVariants as session
 use Rattle.fuse_loop.specs.declared.transcript.Transcript.{Transcript}
 use Rattle.fuse_tree.specs.Generated.{destroy_message, init_message, request_at, requests, stream}
 use Rattle.fuse_tree.specs.Store.{Stored, messages_told, stored_told, summary_of}

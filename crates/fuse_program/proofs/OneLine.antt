@@ -23,9 +23,9 @@ use Rattle.fuse_config.specs.Values.{Configuration}
 use Rattle.fuse_config.specs.declared.session_acl.SessionACL.TheVariants.{All}
 use Rattle.fuse_loop.specs.Incoming.{IsBroken}
 use Rattle.fuse_core.specs.OnePerMessage.{OnePerMessage, Owing}
-use Rattle.fuse_handshake.specs.Handshake.{Greets, Handshake, HandshakeEnd, NegotiationReply}
-use Rattle.fuse_handshake.specs.Handshake.{greeting, greeting_by_header, greeting_by_operation, offer_of}
-use Rattle.fuse_handshake.specs.Handshake.HandshakeEnd.{Accepted}
+use Rattle.fuse_session.specs.Handshake.{Greets, Handshake, HandshakeEnd, NegotiationReply}
+use Rattle.fuse_session.specs.Handshake.{greeting, greeting_by_header, greeting_by_operation, offer_of}
+use Rattle.fuse_session.specs.Handshake.HandshakeEnd.{Accepted}
 use Rattle.fuse_dispatch.specs.OwedMessage.{OwedByPromise}
 use Rattle.fuse_tree.specs.Generated.{init_message, stream}
 use Rattle.fuse_tree.specs.Store.{is_error, line, summary_of}

@@ -4,11 +4,11 @@ use Rattle.std.proofs.Common.{inr, min, lt-ltb}
 use Rattle.std.proofs.lemmas.Bool.Decides.{nat_tests}
 use Rattle.std.specs.Prelude.{◌||◌}
 use Rattle.fuse_wire.specs.Faults.{last_count}
-use Rattle.fuse_run.specs.SessionEnd.{Outcome}
-use Rattle.fuse_run.specs.declared.error.SessionError.{SessionError}
-use Rattle.fuse_run.specs.declared.error.SessionError.TheVariants.{Conflict, AutoUnmount, CloneFd, Memory}
-use Rattle.fuse_run.specs.declared.error.SessionError.TheVariants.{NotConnected, InvalidData, Unsupported, Init, Threads, Receive}
-use Rattle.fuse_run.specs.Refused.{Untouched}
+use Rattle.fuse_session.specs.SessionEnd.{Outcome}
+use Rattle.fuse_session.specs.declared.error.SessionError.{SessionError}
+use Rattle.fuse_session.specs.declared.error.SessionError.TheVariants.{Conflict, AutoUnmount, CloneFd, Memory}
+use Rattle.fuse_session.specs.declared.error.SessionError.TheVariants.{NotConnected, InvalidData, Unsupported, Init, Threads, Receive}
+use Rattle.fuse_session.specs.Refused.{Untouched}
 use Rattle.fuse_program.specs.Status.{status, failure_status}
 
 -- no failure has the status 0

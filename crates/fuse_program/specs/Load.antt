@@ -4,13 +4,13 @@ use Rattle.fuse_wire.specs.ByteSink.{ByteSinkState}
 use Rattle.fuse_wire.specs.Sink.{Note}
 use Rattle.fuse_wire.specs.StreamSink.{WritesAll}
 use Rattle.fuse_config.specs.declared.session_acl.SessionACL.TheVariants.{All}
-use Rattle.fuse_handshake.specs.Handshake.{Handshake}
-use Rattle.fuse_handshake.specs.Handshake.HandshakeEnd.{Accepted}
+use Rattle.fuse_session.specs.Handshake.{Handshake}
+use Rattle.fuse_session.specs.Handshake.HandshakeEnd.{Accepted}
 use Rattle.fuse_loop.specs.Incoming.{IsBroken}
 use Rattle.fuse_core.specs.OnePerMessage.{OnePerMessage}
 use Rattle.fuse_dispatch.specs.OwedMessage.{OwedByPromise}
-use Rattle.fuse_run.specs.declared.error.SessionError.{SessionError}
-use Rattle.fuse_run.specs.declared.error.SessionError.TheVariants.{Memory, Threads}
+use Rattle.fuse_session.specs.declared.error.SessionError.{SessionError}
+use Rattle.fuse_session.specs.declared.error.SessionError.TheVariants.{Memory, Threads}
 use Rattle.fuse_tree.specs.Generated.{stream}
 use Rattle.fuse_tree.specs.Store.{line, summary_of}
 use Rattle.fuse_tree.specs.Tree.{tree_promise}

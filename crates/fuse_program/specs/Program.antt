@@ -16,11 +16,11 @@ use Rattle.fuse_dispatch.specs.OwedMessage.{OwedByPromise}
 use Rattle.fuse_core.specs.OnePerMessage.{OnePerMessage}
 use Rattle.fuse_session.specs.Complete.{OpensWell}
 use Rattle.fuse_session.specs.Exchange.{Setup, Dialogue, setup_of}
-use Rattle.fuse_run.specs.SessionEnd.{Outcome}
-use Rattle.fuse_handshake.specs.Handshake.{Handshake}
-use Rattle.fuse_handshake.specs.Handshake.HandshakeEnd.{Accepted}
+use Rattle.fuse_session.specs.SessionEnd.{Outcome}
+use Rattle.fuse_session.specs.Handshake.{Handshake}
+use Rattle.fuse_session.specs.Handshake.HandshakeEnd.{Accepted}
 use Rattle.fuse_loop.specs.Progress.{replies, is_notice, NoticeOrReply}
-use Rattle.fuse_run.specs.declared.error.SessionError.TheVariants.{Init, Receive}
+use Rattle.fuse_session.specs.declared.error.SessionError.TheVariants.{Init, Receive}
 use Rattle.fuse_program.specs.Status.{status}
 use Rattle.fuse_tree.specs.Tree.{tree_promise}
 use Rattle.fuse_tree.specs.declared.hello.Hello.{Hello}

@@ -1,8 +1,8 @@
 -- The exit status of a session's outcome.
 use Rattle.std.specs.Prelude.{◌≡◌, ◌⊎◌, ℕ, Bool, Result, Ok, Err, nat_lt, ◌||◌, if◌then◌else◌}
-use Rattle.fuse_run.specs.declared.error.SessionError.{SessionError}
-use Rattle.fuse_run.specs.declared.error.SessionError.TheVariants.{Conflict, AutoUnmount, CloneFd, Memory}
-use Rattle.fuse_run.specs.declared.error.SessionError.TheVariants.{NotConnected, InvalidData, Unsupported, Init, Threads, Receive}
+use Rattle.fuse_session.specs.declared.error.SessionError.{SessionError}
+use Rattle.fuse_session.specs.declared.error.SessionError.TheVariants.{Conflict, AutoUnmount, CloneFd, Memory}
+use Rattle.fuse_session.specs.declared.error.SessionError.TheVariants.{NotConnected, InvalidData, Unsupported, Init, Threads, Receive}
 
 -- the program lists no options, so that they are never refused; nothing would be read or written either
 abbrev pub failure_status : SessionError → ℕ

@@ -16,20 +16,20 @@ use Rattle.fuse_header.specs.declared.error.RequestError.{RequestError}
 use Rattle.fuse_dispatch.specs.Promise.{MayInit}
 use Rattle.fuse_loop.specs.Incoming.{incoming, incoming_by, AllGoOn}
 use Rattle.fuse_loop.specs.Incoming.Incoming.{Broken, Request}
-use Rattle.fuse_handshake.specs.Handshake.{greeting, greeting_by_header, greeting_by_operation, greeting_by_version, offer_of, is_old, Greets}
-use Rattle.fuse_handshake.specs.Handshake.{NegotiationReply, Handshake, HandshakeEnd}
-use Rattle.fuse_handshake.specs.Handshake.HandshakeEnd.{Open, Accepted, Failed}
+use Rattle.fuse_session.specs.Handshake.{greeting, greeting_by_header, greeting_by_operation, greeting_by_version, offer_of, is_old, Greets}
+use Rattle.fuse_session.specs.Handshake.{NegotiationReply, Handshake, HandshakeEnd}
+use Rattle.fuse_session.specs.Handshake.HandshakeEnd.{Open, Accepted, Failed}
 use Rattle.fuse_session.specs.Exchange.{Setup, EndedBy, Dialogue, Exchange, Unopened}
-use Rattle.fuse_run.specs.SessionEnd.{Outcome}
+use Rattle.fuse_session.specs.SessionEnd.{Outcome}
 use Rattle.fuse_session.specs.Complete.{AcceptsAll, GoodHeaders, HandshakeWell, IsInit, Opens, OpensAtLeast, OpensWell, SessionWell}
 use Rattle.fuse_loop.specs.Progress.{Progress}
 use Rattle.fuse_session.specs.Session.{OpensNone}
-use Rattle.fuse_run.specs.declared.error.SessionError.TheVariants as session
-use Rattle.fuse_handshake.specs.declared.greeting.Greeting.{Greeting}
-use Rattle.fuse_handshake.specs.declared.greeting.Greeting.TheVariants.{Silent, NotInit, Newer, Old, Offered}
-use Rattle.fuse_handshake.specs.declared.greeting.HandshakeError.{HandshakeError}
-use Rattle.fuse_handshake.specs.declared.greeting.HandshakeError.TheVariants.{InvalidData, Unsupported, Init}
-use Rattle.fuse_handshake.specs.declared.greeting.Offer.{Offer}
+use Rattle.fuse_session.specs.declared.error.SessionError.TheVariants as session
+use Rattle.fuse_session.specs.declared.greeting.Greeting.{Greeting}
+use Rattle.fuse_session.specs.declared.greeting.Greeting.TheVariants.{Silent, NotInit, Newer, Old, Offered}
+use Rattle.fuse_session.specs.declared.greeting.HandshakeError.{HandshakeError}
+use Rattle.fuse_session.specs.declared.greeting.HandshakeError.TheVariants.{InvalidData, Unsupported, Init}
+use Rattle.fuse_session.specs.declared.greeting.Offer.{Offer}
 
 -- an INIT is greeted by its version
 greeting-init : (m : List ℕ) (i : InitArguments) (init : IsInit m i) → greeting m ≡ greeting_by_version init.head i

@@ -8,21 +8,21 @@ use Rattle.fuse_reply.specs.declared.out.Out.TheVariants.{Frame}
 use Rattle.fuse_loop.specs.Incoming.{Incoming, EndsAfter, EndsWell, AllGoOn, incoming}
 use Rattle.fuse_loop.specs.Incoming.Incoming.{Destroy}
 use Rattle.fuse_workers.proofs.Accounts.{OnePerMessageLater-none}
-use Rattle.fuse_run.specs.Accounted.{Accounted}
+use Rattle.fuse_session.specs.Accounted.{Accounted}
 use Rattle.fuse_dispatch.specs.OwedMessage.{OwedByPromise}
-use Rattle.fuse_handshake.specs.Handshake.{HandshakeEnd}
-use Rattle.fuse_handshake.specs.HandshakeStep.{HandshakeRun}
+use Rattle.fuse_session.specs.Handshake.{HandshakeEnd}
+use Rattle.fuse_session.specs.HandshakeStep.{HandshakeRun}
 use Rattle.fuse_loop.specs.EventLoop.{Run, RunEnds}
 use Rattle.fuse_session.specs.Exchange.{Setup, RunFollows, EndedBy, Exchange, Unopened}
-use Rattle.fuse_run.specs.SessionEnd.{Outcome, handshake_error, run_outcome}
+use Rattle.fuse_session.specs.SessionEnd.{Outcome, handshake_error, run_outcome}
 use Rattle.fuse_loop.specs.Progress.{Progress}
-use Rattle.fuse_run.specs.declared.error.SessionError.TheVariants.{NotConnected, Threads, Receive}
+use Rattle.fuse_session.specs.declared.error.SessionError.TheVariants.{NotConnected, Threads, Receive}
 use Rattle.fuse_loop.specs.declared.end.End.{End}
 use Rattle.fuse_loop.specs.declared.end.End.TheVariants.{Gone, Destroyed, Broken, Failed}
-use Rattle.fuse_handshake.specs.declared.greeting.HandshakeError.{HandshakeError}
-use Rattle.fuse_handshake.specs.declared.greeting.HandshakeError.TheVariants as refusal
-use Rattle.fuse_handshake.specs.declared.steps.HandshakeOutcome.{HandshakeOutcome}
-use Rattle.fuse_handshake.specs.declared.steps.HandshakeOutcome.TheVariants as outcome
+use Rattle.fuse_session.specs.declared.greeting.HandshakeError.{HandshakeError}
+use Rattle.fuse_session.specs.declared.greeting.HandshakeError.TheVariants as refusal
+use Rattle.fuse_session.specs.declared.steps.HandshakeOutcome.{HandshakeOutcome}
+use Rattle.fuse_session.specs.declared.steps.HandshakeOutcome.TheVariants as outcome
 use Rattle.fuse_loop.proofs.Taking.{Begins-after, SourceFailed-after}
 use Rattle.fuse_loop.proofs.Moving.{moves-then}
 

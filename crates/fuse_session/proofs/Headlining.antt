@@ -11,9 +11,9 @@ use Rattle.fuse_loop.specs.Incoming.{IsBroken, EndsWell}
 use Rattle.fuse_dispatch.specs.OwedMessage.{OwedByPromise}
 use Rattle.fuse_core.specs.OnePerMessage.{OnePerMessage, UpToOrder}
 use Rattle.fuse_workers.specs.OnePerMessageLater.{OnePerMessageLater}
-use Rattle.fuse_handshake.specs.Handshake.{HandshakeEnd, Handshake}
-use Rattle.fuse_handshake.specs.Handshake.HandshakeEnd.{Accepted}
-use Rattle.fuse_run.specs.Accounted.{Accounted, NeverLater}
+use Rattle.fuse_session.specs.Handshake.{HandshakeEnd, Handshake}
+use Rattle.fuse_session.specs.Handshake.HandshakeEnd.{Accepted}
+use Rattle.fuse_session.specs.Accounted.{Accounted, NeverLater}
 use Rattle.fuse_session.specs.Headline.{Account, EndedWell, Headline, LaterHeadline, Lossless}
 use Rattle.fuse_session.specs.Exchange.{Setup, Dialogue, Exchange}
 use Rattle.fuse_loop.specs.Progress.{Progress, Moves, LeavesOut, but_unrecorded, is_notice, nothing_yet}

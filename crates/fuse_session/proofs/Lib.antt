@@ -1,3 +1,6 @@
+mod HandshakeSteps
+pub mod Refusing
+mod Serving
 mod Exchanging
 mod Headlining
 mod Completing

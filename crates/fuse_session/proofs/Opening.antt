@@ -6,13 +6,13 @@ use Rattle.fuse_wire.specs.Sink.{SinkState}
 use Rattle.fuse_config.specs.declared.config.Config.{Config}
 use Rattle.fuse_session.specs.Complete.{AcceptsAll, HandshakeWell}
 use Rattle.fuse_session.specs.Exchange.{Closed, Exchange, Setup}
-use Rattle.fuse_run.specs.SessionEnd.{Outcome}
+use Rattle.fuse_session.specs.SessionEnd.{Outcome}
 use Rattle.fuse_loop.specs.Progress.{nothing_yet, progress}
-use Rattle.fuse_run.specs.Refused.{ClonesDevice, OfOptions}
+use Rattle.fuse_session.specs.Refused.{ClonesDevice, OfOptions}
 use Rattle.fuse_session.specs.Session.{OpensNone}
-use Rattle.fuse_run.specs.declared.ended.Ended.{Ended}
-use Rattle.fuse_run.specs.declared.error.SessionError.{SessionError}
-use Rattle.fuse_run.specs.declared.error.SessionError.TheVariants as error
+use Rattle.fuse_session.specs.declared.ended.Ended.{Ended}
+use Rattle.fuse_session.specs.declared.error.SessionError.{SessionError}
+use Rattle.fuse_session.specs.declared.error.SessionError.TheVariants as error
 use Rattle.fuse_loop.specs.declared.transcript.Transcript.{Transcript}
 use Rattle.fuse_session.proofs.Completing.{never-refused, never-unopened}
 

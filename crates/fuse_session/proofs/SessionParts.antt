@@ -3,24 +3,24 @@ use Rattle.std.proofs.Common.{◌≡◌, ◌≢◌, ◌↔◌, ◌∙◌, ◌++�
 use Rattle.std.proofs.lemmas.List.{map-append}
 use Rattle.fuse_wire.specs.Source.{SourceState, message}
 use Rattle.fuse_wire.specs.Sink.{SinkState}
-use Rattle.fuse_run.specs.Accounted.{Accounted, NeverLater}
+use Rattle.fuse_session.specs.Accounted.{Accounted, NeverLater}
 use Rattle.fuse_session.specs.Complete.{GoodHeaders, RunWell, Unfailing}
 use Rattle.fuse_loop.specs.EventLoop.{Run}
 use Rattle.fuse_session.specs.Exchange.{Closed, Exchange, Mounted, Setup, Unopened, setup_of}
-use Rattle.fuse_run.specs.SessionEnd.{Outcome, handshake_error, run_outcome}
+use Rattle.fuse_session.specs.SessionEnd.{Outcome, handshake_error, run_outcome}
 use Rattle.fuse_session.specs.Headline.{Headline, LaterHeadline, Lossless}
 use Rattle.fuse_dispatch.specs.OwedMessage.{OwedByPromise}
 use Rattle.fuse_core.specs.OnePerMessage.{Accounting}
 use Rattle.fuse_loop.specs.Progress.{Progress, nothing_yet, progress}
 use Rattle.fuse_dispatch.specs.Promise.{Promise}
-use Rattle.fuse_run.specs.Ran.{LaterServed, Opened, Ran}
+use Rattle.fuse_session.specs.Ran.{LaterServed, Opened, Ran}
 use Rattle.fuse_session.specs.Session.{EndsRun, IsOpened, OpensNone, setup_for}
-use Rattle.fuse_run.specs.declared.error.SessionError.TheVariants.{Threads}
+use Rattle.fuse_session.specs.declared.error.SessionError.TheVariants.{Threads}
 use Rattle.fuse_loop.specs.declared.end.End.{End}
 use Rattle.fuse_loop.specs.declared.end.End.TheVariants.{Gone, Destroyed, Broken, Failed}
 use Rattle.fuse_config.specs.declared.session_acl.SessionACL.{SessionACL}
-use Rattle.fuse_handshake.specs.declared.greeting.HandshakeError.{HandshakeError}
-use Rattle.fuse_handshake.specs.declared.greeting.HandshakeError.TheVariants as refusal
+use Rattle.fuse_session.specs.declared.greeting.HandshakeError.{HandshakeError}
+use Rattle.fuse_session.specs.declared.greeting.HandshakeError.TheVariants as refusal
 use Rattle.fuse_loop.specs.declared.transcript.Transcript.{Transcript}
 use Rattle.fuse_session.proofs.Completing.{never-broken, no-failure, told-after}
 use Rattle.fuse_session.proofs.Exchanging.{Exchange-ran, Exchange-unserved}

@@ -12,7 +12,7 @@ use Rattle.fuse_header.specs.declared.request.Request.{Request}
 use Rattle.fuse_loop.specs.Incoming.{incoming}
 use Rattle.fuse_loop.specs.Incoming.Incoming.{Destroy, Request as IsRequest}
 use Rattle.fuse_dispatch.specs.Promise.{MayInit}
-use Rattle.fuse_run.specs.Ran.{Opened}
+use Rattle.fuse_session.specs.Ran.{Opened}
 
 -- its header is good, and it decodes to this INIT
 pub record IsInit (m : List ℕ) (init : InitArguments) : Type 0 where

@@ -7,18 +7,18 @@ use Rattle.fuse_config.specs.declared.session_acl.SessionACL.{SessionACL}
 use Rattle.fuse_header.specs.declared.error.RequestError.{RequestError}
 use Rattle.fuse_reply.specs.declared.out.Out.{Out}
 use Rattle.fuse_reply.specs.declared.out.Out.TheVariants.{Frame}
-use Rattle.fuse_run.specs.Accounted.{Accounted}
-use Rattle.fuse_run.specs.SessionEnd.{Outcome}
+use Rattle.fuse_session.specs.Accounted.{Accounted}
+use Rattle.fuse_session.specs.SessionEnd.{Outcome}
 use Rattle.fuse_dispatch.specs.Promise.{Promise}
 use Rattle.fuse_loop.specs.Incoming.{AllGoOn, EndsWell, HeaderRefused}
 use Rattle.fuse_dispatch.specs.OwedMessage.{OwedByPromise}
-use Rattle.fuse_handshake.specs.Handshake.{HandshakeEnd, Handshake}
-use Rattle.fuse_handshake.specs.Handshake.HandshakeEnd.{Open, Accepted, Failed}
+use Rattle.fuse_session.specs.Handshake.{HandshakeEnd, Handshake}
+use Rattle.fuse_session.specs.Handshake.HandshakeEnd.{Open, Accepted, Failed}
 use Rattle.fuse_loop.specs.Progress.{Progress, Moves, Begins, LeavesOut, nothing_yet, progress}
-use Rattle.fuse_handshake.specs.declared.invalid_data.InvalidData.TheVariants.{Header}
-use Rattle.fuse_run.specs.declared.error.SessionError.TheVariants.{Conflict, AutoUnmount, CloneFd, Memory}
-use Rattle.fuse_run.specs.declared.error.SessionError.TheVariants.{NotConnected, InvalidData, Unsupported, Init, Threads, Receive}
-use Rattle.fuse_handshake.specs.declared.greeting.HandshakeError.TheVariants as refusal
+use Rattle.fuse_session.specs.declared.invalid_data.InvalidData.TheVariants.{Header}
+use Rattle.fuse_session.specs.declared.error.SessionError.TheVariants.{Conflict, AutoUnmount, CloneFd, Memory}
+use Rattle.fuse_session.specs.declared.error.SessionError.TheVariants.{NotConnected, InvalidData, Unsupported, Init, Threads, Receive}
+use Rattle.fuse_session.specs.declared.greeting.HandshakeError.TheVariants as refusal
 use Rattle.fuse_loop.specs.declared.transcript.Transcript.{Transcript}
 
 -- what a session is set up with

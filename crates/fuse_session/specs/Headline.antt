@@ -9,8 +9,8 @@ use Rattle.fuse_dispatch.specs.OwedMessage.{OwedByPromise}
 use Rattle.fuse_core.specs.OnePerMessage.{OnePerMessage}
 use Rattle.fuse_workers.specs.OnePerMessageLater.{OnePerMessageLater}
 use Rattle.fuse_dispatch.specs.Promise.{Promise}
-use Rattle.fuse_handshake.specs.Handshake.{Handshake}
-use Rattle.fuse_handshake.specs.Handshake.HandshakeEnd.{Accepted}
+use Rattle.fuse_session.specs.Handshake.{Handshake}
+use Rattle.fuse_session.specs.Handshake.HandshakeEnd.{Accepted}
 use Rattle.fuse_loop.specs.Progress.{Quiet, replies, NoticeOrReply}
 use Rattle.fuse_loop.specs.declared.transcript.Transcript.{Transcript}
 

@@ -1,3 +1,10 @@
+pub mod Handshake
+pub mod HandshakeStep
+pub mod Accounted
+pub mod SessionEnd
+pub mod Ran
+pub mod Refused
+pub mod Started
 pub mod Exchange
 pub mod Session
 pub mod Starts

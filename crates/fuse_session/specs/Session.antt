@@ -4,15 +4,15 @@ use Rattle.fuse_wire.specs.Source.{SourceState}
 use Rattle.fuse_wire.specs.Sink.{SinkState}
 use Rattle.fuse_config.specs.declared.session_acl.SessionACL.{SessionACL}
 use Rattle.fuse_header.specs.declared.error.RequestError.{RequestError}
-use Rattle.fuse_run.specs.Ran.{Opened}
-use Rattle.fuse_run.specs.SessionEnd.{Outcome}
+use Rattle.fuse_session.specs.Ran.{Opened}
+use Rattle.fuse_session.specs.SessionEnd.{Outcome}
 use Rattle.fuse_session.specs.Exchange.{Setup, setup_of}
-use Rattle.fuse_handshake.specs.HandshakeStep.{HandshakeRun}
+use Rattle.fuse_session.specs.HandshakeStep.{HandshakeRun}
 use Rattle.fuse_loop.specs.Progress.{nothing_yet, progress}
 use Rattle.fuse_dispatch.specs.Promise.{Promise}
-use Rattle.fuse_handshake.specs.declared.invalid_data.InvalidData.TheVariants.{Header}
-use Rattle.fuse_run.specs.declared.error.SessionError.TheVariants.{NotConnected, InvalidData, Unsupported, Init, Threads, Receive}
-use Rattle.fuse_handshake.specs.declared.steps.HandshakeOutcome.TheVariants.{Accepted}
+use Rattle.fuse_session.specs.declared.invalid_data.InvalidData.TheVariants.{Header}
+use Rattle.fuse_session.specs.declared.error.SessionError.TheVariants.{NotConnected, InvalidData, Unsupported, Init, Threads, Receive}
+use Rattle.fuse_session.specs.declared.steps.HandshakeOutcome.TheVariants.{Accepted}
 
 abbrev pub setup_for : {F : Type 0} → Promise F → (page : ℕ) → Opened F → Setup F
 setup_for promise page session = setup_of promise page session.threads session.acl session.owner

@@ -1,8 +1,8 @@
 -- Starting sessions in the background.
 use Rattle.std.specs.Prelude.{◌≡◌, ℕ, Result, Err}
-use Rattle.fuse_run.specs.Ran.{Opened}
+use Rattle.fuse_session.specs.Ran.{Opened}
 use Rattle.fuse_session.specs.Starts.{CountsRefusal, StartsInline}
-use Rattle.fuse_run.specs.declared.ended.Ended.{Ended as End}
+use Rattle.fuse_session.specs.declared.ended.Ended.{Ended as End}
 use Rattle.fuse_session.specs.declared.background.SpawnError.{SpawnError}
 use Rattle.fuse_session.specs.declared.background.SpawnError.TheVariants as spawn
 use Rattle.fuse_session.specs.declared.spawner.Spawner.{Spawner}

@@ -2,12 +2,12 @@
 ghost use Rattle.std.specs.Prelude.{◌≡◌, ◌≢◌, ◌<◌, ◌⊎◌, ◌↔◌, ℕ, Ok, Err, Some, IfErr, IfOk, MatchResult};
 ghost use Rattle.fuse_notify.specs.Queueing.{fresh_door};
 ghost use Rattle.fuse_session.specs.Complete.{AcceptsAll, HandshakeWell, RunWell};
-ghost use Rattle.fuse_run.specs.Accounted.{NeverLater};
+ghost use Rattle.fuse_session.specs.Accounted.{NeverLater};
 ghost use Rattle.fuse_session.specs.Exchange.{Closed, Mounted, setup};
 ghost use Rattle.fuse_session.specs.Headline.{Headline, LaterHeadline, Lossless};
-ghost use Rattle.fuse_run.specs.Refused.{IsUntouched, OfOptions, OptionsWell, RefusedAs, Untouched};
+ghost use Rattle.fuse_session.specs.Refused.{IsUntouched, OfOptions, OptionsWell, RefusedAs, Untouched};
 ghost use Rattle.fuse_session.specs.Session.{EndsRun, IsOpened, OpensNone, Serves, setup_for};
-ghost use Rattle.fuse_run.specs.Ran.{Ran};
+ghost use Rattle.fuse_session.specs.Ran.{Ran};
 ghost use Rattle.fuse_session.specs.Spawning.{HasEnded, IfEnded, IfRefused, StartsOpened, refused_by};
 ghost use Rattle.fuse_wire.specs.Faults.{Rose};
 ghost use Rattle.fuse_wire.specs.Sink.{SinkState};
@@ -29,8 +29,8 @@ pub struct BackgroundSession<FS: Filesystem, S: Source, K: Sink> {
 }
 
 impl<FS: Filesystem, S: Source, K: Sink> Model for BackgroundSession<FS, S, K> {
-    ghost use Rattle.fuse_background.specs.Started.{started};
-    ghost use Rattle.fuse_run.specs.Ran.{Opened};
+    ghost use Rattle.fuse_session.specs.Started.{started};
+    ghost use Rattle.fuse_session.specs.Ran.{Opened};
 
     ghost Value = { Opened FS };
 

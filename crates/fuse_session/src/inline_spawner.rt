@@ -1,6 +1,6 @@
 // Sessions that run at once.
 ghost use Rattle.std.specs.Prelude.{◌≡◌, MatchResult};
-ghost use Rattle.fuse_background.specs.Started.{started};
+ghost use Rattle.fuse_session.specs.Started.{started};
 ghost use Rattle.fuse_wire.specs.Faults.{Rose};
 ghost use Rattle.fuse_session.specs.Starts.{CountsRefusal, StartsInline};
 

@@ -5,19 +5,36 @@
 #![tactic(auto)]
 
 mod background;
+mod carried;
+mod ended;
+mod error;
+mod greeting;
 mod inline_spawner;
+mod invalid_data;
 pub mod laws;
+mod options;
+mod runnable;
+mod running;
 mod session;
 mod spawner;
+mod starting;
+mod steps;
 mod thread_spawner;
 
-pub use background::{BackgroundSession, SpawnError, spawn_mount};
-pub use fuse_background::Running;
-pub use fuse_dispatch::{Filesystem, Verdict, defaults, verdict};
-pub use fuse_handshake::InvalidData;
-pub use fuse_loop::Transcript;
-pub use fuse_run::{Ended, SessionError};
+pub use background::BackgroundSession;
+pub use ended::Ended;
+pub use fuse_dispatch::Filesystem;
 pub use inline_spawner::InlineSpawner;
-pub use session::{Session, mount};
+pub use invalid_data::InvalidData;
+pub use running::Running;
+pub use session::Session;
+pub use error::SessionError;
+pub use background::SpawnError;
 pub use spawner::Spawner;
 pub use thread_spawner::ThreadSpawner;
+pub use fuse_loop::Transcript;
+pub use fuse_dispatch::Verdict;
+pub use fuse_dispatch::defaults;
+pub use session::mount;
+pub use background::spawn_mount;
+pub use fuse_dispatch::verdict;

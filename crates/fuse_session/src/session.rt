@@ -2,17 +2,17 @@
 ghost use Rattle.std.specs.Prelude.{◌≡◌, ◌≢◌, ◌<◌, ◌⊎◌, ◌↔◌, ℕ, Ok, Err, Some, IfErr, IfOk, MatchResult};
 ghost use Rattle.fuse_config.specs.declared.session_acl.SessionACL.{SessionACL as ACL};
 ghost use Rattle.fuse_notify.specs.Queueing.{fresh_door};
-ghost use Rattle.fuse_run.specs.Accounted.{NeverLater};
+ghost use Rattle.fuse_session.specs.Accounted.{NeverLater};
 ghost use Rattle.fuse_session.specs.Complete.{AcceptsAll, HandshakeWell, RunWell, SessionWell};
 ghost use Rattle.fuse_session.specs.Exchange.{Closed, Mounted, Unopened, setup, setup_of};
 ghost use Rattle.fuse_session.specs.Headline.{Headline, LaterHeadline, Lossless};
-ghost use Rattle.fuse_handshake.specs.HandshakeStep.{HandshakeRun};
-ghost use Rattle.fuse_run.specs.Refused.{ClonesDevice, IsTaken, IsUntouched, OfOptions, OptionsWell};
-ghost use Rattle.fuse_run.specs.Refused.{RefusedAs, Untouched};
+ghost use Rattle.fuse_session.specs.HandshakeStep.{HandshakeRun};
+ghost use Rattle.fuse_session.specs.Refused.{ClonesDevice, IsTaken, IsUntouched, OfOptions, OptionsWell};
+ghost use Rattle.fuse_session.specs.Refused.{RefusedAs, Untouched};
 ghost use Rattle.fuse_session.specs.Spawning.{StartsOne, refused_by};
 ghost use Rattle.fuse_session.specs.Session.{EndsRun, IsOpened, OpensNone, Serves, setup_for};
-ghost use Rattle.fuse_run.specs.Ran.{Ran};
-ghost use Rattle.fuse_handshake.specs.declared.steps.HandshakeOutcome.TheVariants.{Accepted};
+ghost use Rattle.fuse_session.specs.Ran.{Ran};
+ghost use Rattle.fuse_session.specs.declared.steps.HandshakeOutcome.TheVariants.{Accepted};
 ghost use Rattle.fuse_wire.specs.Faults.{Rose};
 ghost use Rattle.fuse_wire.specs.Source.{SourceState};
 ghost use Rattle.fuse_wire.specs.Sink.{SinkState};
@@ -20,10 +20,16 @@ ghost use Rattle.fuse_wire.specs.Sink.{SinkState};
 use crate::{BackgroundSession, Ended, Filesystem, SessionError, Spawner};
 use fuse_config::{Config, SessionACL};
 use fuse_dispatch::{AccessRule, Asking, Service, Shared};
-use fuse_handshake::{HandshakeOutcome, handshake};
+use crate::steps::HandshakeOutcome;
+use crate::steps::handshake;
 use fuse_loop::Channel;
 use fuse_notify::Notifier;
-use fuse_run::{Runnable, SessionMemory, prepare, prepare_device, unopened, untouched};
+use crate::runnable::Runnable;
+use crate::options::SessionMemory;
+use crate::options::prepare;
+use crate::options::prepare_device;
+use crate::ended::unopened;
+use crate::ended::untouched;
 use fuse_wire::{NoMemory, Sink, Source};
 use std::marker::Model;
 use std::sync::Wait;
@@ -40,7 +46,7 @@ pub struct Session<FS, S: Source, K: Sink> {
 impl<FS, S: Source, K: Sink> Model for Session<FS, S, K> {
     ghost use Rattle.std.specs.Prelude.{◌≡◌};
     ghost use Rattle.fuse_notify.specs.Queueing.{fresh_door};
-    ghost use Rattle.fuse_run.specs.Ran.{Opened};
+    ghost use Rattle.fuse_session.specs.Ran.{Opened};
 
     ghost Value = { Opened FS };
 

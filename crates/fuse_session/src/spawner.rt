@@ -1,6 +1,6 @@
 // What runs sessions in the background.
 ghost use Rattle.std.specs.Prelude.{◌≡◌, MatchResult};
-ghost use Rattle.fuse_background.specs.Started.{started};
+ghost use Rattle.fuse_session.specs.Started.{started};
 ghost use Rattle.fuse_session.specs.Spawning.{StartsOne, refused_by};
 ghost use Rattle.fuse_wire.specs.Faults.{Rose};
 

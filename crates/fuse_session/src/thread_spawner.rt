@@ -1,6 +1,6 @@
 // Sessions on threads of their own.
 ghost use Rattle.std.specs.Prelude.{◌≡◌, MatchResult};
-ghost use Rattle.fuse_background.specs.Started.{started};
+ghost use Rattle.fuse_session.specs.Started.{started};
 ghost use Rattle.fuse_wire.specs.Faults.{Rose};
 ghost use Rattle.fuse_session.specs.Starts.{CountsRefusal};
 

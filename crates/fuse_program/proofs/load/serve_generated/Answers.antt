@@ -1,10 +1,10 @@
 use Rattle.std.proofs.Common.{◌≡◌, ℕ, List, Ok, Some, ap, refl, sym, subst, inl, arith}
 use Rattle.fuse_config.specs.declared.session_acl.SessionACL.TheVariants.{All}
 use Rattle.fuse_session.specs.Exchange.{Mounted, setup_of}
-use Rattle.fuse_run.specs.SessionEnd.{Outcome}
+use Rattle.fuse_session.specs.SessionEnd.{Outcome}
 use Rattle.fuse_session.specs.Headline.{Headline, Lossless}
-use Rattle.fuse_run.specs.Refused.{Untouched}
-use Rattle.fuse_run.proofs.Refusing.{OptionsWell-none_listed}
+use Rattle.fuse_session.specs.Refused.{Untouched}
+use Rattle.fuse_session.proofs.Refusing.{OptionsWell-none_listed}
 use Rattle.fuse_tree.specs.Store.{Stored, messages_told, stored_told}
 use Rattle.fuse_tree.specs.Tree.{tree_promise}
 use Rattle.fuse_program.proofs.Loading.{Summarizes-ok, empty, failure-causes}

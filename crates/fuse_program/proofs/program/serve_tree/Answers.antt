@@ -8,12 +8,12 @@ use Rattle.fuse_wire.specs.StreamSink.{Stands, stream_sink_told}
 use Rattle.fuse_session.specs.Complete.{SessionWell}
 use Rattle.fuse_session.specs.Exchange.{Mounted}
 use Rattle.fuse_session.specs.Headline.{Headline, Lossless}
-use Rattle.fuse_run.specs.Refused.{Untouched}
-use Rattle.fuse_run.specs.declared.error.SessionError.TheVariants.{Memory}
+use Rattle.fuse_session.specs.Refused.{Untouched}
+use Rattle.fuse_session.specs.declared.error.SessionError.TheVariants.{Memory}
 use Rattle.fuse_program.specs.Program.{ByteExchange, form_setup}
 use Rattle.fuse_program.specs.Status.{status}
 use Rattle.fuse_tree.specs.Tree.{tree_promise, tree_may_init}
-use Rattle.fuse_run.proofs.Refusing.{OptionsWell-none_listed}
+use Rattle.fuse_session.proofs.Refusing.{OptionsWell-none_listed}
 use Rattle.fuse_program.proofs.Conversing.{AcceptsAll-tree, ByteExchange-mounted, EachAnswered-headline, SessionWell-bytes, complete-status}
 use Rattle.fuse_program.proofs.Statuses.{nine-untouched, zero-status}
 use Rattle.fuse_program.proofs.Streams.{source-same, sink-same, carried}

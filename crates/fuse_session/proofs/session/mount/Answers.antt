@@ -1,7 +1,7 @@
 -- A session that is opened and run ends well where nothing is amiss.
 use Rattle.std.proofs.Common.{ℕ, Option, inl, inr, sym, subst}
 use Rattle.fuse_config.specs.declared.session_acl.SessionACL.{SessionACL}
-use Rattle.fuse_run.specs.Accounted.{NeverLater}
+use Rattle.fuse_session.specs.Accounted.{NeverLater}
 use Rattle.fuse_session.specs.Complete.{SessionWell}
 use Rattle.fuse_session.specs.Headline.{Headline, LaterHeadline}
 use Rattle.fuse_session.specs.Session.{setup_for}

@@ -1,6 +1,6 @@
 -- A session that is not opened is closed.
 use Rattle.std.proofs.Common.{sym, subst}
-use Rattle.fuse_run.specs.SessionEnd.{Outcome}
+use Rattle.fuse_session.specs.SessionEnd.{Outcome}
 use Rattle.fuse_session.specs.Session.{OpensNone}
 use Rattle.fuse_session.proofs.SessionParts.{Closed-unopened}
 use Rattle.fuse_session.proofs.session.open.Goals as goal

@@ -2,7 +2,7 @@
 use Rattle.std.proofs.Common.{Err, sym, subst}
 use Rattle.fuse_session.specs.Exchange.{Unopened, setup_of}
 use Rattle.fuse_session.specs.Session.{OpensNone}
-use Rattle.fuse_run.specs.declared.error.SessionError.{SessionError}
+use Rattle.fuse_session.specs.declared.error.SessionError.{SessionError}
 use Rattle.fuse_session.proofs.Exchanging.{Unopened-failed, Unopened-gone, Unopened-refused}
 use Rattle.fuse_session.proofs.SessionParts.{opens_none-refused}
 use Rattle.fuse_session.proofs.session.shake.Goals as goal

@@ -1,7 +1,7 @@
 -- Why a session is not opened.
 use Rattle.std.proofs.Common.{◌∙◌, Err, ap}
 use Rattle.fuse_session.proofs.Opening.{IfErr-map, never-closed, never-closed_by_init, no-options}
-use Rattle.fuse_run.proofs.Refusing.{Memory-not_begun, OptionsWell-none, refused-not_begun}
+use Rattle.fuse_session.proofs.Refusing.{Memory-not_begun, OptionsWell-none, refused-not_begun}
 use Rattle.fuse_session.proofs.session.Session.new.Goals as goal
 
 pub returns-in-Ok-clause-complete : goal.returns-in-Ok-clause-complete

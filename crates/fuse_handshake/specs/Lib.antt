@@ -1,2 +1,0 @@
-pub mod Handshake
-pub mod HandshakeStep

@@ -1,4 +1,0 @@
-pub mod Accounted
-pub mod SessionEnd
-pub mod Ran
-pub mod Refused

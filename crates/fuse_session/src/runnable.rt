@@ -1,0 +1,178 @@
+// What runs of a session.
+ghost use Rattle.std.specs.Prelude.{◌≡◌, ℕ, List, [], Some};
+ghost use Rattle.fuse_session.specs.Accounted.{Accounted, NeverLater};
+ghost use Rattle.fuse_dispatch.specs.OwedMessage.{OwedByPromise};
+ghost use Rattle.fuse_session.specs.Ran.{LaterServed, Ran};
+ghost use Rattle.fuse_session.specs.SessionEnd.{run_outcome};
+ghost use Rattle.fuse_loop.specs.EventLoop.{Run};
+ghost use Rattle.fuse_loop.specs.Lines.{IsUnused, unasked_of};
+ghost use Rattle.fuse_loop.specs.Progress.{added, nothing_yet, progress};
+
+use crate::ended::{destroyed, run_outcome};
+use crate::options::several;
+use crate::{Ended, SessionError};
+use fuse_dispatch::{Asking, Filesystem, Service, Shared};
+use fuse_loop::{Buffers, Channel, Lines, RunEnd, Transcript, run_inline};
+use fuse_wire::{Sink, Source};
+use fuse_workers::run_workers;
+use std::alloc::AllocGlobal;
+use std::marker::Model;
+use std::sync::Wait;
+use std::thread::Threads;
+
+/// What runs of a session: all of it but its notifier to spare, which stays with whoever starts it. It must be spent. A
+/// contract sees the session.
+pub struct Runnable<FS, S: Source, K: Sink> {
+    /// The filesystem after the handshake, with the rule by which it is asked.
+    pub shared: Shared<Asking<FS>>,
+    /// How many threads are to serve. None is one.
+    pub n_threads: Option<usize>,
+    /// The source and the sink, with the buffer and the counts of the handshake.
+    pub channel: Channel<S, K>,
+    /// The lines of the run, of which nobody used one yet.
+    pub lines: Lines,
+}
+
+impl<FS, S: Source, K: Sink> Model for Runnable<FS, S, K> {
+    ghost use Rattle.fuse_loop.specs.Lines.{IsUnused};
+    ghost use Rattle.fuse_session.specs.Ran.{Opened};
+
+    ghost Value = { Opened FS };
+
+    ghost view = { λ s. record {
+      filesystem = s.shared.service.handler.filesystem;
+      acl = s.shared.service.rule.acl;
+      owner = s.shared.service.rule.owner;
+      threads = s.n_threads;
+      progress = s.channel.progress;
+      line = s.lines.frames.line;
+    } };
+
+    ghost invariant = { λ s. IsUnused s.lines };
+}
+
+/// How the later messages were served.
+struct ServedRun<S, K> {
+    outcome: Result<(), SessionError>,
+    transcript: Transcript,
+    source: S,
+    sink: K,
+}
+
+/// Answers the later messages: on this thread, or on so many others where more than one is asked for.
+fn answer_all<R: Threads + Wait + AllocGlobal + Sync, FS: Filesystem, S: Source, K: Sink + Send>(
+    rt: &R,
+    shared: &Shared<Asking<FS>>,
+    n_threads: Option<usize>,
+    source: S,
+    sink: K,
+    buffers: Buffers,
+) -> RunEnd<S, K>
+    requires unused { IsUnused buffers }
+    ensures run { Run (Accounted n_threads FS.promise.defers (OwedByPromise FS.promise shared.now.service.handler.filesystem
+        shared.now.service.rule.acl shared.now.service.rule.owner)) result.end
+        (progress (S.told source) (K.told sink) nothing_yet [])
+        (progress (S.told result.source) (K.told result.sink) result.transcript (unasked_of result.buffers)) }
+    ensures recorded { NeverLater n_threads FS.promise.defers → result.transcript.unrecorded ≡ 0 }
+{
+    match several(n_threads) {
+        Some(count) => run_workers(rt, shared, source, sink, buffers, count),
+        None => run_inline(rt, &shared.service, source, sink, buffers),
+    }
+}
+
+/// What is left of a run, after a handshake with these counts. Its memory is let go.
+fn conclude<S: Source, K: Sink>(shaken: Transcript, run: RunEnd<S, K>) -> ServedRun<S, K>
+    ensures outcome { result.outcome ≡ run_outcome run.end }
+    ensures transcript { result.transcript ≡ added shaken run.transcript }
+    ensures devices { (result.source ≡ run.source) × (result.sink ≡ run.sink) }
+{
+    let RunEnd {
+        end,
+        transcript,
+        source,
+        sink,
+        buffers,
+    } = run;
+    drop(buffers);
+    ServedRun {
+        outcome: run_outcome(end),
+        transcript: shaken.and(transcript),
+        source,
+        sink,
+    }
+}
+
+/// Serves a session that was opened, after a handshake with these counts. No thread is to serve where their number is 0.
+fn serve<R: Threads + Wait + AllocGlobal + Sync, FS: Filesystem, S: Source, K: Sink + Send>(
+    rt: &R,
+    shared: &Shared<Asking<FS>>,
+    n_threads: Option<usize>,
+    shaken: Transcript,
+    source: S,
+    sink: K,
+    buffers: Buffers,
+) -> ServedRun<S, K>
+    requires unused { IsUnused buffers }
+    requires shaken { shaken.unrecorded ≡ 0 }
+    ensures ends { (unasked : List (List ℕ)) × LaterServed FS.promise shared.now.service.handler.filesystem
+        shared.now.service.rule.acl shared.now.service.rule.owner n_threads result.outcome
+        (progress (S.told source) (K.told sink) shaken [])
+        (progress (S.told result.source) (K.told result.sink) result.transcript unasked) }
+    ensures recorded { NeverLater n_threads FS.promise.defers → result.transcript.unrecorded ≡ 0 }
+{
+    if n_threads == Some(0) {
+        drop(buffers);
+        return ServedRun {
+            outcome: Err(SessionError::Threads),
+            transcript: shaken,
+            source,
+            sink,
+        };
+    }
+    let run = answer_all(rt, shared, n_threads, source, sink, buffers);
+    conclude(shaken, run)
+}
+
+impl<FS: Filesystem, S: Source, K: Sink + Send> Runnable<FS, S, K> {
+    /// Serves the session to its end, as `Session::run` says.
+    pub fn run<R: Threads + Wait + AllocGlobal + Sync>(self, rt: &R) -> Ended<FS, S, K>
+        ensures { Ran FS.promise self result.filesystem result.outcome
+            (S.told result.source) (K.told result.sink) result.transcript }
+    {
+        let Runnable {
+            shared,
+            n_threads,
+            channel,
+            lines,
+        } = self;
+        let (source, sink, buffers, shaken) = channel.close(lines);
+        let ServedRun {
+            outcome,
+            transcript,
+            source,
+            sink,
+        } = serve(rt, &shared, n_threads, shaken, source, sink, buffers);
+        let Shared { service } = shared;
+        let Service {
+            handler: Asking { filesystem },
+            rule: _,
+        } = service;
+        destroyed(filesystem, source, sink, transcript, outcome)
+    }
+}
+
+impl<FS: Drop, S: Source + Drop, K: Sink + Drop> Runnable<FS, S, K> {
+    /// Gives it up, unserved: a closure that a thread never ran is dropped with what it holds.
+    pub fn discard(self) {
+        let Runnable {
+            shared,
+            n_threads: _,
+            channel,
+            lines,
+        } = self;
+        drop(shared);
+        drop(channel);
+        drop(lines);
+    }
+}
