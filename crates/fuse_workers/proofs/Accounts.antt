@@ -12,7 +12,7 @@ use Rattle.fuse_book.specs.AreMatched.{AreMatched, Tag}
 use Rattle.fuse_core.specs.OnePerMessage.{OnePerMessage, Owing, UpToOrder}
 use Rattle.fuse_workers.specs.OnePerMessageLater.{OnePerMessageLater}
 use Rattle.fuse_loop.specs.Progress.{LeavesOut}
-use Rattle.fuse_sender.specs.Relays.{late_out}
+use Rattle.fuse_workers.specs.Relays.{late_out}
 use Rattle.fuse_loop.proofs.Quieting.{LeavesOut-none}
 
 -- where nothing is left out, all is kept

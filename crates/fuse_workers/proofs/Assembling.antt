@@ -10,28 +10,28 @@ use Rattle.fuse_reply.specs.declared.out.Out.{Out}
 use Rattle.fuse_reply.specs.declared.out.Out.TheVariants.{Frame, Note as Noting, Deferred}
 use Rattle.fuse_line.specs.declared.hand.Hand.{Hand}
 use Rattle.fuse_reply.specs.declared.parcel.Parcel.{Parcel}
-use Rattle.fuse_sender.specs.HandingOn.{AnsweredBy, answered_last}
+use Rattle.fuse_workers.specs.HandingOn.{AnsweredBy, answered_last}
 use Rattle.fuse_workers.specs.Conducting.{Conducts}
 use Rattle.fuse_loop.specs.EventLoop.{Run, RunEnds}
-use Rattle.fuse_sender.specs.Hearing.{Hears, StopsWith, end_of}
+use Rattle.fuse_workers.specs.Hearing.{Hears, StopsWith, end_of}
 use Rattle.fuse_loop.specs.Incoming.{AllGoOn, IsBroken}
 use Rattle.fuse_loop.specs.Lines.{lates_in, notices_in}
 use Rattle.fuse_book.specs.Book.{EachWaiting, IsBookOf, tags_of}
 use Rattle.fuse_book.specs.AreMatched.{AreMatched, Tag}
 use Rattle.fuse_workers.specs.OnePerMessageLater.{EachLetGo, NoneHeldBack, OnePerMessageLater}
-use Rattle.fuse_sender.specs.Relays.{RelayState, Relays, is_own, late_out, with_tag}
+use Rattle.fuse_workers.specs.Relays.{RelayState, Relays, is_own, late_out, with_tag}
 use Rattle.fuse_reply.specs.Late.{LateSeen}
 use Rattle.fuse_core.specs.OnePerMessage.{Accounting, OnePerMessage, Owing, UpToOrder, number_of}
-use Rattle.fuse_sender.specs.Pairing.{Parts, numbered, outs_of}
+use Rattle.fuse_workers.specs.Pairing.{Parts, numbered, outs_of}
 use Rattle.fuse_loop.specs.Progress.{IntakeState, IsPrompt, LeavesOut, Moves, but_unrecorded, nothing_yet, progress, tally}
 use Rattle.fuse_loop.specs.Answering.{answering}
-use Rattle.fuse_sender.specs.declared.stopped.Stopped.{Stopped}
-use Rattle.fuse_sender.specs.declared.stopped.Stopped.TheVariants.{Gone, Destroy, Broken, Failed}
+use Rattle.fuse_workers.specs.declared.stopped.Stopped.{Stopped}
+use Rattle.fuse_workers.specs.declared.stopped.Stopped.TheVariants.{Gone, Destroy, Broken, Failed}
 use Rattle.fuse_core.specs.declared.state.Job.{Job}
 use Rattle.fuse_loop.specs.declared.transcript.Transcript.{Transcript}
 use Rattle.fuse_book.proofs.Bookkeeping.{IsBookOf-matches}
 use Rattle.fuse_workers.proofs.LateReplies.{each-arrived, each-let_go, gone-matched, none-arrived, none-gone, none-unused, replies-gone}
-use Rattle.fuse_sender.proofs.Pairing.{OnePerMessage-parts, Pairs-all, Parts-prompt}
+use Rattle.fuse_workers.proofs.Pairing.{OnePerMessage-parts, Pairs-all, Parts-prompt}
 use Rattle.fuse_loop.proofs.Quieting.{LeavesOut-none}
 use Rattle.fuse_workers.proofs.Splitting.{Split, bytes_of, frames_gone, split}
 

@@ -11,26 +11,26 @@ use Rattle.fuse_reply.specs.Late.{LateSeen}
 use Rattle.fuse_reply.specs.Parcel.{is_prompt}
 use Rattle.fuse_reply.specs.declared.out.Out.{Out}
 use Rattle.fuse_reply.specs.declared.parcel.Parcel.{Parcel}
-use Rattle.fuse_sender.specs.Alone.{ServesAlone}
-use Rattle.fuse_sender.specs.HandingOn.{AnsweredBy, answered_last}
+use Rattle.fuse_workers.specs.Alone.{ServesAlone}
+use Rattle.fuse_workers.specs.HandingOn.{AnsweredBy, answered_last}
 use Rattle.fuse_workers.specs.Conducting.{Conducts}
-use Rattle.fuse_sender.specs.Hearing.{Hears}
+use Rattle.fuse_workers.specs.Hearing.{Hears}
 use Rattle.atomic_table.specs.Seated.{TableId}
 use Rattle.std.specs.List.Sorted.{IsPermutation}
 use Rattle.fuse_loop.specs.Lines.{IsAlone, IsDrained, LinesState, lates_in, notices_in}
 use Rattle.fuse_core.specs.OnePerMessage.{Owing}
-use Rattle.fuse_sender.specs.Pairing.{outs_of}
+use Rattle.fuse_workers.specs.Pairing.{outs_of}
 use Rattle.fuse_loop.specs.Progress.{IntakeState}
-use Rattle.fuse_sender.specs.Relays.{IsRelayed, RelayState, Relays}
-use Rattle.fuse_jobs.specs.Answered.{IsCaller}
-use Rattle.fuse_sender.specs.declared.stopped.Stopped.{Stopped}
+use Rattle.fuse_workers.specs.Relays.{IsRelayed, RelayState, Relays}
+use Rattle.fuse_workers.specs.Answered.{IsCaller}
+use Rattle.fuse_workers.specs.declared.stopped.Stopped.{Stopped}
 use Rattle.fuse_core.specs.declared.state.Job.{Job}
 use Rattle.fuse_loop.proofs.ItemLists.{filter-all}
 use Rattle.fuse_loop.proofs.FrameLines.{notices-append}
-use Rattle.fuse_sender.proofs.Pairing.{outs_of-append}
-use Rattle.fuse_sender.proofs.Relaying.{Relays-then, lates-append}
-use Rattle.fuse_sender.proofs.ServingAlone.{outs-first, outs-none}
-use Rattle.fuse_jobs.proofs.Working.{Caller-settled}
+use Rattle.fuse_workers.proofs.Pairing.{outs_of-append}
+use Rattle.fuse_workers.proofs.Relaying.{Relays-then, lates-append}
+use Rattle.fuse_workers.proofs.ServingAlone.{outs-first, outs-none}
+use Rattle.fuse_workers.proofs.Working.{Caller-settled}
 
 -- the first pass of frames after the sender's was joined
 pub joined-sender : (f v : Hand Parcel) → v.put ≡ [] → f.taken ≡ [] → f.kind ≡ First → v.kind ≡ Inner → f.others ≡ 1 → joined f v ≡ hand First 0 f.put v.taken

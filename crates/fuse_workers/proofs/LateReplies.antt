@@ -8,7 +8,7 @@ use Rattle.fuse_book.specs.Book.{IsBookOf, tags_of}
 use Rattle.fuse_core.specs.Marks.{late_tag}
 use Rattle.fuse_book.specs.AreMatched.{HasUnused, AreMatched, Tag}
 use Rattle.fuse_workers.specs.OnePerMessageLater.{EachLetGo}
-use Rattle.fuse_sender.specs.Relays.{IsLateReply, is_own, with_tag}
+use Rattle.fuse_workers.specs.Relays.{IsLateReply, is_own, with_tag}
 use Rattle.fuse_book.specs.declared.book.Book.{Book}
 use Rattle.fuse_book.proofs.Bookkeeping.{IsBookOf-came, IsBookOf-matches, IsBookOf-sent, first_or_later, Contains-first, Contains-later}
 use Rattle.fuse_book.proofs.Matching.{same_is}

@@ -5,10 +5,10 @@ use Rattle.fuse_reply.specs.Late.{LateSeen}
 use Rattle.fuse_reply.specs.declared.out.Out.{Out}
 use Rattle.fuse_reply.specs.declared.out.Out.TheVariants.{Frame, Note, Deferred}
 use Rattle.fuse_book.specs.AreMatched.{Tag}
-use Rattle.fuse_sender.specs.Pairing.{Parts}
+use Rattle.fuse_workers.specs.Pairing.{Parts}
 use Rattle.fuse_loop.specs.Progress.{LeavesOut}
-use Rattle.fuse_sender.specs.Relays.{late_out}
-use Rattle.fuse_sender.proofs.Relaying.{gone_out}
+use Rattle.fuse_workers.specs.Relays.{late_out}
+use Rattle.fuse_workers.proofs.Relaying.{gone_out}
 
 -- the late frames, without the tags that they went under
 abbrev pub frames_gone : List (Tag × LateSeen) → List LateSeen

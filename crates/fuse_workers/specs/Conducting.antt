@@ -8,9 +8,9 @@ use Rattle.fuse_reply.specs.declared.parcel.Parcel.{Parcel}
 use Rattle.fuse_loop.specs.Lines.{lates_in, notices_in}
 use Rattle.fuse_core.specs.OnePerMessage.{Owing}
 use Rattle.fuse_loop.specs.Progress.{IntakeState}
-use Rattle.fuse_sender.specs.HandingOn.{HandsOn}
-use Rattle.fuse_sender.specs.Relays.{RelayState}
-use Rattle.fuse_sender.specs.declared.stopped.Stopped.{Stopped}
+use Rattle.fuse_workers.specs.HandingOn.{HandsOn}
+use Rattle.fuse_workers.specs.Relays.{RelayState}
+use Rattle.fuse_workers.specs.declared.stopped.Stopped.{Stopped}
 use Rattle.fuse_core.specs.declared.state.Job.{Job}
 
 -- Each first pass is alone, and took what was pushed; what the one of frames took was handed on, and so was what the caller gave out itself,

@@ -1,3 +1,11 @@
+pub mod Pairing
+pub mod Relays
+pub mod Hearing
+pub mod HandingOn
+pub mod Alone
+pub mod Answered
+pub mod Turns
+pub mod Callers
 pub mod Promises
 pub mod Conducting
 pub mod OnePerMessageLater

@@ -9,7 +9,7 @@ use Rattle.fuse_core.specs.Marks.{late_tag}
 use Rattle.fuse_book.specs.AreMatched.{HasUnused, AreMatched}
 use Rattle.fuse_core.specs.OnePerMessage.{OnePerMessage, Owing}
 use Rattle.fuse_loop.specs.Progress.{LeavesOut}
-use Rattle.fuse_sender.specs.Relays.{IsLateReply, late_out}
+use Rattle.fuse_workers.specs.Relays.{IsLateReply, late_out}
 
 -- Each message is owed a frame that was sent at once, a note, a mark, or what was lost at once. Beside those frames the late ones were
 -- sent that were let go, but for those lost: these go to different marks, each with its number and id.

@@ -3,7 +3,7 @@ use Rattle.std.specs.Prelude.{◌≡◌}
 use Rattle.atomic_table.specs.Seated.{TableId}
 use Rattle.fuse_reply.specs.EndMark.{EndMarkSeen}
 use Rattle.fuse_loop.specs.Lines.{LinesState}
-use Rattle.fuse_jobs.specs.declared.caller.Caller.{Caller}
+use Rattle.fuse_workers.specs.declared.caller.Caller.{Caller}
 use Rattle.fuse_workers.specs.declared.threads.WorkerPromise.{WorkerPromise}
 
 -- this work, this line of jobs and this line of frames

@@ -6,13 +6,14 @@ ghost use Rattle.fuse_line.specs.declared.hand.Kind.TheVariants.{First};
 ghost use Rattle.fuse_reply.specs.Parcel.{is_prompt};
 ghost use Rattle.fuse_reply.specs.declared.parcel.Parcel.{Parcel as Goes};
 ghost use Rattle.fuse_loop.specs.Lines.{ended_by};
-ghost use Rattle.fuse_sender.specs.Relays.{Relays, relay_of};
+ghost use Rattle.fuse_workers.specs.Relays.{Relays, relay_of};
 
-use fuse_jobs::Caller;
+use crate::caller::Caller;
 use fuse_line::{Line, Pass};
 use fuse_loop::Ending;
 use fuse_reply::Parcel;
-use fuse_sender::{Relay, send_rest};
+use crate::relay::Relay;
+use crate::sender::send_rest;
 use fuse_wire::Sink;
 use std::sync::Wait;
 

@@ -2,9 +2,9 @@
 // that it is the same, and what became of it.
 ghost use Rattle.std.specs.Prelude.{◌≡◌};
 
-use fuse_jobs::Caller;
+use crate::caller::Caller;
 use fuse_loop::{Ending, Intake};
-use fuse_sender::Relay;
+use crate::relay::Relay;
 use fuse_wire::{Sink, Source};
 
 /// The ends of a run, lent to whoever conducts it, the first passes of its lines, and the mark of its end.

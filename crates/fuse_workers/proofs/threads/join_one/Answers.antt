@@ -3,10 +3,10 @@ use Rattle.fuse_line.specs.Hand.{joined}
 use Rattle.fuse_line.specs.declared.hand.Hand.{Hand}
 use Rattle.fuse_reply.specs.declared.parcel.Parcel.{Parcel}
 use Rattle.fuse_core.specs.OnePerMessage.{Owing}
-use Rattle.fuse_jobs.specs.Answered.{IsCaller, IsServed}
+use Rattle.fuse_workers.specs.Answered.{IsCaller, IsServed}
 use Rattle.fuse_loop.specs.Answering.{answering}
 use Rattle.fuse_core.specs.declared.state.Job.{Job}
-use Rattle.fuse_jobs.proofs.Working.{Caller-joined}
+use Rattle.fuse_workers.proofs.Working.{Caller-joined}
 use Rattle.fuse_workers.proofs.threads.join_one.Goals as goal
 
 pub returns-clause-caller : goal.returns-clause-caller

@@ -2,7 +2,7 @@ use Rattle.std.proofs.Common.{◌≡◌, ◌+◌, ◌<◌, ℕ, List, get_or}
 use Rattle.std.specs.Vec.Iter.{into_iter_items, into_iter_len}
 use Rattle.fuse_line.specs.declared.hand.Kind.TheVariants.{First}
 use Rattle.fuse_workers.specs.Promises.{PromisesFor}
-use Rattle.fuse_jobs.specs.Answered.{IsCaller}
+use Rattle.fuse_workers.specs.Answered.{IsCaller}
 use Rattle.fuse_loop.specs.Answering.{answering}
 use Rattle.fuse_workers.proofs.threads.join_workers.Given as goal
 

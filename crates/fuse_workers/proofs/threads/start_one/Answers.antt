@@ -3,10 +3,10 @@ use Rattle.fuse_line.specs.Hand.{joined, with_other}
 use Rattle.fuse_line.specs.declared.hand.Hand.{Hand}
 use Rattle.fuse_reply.specs.declared.parcel.Parcel.{Parcel}
 use Rattle.fuse_core.specs.OnePerMessage.{Owing}
-use Rattle.fuse_jobs.specs.Answered.{IsCaller, IsServed}
+use Rattle.fuse_workers.specs.Answered.{IsCaller, IsServed}
 use Rattle.fuse_loop.specs.Answering.{answering}
 use Rattle.fuse_core.specs.declared.state.Job.{Job}
-use Rattle.fuse_jobs.proofs.Working.{Caller-joined, Caller-split}
+use Rattle.fuse_workers.proofs.Working.{Caller-joined, Caller-split}
 use Rattle.fuse_workers.proofs.threads.start_one.Goals as goal
 
 pub returns-in-Err-clause-caller : goal.returns-in-Err-clause-caller

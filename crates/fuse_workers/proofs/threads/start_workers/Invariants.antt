@@ -2,7 +2,7 @@ use Rattle.std.proofs.Common.{◌≡◌, ◌≤◌, ◌+◌, ◌-◌, [], length
 use Rattle.std.specs.List.{All}
 use Rattle.std.specs.Vec.{vec_capacity, vec_len}
 use Rattle.fuse_workers.specs.Promises.{PromisesFor}
-use Rattle.fuse_jobs.specs.Answered.{IsCaller}
+use Rattle.fuse_workers.specs.Answered.{IsCaller}
 use Rattle.fuse_loop.specs.Answering.{answering}
 use Rattle.fuse_workers.proofs.threads.start_workers.Given as goal
 

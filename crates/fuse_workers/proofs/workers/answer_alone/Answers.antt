@@ -3,7 +3,7 @@ use Rattle.fuse_line.specs.Hand.{hand}
 use Rattle.fuse_line.specs.declared.hand.Kind.TheVariants.{First}
 use Rattle.fuse_reply.specs.declared.parcel.Parcel.{Parcel}
 use Rattle.fuse_loop.specs.Answering.{answering}
-use Rattle.fuse_sender.proofs.ServingAlone.{ServesAlone-after, alone-hand, alone-itself, alone-taken, alone-unprompted, outs-first, outs-then}
+use Rattle.fuse_workers.proofs.ServingAlone.{ServesAlone-after, alone-hand, alone-itself, alone-taken, alone-unprompted, outs-first, outs-then}
 use Rattle.fuse_workers.proofs.workers.answer_alone.Goals as goal
 
 pub answer_in_turn_alone-stopped-requires-clause-unprompted : goal.answer_in_turn_alone-stopped-requires-clause-unprompted

@@ -3,10 +3,10 @@ use Rattle.fuse_line.specs.Hand.{hand, with_other}
 use Rattle.fuse_line.specs.declared.hand.Hand.{Hand}
 use Rattle.fuse_line.specs.declared.hand.Kind.TheVariants.{First}
 use Rattle.fuse_reply.specs.declared.parcel.Parcel.{Parcel}
-use Rattle.fuse_sender.specs.Relays.{IsRelayed, relay_of}
+use Rattle.fuse_workers.specs.Relays.{IsRelayed, relay_of}
 use Rattle.fuse_loop.specs.Answering.{answering}
 use Rattle.fuse_workers.proofs.Conducting.{Conducts-answered}
-use Rattle.fuse_jobs.proofs.Working.{Caller-idle}
+use Rattle.fuse_workers.proofs.Working.{Caller-idle}
 use Rattle.fuse_workers.proofs.workers.conduct.Goals as goal
 
 pub answer_all-stopped-requires-clause-caller : goal.answer_all-stopped-requires-clause-caller

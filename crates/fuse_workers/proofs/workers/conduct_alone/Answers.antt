@@ -4,10 +4,10 @@ use Rattle.fuse_line.specs.Seen.{Seen}
 use Rattle.fuse_line.specs.declared.hand.Hand.{Hand}
 use Rattle.fuse_line.specs.declared.hand.Kind.TheVariants.{First}
 use Rattle.fuse_reply.specs.declared.parcel.Parcel.{Parcel}
-use Rattle.fuse_sender.specs.Relays.{relay_of}
+use Rattle.fuse_workers.specs.Relays.{relay_of}
 use Rattle.fuse_loop.specs.Answering.{answering}
 use Rattle.fuse_core.specs.declared.state.Job.{Job}
-use Rattle.fuse_sender.proofs.ServingAlone.{alone-itself}
+use Rattle.fuse_workers.proofs.ServingAlone.{alone-itself}
 use Rattle.fuse_workers.proofs.Conducting.{Conducts-alone, joined-sender}
 use Rattle.fuse_workers.proofs.workers.conduct_alone.Goals as goal
 

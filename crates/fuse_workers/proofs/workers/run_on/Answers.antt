@@ -1,13 +1,13 @@
 use Rattle.std.proofs.Common.{◌≡◌, ◌∙◌, [], List, ap, subst, sym}
 use Rattle.fuse_reply.specs.Late.{LateSeen}
 use Rattle.fuse_loop.specs.EventLoop.{Run}
-use Rattle.fuse_sender.specs.Hearing.{end_of}
+use Rattle.fuse_workers.specs.Hearing.{end_of}
 use Rattle.fuse_loop.specs.Incoming.{IsBroken}
 use Rattle.fuse_loop.specs.Lines.{LinesState, late_of, lates_in, notices_in, unasked_of}
 use Rattle.fuse_core.specs.OnePerMessage.{Owing, UpToOrder}
 use Rattle.fuse_workers.specs.OnePerMessageLater.{NoneHeldBack}
 use Rattle.fuse_loop.specs.Progress.{Progress, nothing_yet, progress}
-use Rattle.fuse_sender.specs.Relays.{relay_of}
+use Rattle.fuse_workers.specs.Relays.{relay_of}
 use Rattle.fuse_loop.specs.declared.end.End.{End}
 use Rattle.fuse_workers.proofs.Assembling.{Run-later, Run-prompt, kept-by}
 use Rattle.fuse_workers.proofs.workers.run_on.Goals as goal

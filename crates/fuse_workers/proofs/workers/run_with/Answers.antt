@@ -1,9 +1,9 @@
 use Rattle.std.proofs.Common.{rules, subst}
 use Rattle.fuse_workers.specs.Conducting.{Conducts}
 use Rattle.fuse_loop.specs.Progress.{IntakeState}
-use Rattle.fuse_sender.specs.Relays.{relay_of}
+use Rattle.fuse_workers.specs.Relays.{relay_of}
 use Rattle.fuse_loop.specs.Answering.{answering}
-use Rattle.fuse_sender.specs.declared.relay.Relay.{Relay}
+use Rattle.fuse_workers.specs.declared.relay.Relay.{Relay}
 use Rattle.fuse_workers.proofs.workers.run_with.Goals as goal
 
 -- what was lent is as the run left it

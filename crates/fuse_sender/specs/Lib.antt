@@ -1,5 +1,0 @@
-pub mod Pairing
-pub mod Relays
-pub mod Hearing
-pub mod HandingOn
-pub mod Alone
