@@ -1,6 +1,6 @@
 -- What comes of a reply that can't be put off answers its call, where each answer is allowed.
 use Rattle.std.proofs.Common.{◌≡◌, ℕ, Result, lit<}
-use Rattle.fuse_operations.specs.Call.{Call}
+use Rattle.fuse_request.specs.Call.{Call}
 use Rattle.fuse_header.specs.declared.request.Request.{Request}
 use Rattle.fuse_reply.specs.Answer.Answer.{Error}
 use Rattle.fuse_reply.specs.Door.{DoorSeen}

@@ -1,6 +1,6 @@
 // A filesystem for tests, which puts each reply off.
 ghost use Rattle.std.specs.Prelude.{true, refl};
-ghost use Rattle.fuse_operations.specs.Call.{Call};
+ghost use Rattle.fuse_request.specs.Call.{Call};
 ghost use Rattle.fuse_header.specs.declared.request.Request.{Request as Asks};
 ghost use Rattle.fuse_dispatch.specs.OwedMessage.{Answers};
 ghost use Rattle.fuse_call_tests.specs.PuttingOff.{any_answer};

@@ -1,7 +1,7 @@
 -- What a request came to, by a door or at once, is what its message is owed.
 use Rattle.std.proofs.Common.{◌≡◌, ◌∙◌, ℕ, Bool, Result, Ok, Err, inl, inr, sym, ap, subst}
 use Rattle.atomic_table.specs.Seated.{TableId}
-use Rattle.fuse_operations.specs.Call.{Call}
+use Rattle.fuse_request.specs.Call.{Call}
 use Rattle.fuse_header.specs.declared.request.Request.{Request}
 use Rattle.fuse_reply.specs.Door.{DoorSeen}
 use Rattle.fuse_reply.specs.declared.door.NoDoor.{NoDoor}

@@ -1,10 +1,10 @@
 -- What the code decides of an operation is its verdict.
 use Rattle.std.proofs.Common.{◌≡◌, ◌∙◌, ℕ, true, false, None, Some, ap, refl}
-use Rattle.fuse_operations.specs.Call.{Call as Asked, call}
-use Rattle.fuse_operations.specs.Operation.{plain}
-use Rattle.fuse_operations.specs.declared.operation.Destroy.{Destroy}
-use Rattle.fuse_operations.specs.declared.operation.Operation.{Operation}
-use Rattle.fuse_operations.specs.declared.operation.Operation.TheVariants as op
+use Rattle.fuse_request.specs.Call.{Call as Asked, call}
+use Rattle.fuse_request.specs.Operation.{plain}
+use Rattle.fuse_request.specs.declared.operation.Destroy.{Destroy}
+use Rattle.fuse_request.specs.declared.operation.Operation.{Operation}
+use Rattle.fuse_request.specs.declared.operation.Operation.TheVariants as op
 use Rattle.fuse_dispatch.specs.Decided.{Decides}
 use Rattle.fuse_dispatch.specs.Verdict.{asking, fixed_error, fixed_or, is_forget, served}
 use Rattle.fuse_dispatch.specs.declared.decision.Verdict.TheVariants.{Forget, Call}

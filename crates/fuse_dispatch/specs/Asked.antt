@@ -1,7 +1,7 @@
 -- What came of a request that is served.
 use Rattle.std.specs.Prelude.{◌⊎◌, ℕ, Result}
-use Rattle.fuse_operations.specs.Operation.{plain}
-use Rattle.fuse_operations.specs.declared.operation.Operation.{Operation}
+use Rattle.fuse_request.specs.Operation.{plain}
+use Rattle.fuse_request.specs.declared.operation.Operation.{Operation}
 use Rattle.fuse_header.specs.declared.request.Request.{Request}
 use Rattle.fuse_reply.specs.Door.{DoorSeen}
 use Rattle.fuse_reply.specs.declared.door.NoDoor.{NoDoor}

@@ -2,9 +2,9 @@
 use Rattle.std.specs.Prelude.{◌≡◌, ⊤, ℕ, List, Some, Result, Ok, Err}
 use Rattle.fuse_header.specs.Header.{body, header_fields}
 use Rattle.fuse_header.specs.declared.header.Header.{Header}
-use Rattle.fuse_operations.specs.Call.{Call as Asked, call}
-use Rattle.fuse_operations.specs.Operation.{Op, plain}
-use Rattle.fuse_operations.specs.declared.operation.Operation.{Operation}
+use Rattle.fuse_request.specs.Call.{Call as Asked, call}
+use Rattle.fuse_request.specs.Operation.{Op, plain}
+use Rattle.fuse_request.specs.declared.operation.Operation.{Operation}
 use Rattle.fuse_request.specs.Decoding.{Is, Keeps, operation}
 use Rattle.fuse_dispatch.specs.Verdict.{Verdict as Decision}
 use Rattle.fuse_dispatch.specs.Verdict.Verdict.{Broken as IsBroken, Ends as IsEnds, Fixed as IsFixed, Forgets, Calls}

@@ -1,8 +1,8 @@
 -- What a call is answered where a filesystem wants nothing of its own: what the Rust crate's default methods answer.
 use Rattle.std.specs.Prelude.{◌≡◌, ℕ, zero, suc, List, Option, None, Some, length, slice_get}
 use Rattle.fuse_wire.specs.ErrorNumbers.{EPERM, ENOSYS}
-use Rattle.fuse_operations.specs.Call.{Call}
-use Rattle.fuse_operations.specs.Call.Call.{SymLink, Link, Open, StatFs, Release, OpenDir, ReleaseDir}
+use Rattle.fuse_request.specs.Call.{Call}
+use Rattle.fuse_request.specs.Call.Call.{SymLink, Link, Open, StatFs, Release, OpenDir, ReleaseDir}
 use Rattle.fuse_reply.specs.Answer.{Answer}
 use Rattle.fuse_reply.specs.Answer.Answer.{Error, Empty, Open as Opened, Statfs}
 

@@ -1,10 +1,10 @@
 -- Which answers the reply of a call can give.
 use Rattle.std.specs.Prelude.{ℕ, ◌≤◌, length}
-use Rattle.fuse_operations.specs.Call.{Call}
-use Rattle.fuse_operations.specs.Call.Call.{Lookup, Forget, GetAttr, SetAttr, ReadLink, SymLink, MkNod, MkDir, Unlink, RmDir, Rename, Link, Open, Read}
-use Rattle.fuse_operations.specs.Call.Call.{Write, StatFs, Release, FSync, SetXAttr, GetXAttr, ListXAttr, RemoveXAttr, Flush, OpenDir, ReadDir}
-use Rattle.fuse_operations.specs.Call.Call.{ReleaseDir, FSyncDir, GetLk, SetLk, Access, Create, BMap, IoCtl, Poll, BatchForget, FAllocate}
-use Rattle.fuse_operations.specs.Call.Call.{ReadDirPlus, Lseek, CopyFileRange}
+use Rattle.fuse_request.specs.Call.{Call}
+use Rattle.fuse_request.specs.Call.Call.{Lookup, Forget, GetAttr, SetAttr, ReadLink, SymLink, MkNod, MkDir, Unlink, RmDir, Rename, Link, Open, Read}
+use Rattle.fuse_request.specs.Call.Call.{Write, StatFs, Release, FSync, SetXAttr, GetXAttr, ListXAttr, RemoveXAttr, Flush, OpenDir, ReadDir}
+use Rattle.fuse_request.specs.Call.Call.{ReleaseDir, FSyncDir, GetLk, SetLk, Access, Create, BMap, IoCtl, Poll, BatchForget, FAllocate}
+use Rattle.fuse_request.specs.Call.Call.{ReadDirPlus, Lseek, CopyFileRange}
 use Rattle.fuse_reply.specs.Answer.{Answer}
 use Rattle.fuse_reply.specs.Listing.{listing, plus_listing}
 

@@ -2,8 +2,8 @@
 use Rattle.std.specs.Prelude.{◌≡◌, ◌⊎◌, ◌==◌, ℕ, List, IsTrue, Bool, true, false, Result, Ok, Err, refl, if◌then◌else◌}
 use Rattle.std.proofs.Common.{sym, subst}
 use Rattle.fuse_wire.specs.ErrorNumbers.{ENOMEM}
-use Rattle.fuse_operations.specs.Call.{Call}
-use Rattle.fuse_operations.specs.Call.Call.{Poll}
+use Rattle.fuse_request.specs.Call.{Call}
+use Rattle.fuse_request.specs.Call.Call.{Poll}
 use Rattle.fuse_header.specs.Header.{header, header_fields, body, request_of}
 use Rattle.fuse_header.specs.Opcode.{FUSE_DESTROY}
 use Rattle.fuse_request.specs.Decoding.{operation}

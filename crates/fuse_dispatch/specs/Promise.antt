@@ -2,7 +2,7 @@
 use Rattle.std.specs.Prelude.{ℕ, Bool, Result}
 use Rattle.fuse_config.specs.Values.{Configuration}
 use Rattle.fuse_reply.specs.Answer.{Answer}
-use Rattle.fuse_operations.specs.Call.{Call}
+use Rattle.fuse_request.specs.Call.{Call}
 use Rattle.fuse_header.specs.declared.request.Request.{Request}
 
 -- `init` may give this result to a request, and leave this filesystem and configuration

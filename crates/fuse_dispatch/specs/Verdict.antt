@@ -6,14 +6,14 @@ use Rattle.fuse_config.specs.declared.session_acl.SessionACL.TheVariants.{All, R
 use Rattle.fuse_header.specs.declared.error.RequestError.{RequestError}
 use Rattle.fuse_header.specs.declared.header.Header.{Header}
 use Rattle.fuse_header.specs.Header.{header, body}
-use Rattle.fuse_operations.specs.Call.{Call, call}
-use Rattle.fuse_operations.specs.Fields.{file_offset, signed_offset, is_unrestricted}
+use Rattle.fuse_request.specs.Call.{Call, call}
+use Rattle.fuse_request.specs.Fields.{file_offset, signed_offset, is_unrestricted}
 use Rattle.fuse_header.specs.Opcode.{FUSE_FORGET, FUSE_READ, FUSE_WRITE, FUSE_RELEASE, FUSE_FSYNC, FUSE_INIT}
 use Rattle.fuse_header.specs.Opcode.{FUSE_READDIR, FUSE_RELEASEDIR, FUSE_FSYNCDIR, FUSE_DESTROY, FUSE_BATCH_FORGET, FUSE_READDIRPLUS}
-use Rattle.fuse_operations.specs.Operation.{Op}
+use Rattle.fuse_request.specs.Operation.{Op}
 use Rattle.fuse_request.specs.Decoding.{operation}
-use Rattle.fuse_operations.specs.Operation.Op.{Forget, Init, Read, Write, Interrupt, NotifyReply, CuseInit, IoCtl, BatchForget, FAllocate}
-use Rattle.fuse_operations.specs.Operation.Op.{CopyFileRange}
+use Rattle.fuse_request.specs.Operation.Op.{Forget, Init, Read, Write, Interrupt, NotifyReply, CuseInit, IoCtl, BatchForget, FAllocate}
+use Rattle.fuse_request.specs.Operation.Op.{CopyFileRange}
 
 -- these pass whoever sends them: INIT, DESTROY, forgets, and of what goes by an open file reads, writes, fsyncs and releases
 abbrev pub passing : List ℕ

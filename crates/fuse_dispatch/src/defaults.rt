@@ -4,7 +4,7 @@ ghost use Rattle.fuse_reply.specs.Answer.{IsAnswer};
 ghost use Rattle.fuse_reply.specs.Answer.Answer.{Empty, Error, Open, Statfs};
 ghost use Rattle.fuse_reply.specs.Frame.{reply as reply_of};
 ghost use Rattle.fuse_reply.specs.declared.out.Out.{Out};
-ghost use Rattle.fuse_operations.specs.Forgets.{rows_of};
+ghost use Rattle.fuse_request.specs.Forgets.{rows_of};
 ghost use Rattle.fuse_wire.specs.ErrorNumbers.{ENOSYS, EPERM};
 ghost use Rattle.fuse_dispatch.specs.Defaults.{IsLastMark, default_mark};
 

@@ -1,7 +1,7 @@
 // What a filesystem is.
 ghost use Rattle.std.specs.Prelude.{◌≡◌, [], Bool, option_map};
-ghost use Rattle.fuse_operations.specs.Call.{Call, handle_number, owner_number};
-ghost use Rattle.fuse_operations.specs.Forgets.{rows_of};
+ghost use Rattle.fuse_request.specs.Call.{Call, handle_number, owner_number};
+ghost use Rattle.fuse_request.specs.Forgets.{rows_of};
 ghost use Rattle.fuse_dispatch.specs.OwedMessage.{Answers};
 ghost use Rattle.fuse_dispatch.specs.Promise.{Promise};
 

@@ -1,7 +1,7 @@
 // The verdict on a message after the handshake.
 ghost use Rattle.std.specs.Prelude.{◌≡◌, ℕ};
 ghost use Rattle.fuse_header.specs.Header.{header_fields};
-ghost use Rattle.fuse_operations.specs.Operation.{plain};
+ghost use Rattle.fuse_request.specs.Operation.{plain};
 ghost use Rattle.fuse_dispatch.specs.Decided.{AsksFor, Decides, IsOf};
 ghost use Rattle.fuse_dispatch.specs.Verdict.{fixed_error, is_forget, served, verdict};
 

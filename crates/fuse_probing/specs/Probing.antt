@@ -1,7 +1,7 @@
 -- What filesystems of tests promise.
 use Rattle.std.specs.Prelude.{◌≡◌, ℕ, Result}
-use Rattle.fuse_operations.specs.Call.{Call}
-use Rattle.fuse_operations.specs.Call.Call.{Lookup, GetAttr, Link, Read, Poll}
+use Rattle.fuse_request.specs.Call.{Call}
+use Rattle.fuse_request.specs.Call.Call.{Lookup, GetAttr, Link, Read, Poll}
 use Rattle.fuse_header.specs.declared.request.Request.{Request}
 use Rattle.fuse_reply.specs.Answer.{Answer}
 use Rattle.fuse_reply.specs.Door.{DoorSeen}

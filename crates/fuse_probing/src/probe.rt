@@ -1,6 +1,6 @@
 // What a filesystem of a test does of its own.
 ghost use Rattle.std.specs.Prelude.{Bool};
-ghost use Rattle.fuse_operations.specs.Call.{Call, handle_number, owner_number};
+ghost use Rattle.fuse_request.specs.Call.{Call, handle_number, owner_number};
 ghost use Rattle.fuse_dispatch.specs.Defaults.{default_answer};
 ghost use Rattle.fuse_probing.specs.Probing.{Allows, IsAnswered};
 

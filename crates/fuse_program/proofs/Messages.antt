@@ -14,7 +14,7 @@ use Rattle.fuse_header.specs.Header.{header, header_fields, body}
 use Rattle.fuse_header.specs.Opcode.{FUSE_LOOKUP, FUSE_FORGET, FUSE_GETATTR, FUSE_READ, FUSE_WRITE, FUSE_INIT, FUSE_READDIR, FUSE_DESTROY}
 use Rattle.fuse_request.specs.Decoding as decoding
 use Rattle.fuse_request.specs.Decoding.{operation}
-use Rattle.fuse_operations.specs.Operation.Op.{Init}
+use Rattle.fuse_request.specs.Operation.Op.{Init}
 use Rattle.fuse_header.specs.declared.header.Header.{Header}
 use Rattle.fuse_header.specs.declared.error.RequestError.{RequestError}
 use Rattle.fuse_header.specs.declared.error.RequestError.TheVariants.{ShortReadHeader, ShortRead, InsufficientData}

@@ -12,7 +12,7 @@ use Rattle.fuse_wire.specs.ByteSink.{ByteSinkState}
 use Rattle.fuse_wire.specs.Sink.{Note as Noted}
 use Rattle.fuse_wire.specs.StreamSink.{WritesAll}
 use Rattle.fuse_header.specs.Header.{body}
-use Rattle.fuse_operations.specs.InitOperation.{offered}
+use Rattle.fuse_request.specs.InitOperation.{offered}
 use Rattle.fuse_header.specs.declared.header.Header.{Header}
 use Rattle.fuse_header.specs.declared.error.RequestError.{RequestError}
 use Rattle.fuse_reply.specs.Frame.{frame}

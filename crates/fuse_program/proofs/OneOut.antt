@@ -10,12 +10,12 @@ use Rattle.fuse_wire.specs.ErrorNumbers.{EACCES, ENOENT}
 use Rattle.fuse_wire.specs.Numbers.{number}
 use Rattle.fuse_wire.specs.Times.{nanos_per_second}
 use Rattle.fuse_wire.specs.declared.file_attr.FileAttr.{FileAttr}
-use Rattle.fuse_operations.specs.Call.{Call, call}
-use Rattle.fuse_operations.specs.Call.Call.{Lookup, GetAttr, Read, ReadDir, Poll}
+use Rattle.fuse_request.specs.Call.{Call, call}
+use Rattle.fuse_request.specs.Call.Call.{Lookup, GetAttr, Read, ReadDir, Poll}
 use Rattle.fuse_header.specs.Header.{header, header_fields, body, request_of}
 use Rattle.fuse_header.specs.Opcode.{FUSE_LOOKUP, FUSE_FORGET, FUSE_GETATTR, FUSE_READ, FUSE_WRITE, FUSE_READDIR, FUSE_DESTROY}
 use Rattle.fuse_request.specs.Decoding as decoding
-use Rattle.fuse_operations.specs.Operation.{Op}
+use Rattle.fuse_request.specs.Operation.{Op}
 use Rattle.fuse_request.specs.Decoding.{operation}
 use Rattle.fuse_header.specs.declared.header.Header.{Header}
 use Rattle.fuse_header.specs.declared.error.RequestError.{RequestError}

@@ -7,9 +7,9 @@ use Rattle.fuse_wire.specs.declared.file_attr.FileType.{FileType}
 use Rattle.fuse_wire.specs.declared.file_attr.FileType.TheVariants.{Symlink}
 use Rattle.fuse_wire.specs.declared.open_flags.OpenAccMode.{OpenAccMode}
 use Rattle.fuse_wire.specs.declared.open_flags.OpenAccMode.TheVariants.{O_RDONLY, O_WRONLY, O_RDWR}
-use Rattle.fuse_operations.specs.Call.{Call}
-use Rattle.fuse_operations.specs.Call.Call.{Lookup, Forget, GetAttr, SetAttr, ReadLink, SymLink, MkNod, MkDir, Unlink, RmDir, Rename, Link, Open}
-use Rattle.fuse_operations.specs.Call.Call.{Read, Write, SetXAttr, RemoveXAttr, ReadDir, Create, BatchForget, FAllocate, CopyFileRange}
+use Rattle.fuse_request.specs.Call.{Call}
+use Rattle.fuse_request.specs.Call.Call.{Lookup, Forget, GetAttr, SetAttr, ReadLink, SymLink, MkNod, MkDir, Unlink, RmDir, Rename, Link, Open}
+use Rattle.fuse_request.specs.Call.Call.{Read, Write, SetXAttr, RemoveXAttr, ReadDir, Create, BatchForget, FAllocate, CopyFileRange}
 use Rattle.fuse_reply.specs.Answer.{Answer}
 use Rattle.fuse_reply.specs.Answer.Answer.{Error, Data, Open as Opened, Directory}
 use Rattle.fuse_reply.specs.Listing.{DirEntry, fitting, listing}

@@ -20,14 +20,14 @@ use Rattle.fuse_header.specs.Opcode.{FUSE_SETATTR, FUSE_SETLK, FUSE_SETLKW, FUSE
 use Rattle.fuse_header.specs.Opcode.{FUSE_UNLINK, FUSE_WRITE}
 use Rattle.fuse_header.specs.declared.error.RequestError.{RequestError}
 use Rattle.fuse_header.specs.declared.error.RequestError.TheVariants.{UnknownOperation, InsufficientData}
-use Rattle.fuse_operations.specs.declared.operation.Operation.{Operation}
-use Rattle.fuse_operations.specs.Operation.{Op, kept_node, plain}
-use Rattle.fuse_operations.specs.Operation.Op.{Lookup, Forget, GetAttr, SetAttr, ReadLink, SymLink, MkNod, MkDir}
-use Rattle.fuse_operations.specs.Operation.Op.{Unlink, RmDir, Rename, Link, Open, Read, Write, StatFs, Release, FSync}
-use Rattle.fuse_operations.specs.Operation.Op.{SetXAttr, GetXAttr, ListXAttr, RemoveXAttr, Flush, Init, OpenDir}
-use Rattle.fuse_operations.specs.Operation.Op.{ReadDir, ReleaseDir, FSyncDir, GetLk, SetLk, Access, Create, Interrupt}
-use Rattle.fuse_operations.specs.Operation.Op.{BMap, Destroy, IoCtl, Poll, NotifyReply, BatchForget, FAllocate}
-use Rattle.fuse_operations.specs.Operation.Op.{ReadDirPlus, Rename2, Lseek, CopyFileRange, CuseInit}
+use Rattle.fuse_request.specs.declared.operation.Operation.{Operation}
+use Rattle.fuse_request.specs.Operation.{Op, kept_node, plain}
+use Rattle.fuse_request.specs.Operation.Op.{Lookup, Forget, GetAttr, SetAttr, ReadLink, SymLink, MkNod, MkDir}
+use Rattle.fuse_request.specs.Operation.Op.{Unlink, RmDir, Rename, Link, Open, Read, Write, StatFs, Release, FSync}
+use Rattle.fuse_request.specs.Operation.Op.{SetXAttr, GetXAttr, ListXAttr, RemoveXAttr, Flush, Init, OpenDir}
+use Rattle.fuse_request.specs.Operation.Op.{ReadDir, ReleaseDir, FSyncDir, GetLk, SetLk, Access, Create, Interrupt}
+use Rattle.fuse_request.specs.Operation.Op.{BMap, Destroy, IoCtl, Poll, NotifyReply, BatchForget, FAllocate}
+use Rattle.fuse_request.specs.Operation.Op.{ReadDirPlus, Rename2, Lseek, CopyFileRange, CuseInit}
 
 -- an operation of the part at the front of a body; a part that is cut short is no operation
 abbrev pub taking : {X : Type 0} → Option (X × List ℕ) → (X → Op) → Result Op RequestError

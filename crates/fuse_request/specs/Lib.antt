@@ -1,3 +1,10 @@
+pub mod Carried
+pub mod Fields
+pub mod SetAttr
+pub mod Forgets
+pub mod InitOperation
+pub mod Operation
+pub mod Call
 pub mod Message
 pub mod Decoding
 pub mod After

@@ -7,7 +7,7 @@ ghost use Rattle.fuse_request.specs.Message.{Decodes, body_of, header_of};
 use crate::decoding::{destroy_to_cuse_init, init_to_bmap, lookup_to_link, open_to_flush};
 use fuse_header::opcode::{FUSE_DESTROY, FUSE_INIT, FUSE_OPEN};
 use fuse_header::{Header, Request, RequestError, body};
-use fuse_operations::Operation;
+use crate::Operation;
 use fuse_wire::{INodeNo, RequestId};
 
 /// A message with a good header, whose body is borrowed from it.

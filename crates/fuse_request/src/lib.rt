@@ -6,15 +6,77 @@
 
 mod any_request;
 mod decoding;
+mod devices;
+mod directories;
+mod file_ranges;
+mod files;
+mod forgets;
 pub mod laws;
+mod locks;
+mod names;
+mod nodes;
+mod offsets;
+mod opened;
+mod operation;
+pub mod operation_laws;
+mod places;
+mod setattr;
+mod xattrs;
 
+pub use nodes::Access;
 pub use any_request::AnyRequest;
-pub use fuse_header::{Request, RequestError, opcode};
-pub use fuse_operations::{
-    Access, BMap, BatchForget, CopyFileRange, CopyFileRangeFile, Create, CuseInit, Destroy,
-    FAllocate, FSync, FSyncDir, FilenameInDir, Flush, Forget, ForgetList, ForgetOne, GetAttr,
-    GetLk, GetXAttr, GetXAttrSize, GetXAttrSizeEnum, Init, Interrupt, IoCtl, Link, ListXAttr, Lock,
-    Lookup, Lseek, MkDir, MkNod, NotifyReply, Open, OpenDir, Operation, Poll, Read, ReadDir,
-    ReadDirPlus, ReadLink, Release, ReleaseDir, RemoveXAttr, Rename, Rename2, RmDir, SetAttr,
-    SetLk, SetXAttr, StatFs, SymLink, Unlink, Write,
-};
+pub use file_ranges::BMap;
+pub use forgets::BatchForget;
+pub use file_ranges::CopyFileRange;
+pub use file_ranges::CopyFileRangeFile;
+pub use names::Create;
+pub use operation::CuseInit;
+pub use operation::Destroy;
+pub use file_ranges::FAllocate;
+pub use opened::FSync;
+pub use opened::FSyncDir;
+pub use places::FilenameInDir;
+pub use files::Flush;
+pub use nodes::Forget;
+pub use forgets::ForgetList;
+pub use forgets::ForgetOne;
+pub use nodes::GetAttr;
+pub use locks::GetLk;
+pub use xattrs::GetXAttr;
+pub use xattrs::GetXAttrSize;
+pub use xattrs::GetXAttrSizeEnum;
+pub use operation::Init;
+pub use operation::Interrupt;
+pub use devices::IoCtl;
+pub use places::Link;
+pub use xattrs::ListXAttr;
+pub use locks::Lock;
+pub use names::Lookup;
+pub use file_ranges::Lseek;
+pub use names::MkDir;
+pub use names::MkNod;
+pub use operation::NotifyReply;
+pub use opened::Open;
+pub use opened::OpenDir;
+pub use operation::Operation;
+pub use devices::Poll;
+pub use files::Read;
+pub use directories::ReadDir;
+pub use directories::ReadDirPlus;
+pub use nodes::ReadLink;
+pub use opened::Release;
+pub use opened::ReleaseDir;
+pub use xattrs::RemoveXAttr;
+pub use places::Rename;
+pub use places::Rename2;
+pub use fuse_header::Request;
+pub use fuse_header::RequestError;
+pub use names::RmDir;
+pub use setattr::SetAttr;
+pub use locks::SetLk;
+pub use xattrs::SetXAttr;
+pub use nodes::StatFs;
+pub use names::SymLink;
+pub use names::Unlink;
+pub use files::Write;
+pub use fuse_header::opcode;

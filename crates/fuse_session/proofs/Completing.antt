@@ -8,7 +8,7 @@ use Rattle.fuse_wire.specs.Source.{SourceState, Takes, message, NothingLeft, Sou
 use Rattle.fuse_config.specs.Values.{Configuration}
 use Rattle.fuse_config.specs.Configuration.{start}
 use Rattle.fuse_args.specs.declared.fixed.InitArguments.{InitArguments}
-use Rattle.fuse_operations.specs.InitOperation.{version}
+use Rattle.fuse_request.specs.InitOperation.{version}
 use Rattle.fuse_header.specs.Header.{header, body, request_of}
 use Rattle.fuse_header.specs.declared.header.Header.{Header}
 use Rattle.fuse_header.specs.declared.request.Request.{Request as Asker}

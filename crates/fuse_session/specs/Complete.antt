@@ -6,7 +6,7 @@ use Rattle.fuse_config.specs.Values.{Configuration}
 use Rattle.fuse_args.specs.declared.fixed.InitArguments.{InitArguments}
 use Rattle.fuse_header.specs.Header.{header, body}
 use Rattle.fuse_request.specs.Decoding.{operation}
-use Rattle.fuse_operations.specs.Operation.Op.{Init}
+use Rattle.fuse_request.specs.Operation.Op.{Init}
 use Rattle.fuse_header.specs.declared.header.Header.{Header}
 use Rattle.fuse_header.specs.declared.request.Request.{Request}
 use Rattle.fuse_loop.specs.Incoming.{incoming}

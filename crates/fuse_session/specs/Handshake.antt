@@ -9,10 +9,10 @@ use Rattle.fuse_header.specs.declared.error.RequestError.{RequestError}
 use Rattle.fuse_header.specs.declared.header.Header.{Header}
 use Rattle.fuse_header.specs.declared.request.Request.{Request}
 use Rattle.fuse_header.specs.Header.{header, body, request_of}
-use Rattle.fuse_operations.specs.InitOperation.{offered, version}
-use Rattle.fuse_operations.specs.Operation.{Op}
+use Rattle.fuse_request.specs.InitOperation.{offered, version}
+use Rattle.fuse_request.specs.Operation.{Op}
 use Rattle.fuse_request.specs.Decoding.{operation}
-use Rattle.fuse_operations.specs.Operation.Op.{Init}
+use Rattle.fuse_request.specs.Operation.Op.{Init}
 use Rattle.fuse_reply.specs.Answer.{IsAnswer}
 use Rattle.fuse_reply.specs.Answer.Answer.{Error}
 use Rattle.fuse_reply.specs.Frame.{frame, reply}

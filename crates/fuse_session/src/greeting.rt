@@ -1,8 +1,8 @@
 // What the library makes of a message in the handshake.
 ghost use Rattle.std.specs.Prelude.{◌≡◌, option_map};
 ghost use Rattle.fuse_request.specs.Message.{header_of};
-ghost use Rattle.fuse_operations.specs.InitOperation.{arguments_of};
-ghost use Rattle.fuse_operations.specs.Operation.{plain};
+ghost use Rattle.fuse_request.specs.InitOperation.{arguments_of};
+ghost use Rattle.fuse_request.specs.Operation.{plain};
 ghost use Rattle.fuse_session.specs.Handshake.{IsSpoken, greeting, greeting_by_version, init_of};
 
 use crate::InvalidData;

@@ -7,8 +7,8 @@ use Rattle.fuse_wire.specs.Times.{nanos_per_second}
 use Rattle.fuse_wire.specs.declared.file_attr.FileAttr.{FileAttr}
 use Rattle.fuse_wire.specs.declared.file_attr.FileType.{FileType}
 use Rattle.fuse_wire.specs.declared.file_attr.FileType.TheVariants.{Directory, RegularFile}
-use Rattle.fuse_operations.specs.Call.{Call}
-use Rattle.fuse_operations.specs.Call.Call.{Lookup, Forget, GetAttr, Read, ReadDir, BatchForget}
+use Rattle.fuse_request.specs.Call.{Call}
+use Rattle.fuse_request.specs.Call.Call.{Lookup, Forget, GetAttr, Read, ReadDir, BatchForget}
 use Rattle.fuse_reply.specs.Answer.{Answer}
 use Rattle.fuse_reply.specs.Answer.Answer.{Error, Data, Directory as Entries}
 use Rattle.fuse_reply.specs.Listing.{DirEntry, fitting}

@@ -1,6 +1,6 @@
 -- That what comes of waiting for the lock is allowed.
 use Rattle.std.proofs.Common.{ℕ, Result, inl, inr, arith}
-use Rattle.fuse_operations.specs.Call.{Call}
+use Rattle.fuse_request.specs.Call.{Call}
 use Rattle.fuse_header.specs.declared.request.Request.{Request}
 use Rattle.fuse_reply.specs.Answer.Answer.{Empty, Error}
 use Rattle.fuse_reply.specs.Door.{DoorSeen}

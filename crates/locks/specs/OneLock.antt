@@ -4,8 +4,8 @@ use Rattle.fuse_wire.specs.ErrorNumbers.{EAGAIN, EDEADLK, ENOLCK}
 use Rattle.fuse_wire.specs.Flags.{FUSE_POSIX_LOCKS}
 use Rattle.fuse_wire.specs.declared.flags.init_flags.InitFlags.{InitFlags}
 use Rattle.fuse_config.specs.Setters.{add_capabilities}
-use Rattle.fuse_operations.specs.Call.{Call}
-use Rattle.fuse_operations.specs.Call.Call.{Flush, SetLk}
+use Rattle.fuse_request.specs.Call.{Call}
+use Rattle.fuse_request.specs.Call.Call.{Flush, SetLk}
 use Rattle.fuse_reply.specs.Answer.{Answer}
 use Rattle.fuse_reply.specs.Answer.Answer.{Empty, Error}
 use Rattle.fuse_reply.specs.Door.{DoorSeen}

@@ -1,7 +1,7 @@
 -- That what is denied has the answer that the promise allows.
 use Rattle.std.proofs.Common.{◌≡◌, ℕ, Bool, Result, refl, subst, sym, true}
 use Rattle.fuse_header.specs.declared.request.Request.{Request}
-use Rattle.fuse_operations.specs.Call.{Call}
+use Rattle.fuse_request.specs.Call.{Call}
 use Rattle.fuse_reply.specs.Answer.{IsAnswer}
 use Rattle.fuse_reply.specs.Answer.Answer.{Error}
 use Rattle.fuse_reply.specs.Door.{DoorSeen}

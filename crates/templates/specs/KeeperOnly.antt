@@ -2,8 +2,8 @@
 use Rattle.std.specs.Prelude.{◌≡◌, ◌&&◌, ◌==◌, ℕ, Bool, true, false, not}
 use Rattle.fuse_header.specs.Asker.{uid_of}
 use Rattle.fuse_header.specs.declared.request.Request.{Request}
-use Rattle.fuse_operations.specs.Call.{Call}
-use Rattle.fuse_operations.specs.Call.Call.{Rename, RmDir, Unlink}
+use Rattle.fuse_request.specs.Call.{Call}
+use Rattle.fuse_request.specs.Call.Call.{Rename, RmDir, Unlink}
 use Rattle.fuse_reply.specs.Answer.{Answer}
 use Rattle.fuse_reply.specs.Answer.Answer.{Error}
 use Rattle.fuse_wire.specs.ErrorNumbers.{EACCES}

@@ -9,8 +9,8 @@ use Rattle.fuse_wire.specs.FileAttr.{root_attr}
 use Rattle.fuse_wire.specs.Times.{nanos_per_second}
 use Rattle.fuse_wire.specs.declared.file_attr.FileAttr.{FileAttr}
 use Rattle.fuse_wire.specs.declared.file_attr.FileType.TheVariants.{Directory, RegularFile}
-use Rattle.fuse_operations.specs.Call.{Call}
-use Rattle.fuse_operations.specs.Call.Call.{Lookup, GetAttr, SetAttr, Open, Read, Write, ReadDir}
+use Rattle.fuse_request.specs.Call.{Call}
+use Rattle.fuse_request.specs.Call.Call.{Lookup, GetAttr, SetAttr, Open, Read, Write, ReadDir}
 use Rattle.fuse_reply.specs.Answer.{Answer}
 use Rattle.fuse_reply.specs.Answer.Answer.{Error, Data, Entry, Attr, Open as Opened, Write as Written}
 use Rattle.fuse_dispatch.specs.Defaults.{default_answer, default_mark}

@@ -1,7 +1,7 @@
 use Rattle.std.proofs.Common.{◌≡◌, ◌∙◌, ◌<◌, ◌+◌, ℕ, suc, length, arith, sym, ap, subst, refl, Option, None}
 use Rattle.std.specs.Prelude.{option_map, slice_get}
 use Rattle.std.proofs.lemmas.Option.{slice_get-get_or}
-use Rattle.fuse_operations.specs.Forgets.{row_of, rows_of}
+use Rattle.fuse_request.specs.Forgets.{row_of, rows_of}
 use Rattle.fuse_dispatch.specs.Defaults.{IsRowMark, before}
 use Rattle.fuse_dispatch.proofs.defaults.batch_forget.Goals as goal
 use Rattle.fuse_dispatch.proofs.defaults.batch_forget.Goals.{in-Some, in_default}

@@ -1,4 +1,4 @@
-use Rattle.fuse_operations.specs.Forgets.{rows_of}
+use Rattle.fuse_request.specs.Forgets.{rows_of}
 use Rattle.fuse_dispatch.specs.Defaults.{IsRowMark, before}
 use Rattle.fuse_dispatch.proofs.defaults.batch_forget.Given as goal
 

@@ -1,6 +1,6 @@
 -- Each thing that comes of a lookup is allowed.
 use Rattle.std.proofs.Common.{ℕ, List, Result, inl, inr, lit<}
-use Rattle.fuse_operations.specs.Call.Call.{Lookup}
+use Rattle.fuse_request.specs.Call.Call.{Lookup}
 use Rattle.fuse_header.specs.declared.request.Request.{Request}
 use Rattle.fuse_reply.specs.Door.{DoorSeen}
 use Rattle.fuse_reply.specs.declared.door.NoDoor.{NoDoor}

@@ -1,7 +1,7 @@
 use Rattle.std.proofs.Common.{◌≡◌, ◌≤◌, ◌∙◌, List, Option, inl, inr, ap, sym, subst, refl, length}
 use Rattle.fuse_wire.specs.ErrorNumbers.{ENOENT, ENOMEM}
 use Rattle.fuse_wire.specs.declared.file_attr.FileAttr.{FileAttr}
-use Rattle.fuse_operations.specs.Call.Call.{ReadDir}
+use Rattle.fuse_request.specs.Call.Call.{ReadDir}
 use Rattle.fuse_reply.specs.Answer.Answer.{Directory, Error}
 use Rattle.fuse_reply.specs.Frame.{reply}
 use Rattle.fuse_reply.specs.Adding.{ListingSeen}

@@ -1,7 +1,7 @@
 use Rattle.std.proofs.Common.{◌∙◌, Option, ap, sym, subst}
 use Rattle.fuse_wire.specs.ErrorNumbers.{ENOENT}
 use Rattle.fuse_wire.specs.declared.file_attr.FileAttr.{FileAttr}
-use Rattle.fuse_operations.specs.Call.Call.{ReadLink}
+use Rattle.fuse_request.specs.Call.Call.{ReadLink}
 use Rattle.fuse_reply.specs.Answer.Answer.{Error}
 use Rattle.fuse_dispatch.proofs.Answering.{Answered-error}
 use Rattle.fuse_read_only.specs.ReadOnly.{MayHave, leads_to}

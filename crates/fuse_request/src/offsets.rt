@@ -1,6 +1,6 @@
 // Offsets and lengths in a file: numbers up to the last `i64`.
 ghost use Rattle.std.specs.Prelude.{◌≡◌};
-ghost use Rattle.fuse_operations.specs.Fields.{file_offset, signed_offset};
+ghost use Rattle.fuse_request.specs.Fields.{file_offset, signed_offset};
 
 use fuse_wire::Errno;
 

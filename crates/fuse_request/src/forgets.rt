@@ -1,6 +1,6 @@
 // Lookups of several inodes that are given back.
 ghost use Rattle.std.specs.Prelude.{◌≡◌, ◌==◌, length, option_map, slice_get};
-ghost use Rattle.fuse_operations.specs.Forgets.{row_bytes, row_of, rows_of};
+ghost use Rattle.fuse_request.specs.Forgets.{row_bytes, row_of, rows_of};
 
 use fuse_wire::{INodeNo, u64_at};
 use std::marker::Model;

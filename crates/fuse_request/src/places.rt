@@ -29,7 +29,7 @@ pub struct Rename<'a> {
 }
 
 impl<'a> Model for Rename<'a> {
-    ghost use Rattle.fuse_operations.specs.Carried.{Moved};
+    ghost use Rattle.fuse_request.specs.Carried.{Moved};
 
     ghost Value = { Moved };
 
@@ -79,7 +79,7 @@ pub struct Rename2<'a> {
 }
 
 impl<'a> Model for Rename2<'a> {
-    ghost use Rattle.fuse_operations.specs.Carried.{MovedByFlags};
+    ghost use Rattle.fuse_request.specs.Carried.{MovedByFlags};
 
     ghost Value = { MovedByFlags };
 
@@ -134,7 +134,7 @@ pub struct Link<'a> {
 }
 
 impl<'a> Model for Link<'a> {
-    ghost use Rattle.fuse_operations.specs.Carried.{Linked};
+    ghost use Rattle.fuse_request.specs.Carried.{Linked};
 
     ghost Value = { Linked };
 

@@ -34,7 +34,7 @@ impl Model for FAllocate {
 }
 
 impl FAllocate {
-    ghost use Rattle.fuse_operations.specs.Fields.{file_offset};
+    ghost use Rattle.fuse_request.specs.Fields.{file_offset};
 
     /// The open file.
     pub fn file_handle(&self) -> FileHandle
@@ -114,7 +114,7 @@ pub struct CopyFileRange {
 }
 
 impl Model for CopyFileRange {
-    ghost use Rattle.fuse_operations.specs.Carried.{CopiedFrom};
+    ghost use Rattle.fuse_request.specs.Carried.{CopiedFrom};
 
     ghost Value = { CopiedFrom };
 
@@ -122,7 +122,7 @@ impl Model for CopyFileRange {
 }
 
 impl CopyFileRange {
-    ghost use Rattle.fuse_operations.specs.Fields.{signed_offset, range_file};
+    ghost use Rattle.fuse_request.specs.Fields.{signed_offset, range_file};
 
     /// The file that is read, which is the node of the request, and where. `EINVAL` where the offset is negative.
     pub fn src(&self) -> Result<CopyFileRangeFile, Errno>

@@ -5,10 +5,10 @@ use Rattle.fuse_wire.specs.declared.newtypes.FileHandle.{FileHandle}
 use Rattle.fuse_wire.specs.declared.newtypes.LockOwner.{LockOwner}
 use Rattle.fuse_wire.specs.declared.time.SystemTime.{SystemTime}
 use Rattle.fuse_wire.specs.declared.time.TimeOrNow.{TimeOrNow}
-use Rattle.fuse_operations.specs.Fields.{contents_alone, getattr_handle, flushes, read_lock_owner, release_lock_owner, write_lock_owner}
-use Rattle.fuse_operations.specs.Forgets.{rows_in}
-use Rattle.fuse_operations.specs.Operation.{Op}
-use Rattle.fuse_operations.specs.SetAttr.{new_atime, new_ctime, file_of, new_gid, new_mode, new_mtime, new_size, new_uid}
+use Rattle.fuse_request.specs.Fields.{contents_alone, getattr_handle, flushes, read_lock_owner, release_lock_owner, write_lock_owner}
+use Rattle.fuse_request.specs.Forgets.{rows_in}
+use Rattle.fuse_request.specs.Operation.{Op}
+use Rattle.fuse_request.specs.SetAttr.{new_atime, new_ctime, file_of, new_gid, new_mode, new_mtime, new_size, new_uid}
 
 -- one call of a filesystem, with its arguments in their order; a row of `BatchForget` has the arguments of a `Forget`
 pub data Call : Type 0 where

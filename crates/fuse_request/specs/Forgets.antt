@@ -1,8 +1,8 @@
 -- The rows of BATCH_FORGET (`struct fuse_forget_one` of `fuse.h`).
 use Rattle.std.specs.Prelude.{ℕ, zero, suc, ◌+◌, ◌/◌, List, [], ◌∷◌, length}
 use Rattle.fuse_wire.specs.Numbers.{number}
-use Rattle.fuse_operations.specs.declared.forgets.ForgetList.{ForgetList}
-use Rattle.fuse_operations.specs.declared.forgets.ForgetOne.{ForgetOne}
+use Rattle.fuse_request.specs.declared.forgets.ForgetList.{ForgetList}
+use Rattle.fuse_request.specs.declared.forgets.ForgetOne.{ForgetOne}
 
 -- so many rows from a place on: nodeid8 nlookup8
 unfoldable pub rows_from : (count at : ℕ) → List ℕ → List (ℕ × ℕ)

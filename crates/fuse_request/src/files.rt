@@ -23,8 +23,8 @@ impl Model for Read {
 }
 
 impl Read {
-    ghost use Rattle.fuse_operations.specs.Call.{owner_number};
-    ghost use Rattle.fuse_operations.specs.Fields.{read_lock_owner, file_offset};
+    ghost use Rattle.fuse_request.specs.Call.{owner_number};
+    ghost use Rattle.fuse_request.specs.Fields.{read_lock_owner, file_offset};
 
     /// The open file.
     pub fn file_handle(&self) -> FileHandle
@@ -83,7 +83,7 @@ pub struct Write<'a> {
 
 impl<'a> Model for Write<'a> {
     ghost use Rattle.fuse_args.specs.declared.fixed.files.WriteArguments.{WriteArguments};
-    ghost use Rattle.fuse_operations.specs.Carried.{WithBytes};
+    ghost use Rattle.fuse_request.specs.Carried.{WithBytes};
 
     ghost Value = { WithBytes WriteArguments };
 
@@ -91,8 +91,8 @@ impl<'a> Model for Write<'a> {
 }
 
 impl<'a> Write<'a> {
-    ghost use Rattle.fuse_operations.specs.Call.{owner_number};
-    ghost use Rattle.fuse_operations.specs.Fields.{write_lock_owner, signed_offset};
+    ghost use Rattle.fuse_request.specs.Call.{owner_number};
+    ghost use Rattle.fuse_request.specs.Fields.{write_lock_owner, signed_offset};
 
     /// The open file.
     pub fn file_handle(&self) -> FileHandle

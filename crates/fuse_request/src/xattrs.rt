@@ -30,7 +30,7 @@ pub struct SetXAttr<'a> {
 }
 
 impl<'a> Model for SetXAttr<'a> {
-    ghost use Rattle.fuse_operations.specs.Carried.{NamedValue};
+    ghost use Rattle.fuse_request.specs.Carried.{NamedValue};
 
     ghost Value = { NamedValue };
 
@@ -78,7 +78,7 @@ pub struct GetXAttr<'a> {
 
 impl<'a> Model for GetXAttr<'a> {
     ghost use Rattle.fuse_args.specs.declared.fixed.nodes.GetXAttrArguments.{GetXAttrArguments};
-    ghost use Rattle.fuse_operations.specs.Carried.{Named};
+    ghost use Rattle.fuse_request.specs.Carried.{Named};
 
     ghost Value = { Named GetXAttrArguments };
 
@@ -86,7 +86,7 @@ impl<'a> Model for GetXAttr<'a> {
 }
 
 impl<'a> GetXAttr<'a> {
-    ghost use Rattle.fuse_operations.specs.Fields.{size_wanted};
+    ghost use Rattle.fuse_request.specs.Fields.{size_wanted};
 
     /// The name, without the zero byte that ends it.
     pub fn name(&self) -> &'a [u8]

@@ -21,7 +21,7 @@ pub struct Init {
 }
 
 impl Init {
-    ghost use Rattle.fuse_operations.specs.InitOperation.{arguments_of, offered, version};
+    ghost use Rattle.fuse_request.specs.InitOperation.{arguments_of, offered, version};
 
     /// The capabilities offered. The second word is valid where the first has `FUSE_INIT_EXT`.
     pub fn capabilities(&self) -> InitFlags

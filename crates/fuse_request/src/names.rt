@@ -38,7 +38,7 @@ pub struct SymLink<'a> {
 }
 
 impl<'a> Model for SymLink<'a> {
-    ghost use Rattle.fuse_operations.specs.Carried.{LinkedPath};
+    ghost use Rattle.fuse_request.specs.Carried.{LinkedPath};
 
     ghost Value = { LinkedPath };
 
@@ -72,7 +72,7 @@ pub struct MkNod<'a> {
 
 impl<'a> Model for MkNod<'a> {
     ghost use Rattle.fuse_args.specs.declared.fixed.nodes.MkNodArguments.{MkNodArguments};
-    ghost use Rattle.fuse_operations.specs.Carried.{Named};
+    ghost use Rattle.fuse_request.specs.Carried.{Named};
 
     ghost Value = { Named MkNodArguments };
 
@@ -120,7 +120,7 @@ pub struct MkDir<'a> {
 
 impl<'a> Model for MkDir<'a> {
     ghost use Rattle.fuse_args.specs.declared.fixed.nodes.MkDirArguments.{MkDirArguments};
-    ghost use Rattle.fuse_operations.specs.Carried.{Named};
+    ghost use Rattle.fuse_request.specs.Carried.{Named};
 
     ghost Value = { Named MkDirArguments };
 
@@ -209,7 +209,7 @@ pub struct Create<'a> {
 
 impl<'a> Model for Create<'a> {
     ghost use Rattle.fuse_args.specs.declared.fixed.files.CreateArguments.{CreateArguments};
-    ghost use Rattle.fuse_operations.specs.Carried.{Named};
+    ghost use Rattle.fuse_request.specs.Carried.{Named};
 
     ghost Value = { Named CreateArguments };
 

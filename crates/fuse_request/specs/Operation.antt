@@ -24,9 +24,9 @@ use Rattle.fuse_args.specs.declared.fixed.nodes.MkNodArguments.{MkNodArguments}
 use Rattle.fuse_args.specs.declared.fixed.nodes.Rename2Arguments.{Rename2Arguments}
 use Rattle.fuse_args.specs.declared.fixed.nodes.SetAttrArguments.{SetAttrArguments}
 use Rattle.fuse_args.specs.declared.fixed.nodes.SetXAttrArguments.{SetXAttrArguments}
-use Rattle.fuse_operations.specs.InitOperation.{arguments_of}
-use Rattle.fuse_operations.specs.declared.operation.Operation.{Operation}
-use Rattle.fuse_operations.specs.declared.operation.Operation.TheVariants as code
+use Rattle.fuse_request.specs.InitOperation.{arguments_of}
+use Rattle.fuse_request.specs.declared.operation.Operation.{Operation}
+use Rattle.fuse_request.specs.declared.operation.Operation.TheVariants as code
 
 -- an operation with its arguments, as plain data
 pub data Op : Type 0 where

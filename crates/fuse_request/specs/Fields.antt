@@ -14,10 +14,10 @@ use Rattle.fuse_wire.specs.declared.newtypes.INodeNo.{INodeNo}
 use Rattle.fuse_wire.specs.ErrorNumbers.{EINVAL}
 use Rattle.fuse_wire.specs.Flags.{FUSE_FSYNC_FDATASYNC, FUSE_GETATTR_FH, FUSE_IOCTL_UNRESTRICTED, FUSE_READ_LOCKOWNER}
 use Rattle.fuse_wire.specs.Flags.{FUSE_RELEASE_FLOCK_UNLOCK, FUSE_RELEASE_FLUSH, FUSE_WRITE_LOCKOWNER}
-use Rattle.fuse_operations.specs.declared.locks.Lock.{Lock}
-use Rattle.fuse_operations.specs.declared.file_ranges.CopyFileRangeFile.{CopyFileRangeFile}
-use Rattle.fuse_operations.specs.declared.xattrs.GetXAttrSizeEnum.{GetXAttrSizeEnum}
-use Rattle.fuse_operations.specs.declared.xattrs.GetXAttrSizeEnum.TheVariants.{GetSize, Size}
+use Rattle.fuse_request.specs.declared.locks.Lock.{Lock}
+use Rattle.fuse_request.specs.declared.file_ranges.CopyFileRangeFile.{CopyFileRangeFile}
+use Rattle.fuse_request.specs.declared.xattrs.GetXAttrSizeEnum.{GetXAttrSizeEnum}
+use Rattle.fuse_request.specs.declared.xattrs.GetXAttrSizeEnum.TheVariants.{GetSize, Size}
 
 -- whether flags have this one
 abbrev pub has_flag : (flag flags : ℕ) → Bool

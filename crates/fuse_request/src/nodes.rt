@@ -46,8 +46,8 @@ impl Model for GetAttr {
 }
 
 impl GetAttr {
-    ghost use Rattle.fuse_operations.specs.Call.{handle_number};
-    ghost use Rattle.fuse_operations.specs.Fields.{getattr_handle};
+    ghost use Rattle.fuse_request.specs.Call.{handle_number};
+    ghost use Rattle.fuse_request.specs.Fields.{getattr_handle};
 
     /// Which fields are valid: `FUSE_GETATTR_FH` for `fh`.
     pub fn getattr_flags(&self) -> GetattrFlags

@@ -1,11 +1,11 @@
 //! Laws of the definitions. The function here does nothing: its contract is the law, which holds of all values.
 ghost use Rattle.std.specs.Prelude.{◌≡◌, ◌↔◌, IsTrue};
 ghost use Rattle.fuse_wire.specs.Numbered.{SaysSame};
-ghost use Rattle.fuse_operations.specs.Fields.{same_size};
-ghost use Rattle.fuse_operations.specs.Forgets.{row_bytes};
-ghost use Rattle.fuse_operations.specs.declared.forgets.ForgetList.{ForgetList};
-ghost use Rattle.fuse_operations.specs.declared.places.FilenameInDir.{FilenameInDir};
-ghost use Rattle.fuse_operations.specs.declared.xattrs.GetXAttrSizeEnum.{GetXAttrSizeEnum};
+ghost use Rattle.fuse_request.specs.Fields.{same_size};
+ghost use Rattle.fuse_request.specs.Forgets.{row_bytes};
+ghost use Rattle.fuse_request.specs.declared.forgets.ForgetList.{ForgetList};
+ghost use Rattle.fuse_request.specs.declared.places.FilenameInDir.{FilenameInDir};
+ghost use Rattle.fuse_request.specs.declared.xattrs.GetXAttrSizeEnum.{GetXAttrSizeEnum};
 
 use crate::{
     CopyFileRangeFile, FilenameInDir, ForgetList, ForgetOne, GetXAttrSize, GetXAttrSizeEnum, Lock,

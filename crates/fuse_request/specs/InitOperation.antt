@@ -3,8 +3,8 @@ use Rattle.std.specs.Prelude.{ℕ, ◌+◌, ◌*◌, ◌^◌, if◌then◌else�
 use Rattle.fuse_args.specs.declared.fixed.InitArguments.{InitArguments}
 use Rattle.fuse_wire.specs.declared.newtypes.Version.{Version}
 use Rattle.fuse_wire.specs.Flags.{FUSE_INIT_EXT}
-use Rattle.fuse_operations.specs.Fields.{has_flag}
-use Rattle.fuse_operations.specs.declared.operation.Init.{Init}
+use Rattle.fuse_request.specs.Fields.{has_flag}
+use Rattle.fuse_request.specs.declared.operation.Init.{Init}
 
 -- the arguments that it carries
 abbrev pub arguments_of : Init → InitArguments

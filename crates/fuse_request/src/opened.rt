@@ -70,8 +70,8 @@ impl<K> Model for Releasing<K> {
 }
 
 impl<K> Releasing<K> {
-    ghost use Rattle.fuse_operations.specs.Call.{owner_number};
-    ghost use Rattle.fuse_operations.specs.Fields.{flushes, release_lock_owner};
+    ghost use Rattle.fuse_request.specs.Call.{owner_number};
+    ghost use Rattle.fuse_request.specs.Fields.{flushes, release_lock_owner};
 
     /// What is to be done.
     pub fn release_flags(&self) -> ReleaseFlags
@@ -137,7 +137,7 @@ impl<K> Model for Syncing<K> {
 }
 
 impl<K> Syncing<K> {
-    ghost use Rattle.fuse_operations.specs.Fields.{contents_alone};
+    ghost use Rattle.fuse_request.specs.Fields.{contents_alone};
 
     /// The open file or directory.
     pub fn file_handle(&self) -> FileHandle

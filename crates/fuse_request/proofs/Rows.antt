@@ -3,7 +3,7 @@ use Rattle.std.proofs.Common.{◌≡◌, ℕ, zero, suc, ◌+◌, ◌*◌, ◌/�
 use Rattle.std.proofs.Common.{◌∙◌}
 use Rattle.std.specs.Prelude.{slice_get}
 use Rattle.fuse_wire.specs.Numbers.{number}
-use Rattle.fuse_operations.specs.Forgets.{rows_from, rows_in}
+use Rattle.fuse_request.specs.Forgets.{rows_from, rows_in}
 
 rows_from-length : (count at : ℕ) (bytes : List ℕ) → length (rows_from count at bytes) ≡ count
 unfolding rows_from

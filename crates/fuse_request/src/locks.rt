@@ -33,7 +33,7 @@ pub type GetLk = Locking<()>;
 pub type SetLk = Locking<bool>;
 
 impl<S> Model for Locking<S> {
-    ghost use Rattle.fuse_operations.specs.Carried.{Locked};
+    ghost use Rattle.fuse_request.specs.Carried.{Locked};
 
     ghost Value = { Locked S };
 
@@ -41,7 +41,7 @@ impl<S> Model for Locking<S> {
 }
 
 impl<S> Locking<S> {
-    ghost use Rattle.fuse_operations.specs.Fields.{lock_of};
+    ghost use Rattle.fuse_request.specs.Fields.{lock_of};
 
     /// The open file.
     pub fn file_handle(&self) -> FileHandle

@@ -17,7 +17,7 @@ pub struct IoCtl<'a> {
 
 impl<'a> Model for IoCtl<'a> {
     ghost use Rattle.fuse_args.specs.declared.fixed.devices.IoCtlArguments.{IoCtlArguments};
-    ghost use Rattle.fuse_operations.specs.Carried.{WithBytes};
+    ghost use Rattle.fuse_request.specs.Carried.{WithBytes};
 
     ghost Value = { WithBytes IoCtlArguments };
 
@@ -25,7 +25,7 @@ impl<'a> Model for IoCtl<'a> {
 }
 
 impl<'a> IoCtl<'a> {
-    ghost use Rattle.fuse_operations.specs.Fields.{is_unrestricted};
+    ghost use Rattle.fuse_request.specs.Fields.{is_unrestricted};
 
     /// The bytes handed in.
     pub fn in_data(&self) -> &'a [u8]

@@ -7,7 +7,7 @@ use Rattle.fuse_wire.specs.Times.{time_in}
 use Rattle.fuse_wire.specs.declared.time.SystemTime.{SystemTime}
 use Rattle.fuse_wire.specs.declared.time.TimeOrNow.{TimeOrNow}
 use Rattle.fuse_wire.specs.declared.time.TimeOrNow.TheVariants.{SpecificTime, Now}
-use Rattle.fuse_operations.specs.Fields.{has_flag, where_flag}
+use Rattle.fuse_request.specs.Fields.{has_flag, where_flag}
 
 -- the kind and the permissions
 abbrev pub new_mode : SetAttrArguments → Option ℕ

@@ -24,9 +24,9 @@ impl Model for SetAttr {
 }
 
 impl SetAttr {
-    ghost use Rattle.fuse_operations.specs.Call.{handle_number};
-    ghost use Rattle.fuse_operations.specs.SetAttr.{new_mode, new_uid, new_gid, new_size, new_atime, new_mtime, new_ctime};
-    ghost use Rattle.fuse_operations.specs.SetAttr.{file_of};
+    ghost use Rattle.fuse_request.specs.Call.{handle_number};
+    ghost use Rattle.fuse_request.specs.SetAttr.{new_mode, new_uid, new_gid, new_size, new_atime, new_mtime, new_ctime};
+    ghost use Rattle.fuse_request.specs.SetAttr.{file_of};
     ghost use Rattle.std.specs.Prelude.{None};
 
     /// Which attributes are set.
