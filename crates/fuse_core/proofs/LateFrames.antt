@@ -7,9 +7,9 @@ use Rattle.std.proofs.lemmas.List.{append-nil, append_assoc, at_drop_all, at_dro
 use Rattle.std.proofs.lemmas.List.Sums.{sum_by-append, sum_by_push}
 use Rattle.fuse_reply.specs.Late.{LateSeen}
 use Rattle.fuse_core.specs.Marks.{is_unused, late_tag, let_go, still_held, tag_of}
-use Rattle.fuse_book.specs.AreMatched.{AreMatched, Tag, same, times}
+use Rattle.fuse_core.specs.AreMatched.{AreMatched, Tag, same, times}
 use Rattle.fuse_core.specs.declared.state.Mark.{Mark}
-use Rattle.fuse_book.proofs.Matching.{AreMatched-from_times, once_if_same, same_is, times-cons, times-from_AreMatched}
+use Rattle.fuse_core.proofs.Matching.{AreMatched-from_times, once_if_same, same_is, times-cons, times-from_AreMatched}
 
 times-append : (tag : Tag) (xs ys : List Tag) → times tag (xs ++ ys) ≡ times tag xs + times tag ys
 times-append tag xs ys = sum_by-append (λ t. once_if_same t tag) xs ys

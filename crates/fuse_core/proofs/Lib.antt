@@ -1,3 +1,5 @@
+pub mod Matching
+pub mod Bookkeeping
 pub mod Determined
 pub mod LateFrames
 pub mod Balancing

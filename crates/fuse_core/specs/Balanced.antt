@@ -6,7 +6,7 @@ use Rattle.fuse_reply.specs.declared.out.Out.TheVariants.{Frame, Note, Deferred}
 use Rattle.fuse_reply.specs.declared.parcel.Parcel.{Parcel}
 use Rattle.fuse_reply.specs.declared.parcel.Parcel.TheVariants.{Prompt, Notice, Late}
 use Rattle.fuse_core.specs.Marks.{late_tag, tag_of}
-use Rattle.fuse_book.specs.AreMatched.{AreMatched}
+use Rattle.fuse_core.specs.AreMatched.{AreMatched}
 use Rattle.fuse_core.specs.declared.state.WorkerHand.{WorkerHand}
 use Rattle.fuse_core.specs.declared.state.WorkerHand.TheVariants.{Empty, Asked, Answered}
 use Rattle.fuse_core.specs.declared.state.State.{State}

@@ -1,3 +1,5 @@
+pub mod AreMatched
+pub mod Book
 pub mod Marks
 pub mod Step
 pub mod Balanced

@@ -1,7 +1,7 @@
 -- Which marks of replies that come later the late frames go to.
 use Rattle.std.specs.Prelude.{List, [], ◌∷◌, Bool, if◌then◌else◌, map, nat_lt}
 use Rattle.fuse_reply.specs.Late.{LateSeen}
-use Rattle.fuse_book.specs.AreMatched.{Tag, same, times}
+use Rattle.fuse_core.specs.AreMatched.{Tag, same, times}
 use Rattle.fuse_core.specs.declared.state.Mark.{Mark}
 
 -- the tag of a mark

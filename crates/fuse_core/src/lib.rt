@@ -3,6 +3,8 @@
 //! different messages; and a late frame goes only to a mark of its own, with its number and id.
 #![tactic(auto)]
 
+mod book;
+pub mod book_laws;
 mod copied;
 mod event;
 pub mod laws;
@@ -10,7 +12,15 @@ mod lists;
 mod marks;
 mod state;
 mod stepping;
+mod unmatched;
 
+pub use book::Book;
 pub use event::Event;
-pub use state::{Job, LINE_PLACES, Mark, SentOut, State, WorkerHand};
-pub use stepping::{run, step};
+pub use state::Job;
+pub use state::LINE_PLACES;
+pub use state::Mark;
+pub use state::SentOut;
+pub use state::State;
+pub use state::WorkerHand;
+pub use stepping::run;
+pub use stepping::step;

@@ -2,10 +2,10 @@
 ghost use Rattle.std.specs.Prelude.{◌≡◌, ◌<◌, ◌∷◌, [], MatchOption, Some, length, map, remove, slice_get};
 ghost use Rattle.fuse_reply.specs.Late.{LateSeen};
 ghost use Rattle.fuse_core.specs.Marks.{is_unused as unused, late_tag, let_go, still_held, tag_of as of_mark};
-ghost use Rattle.fuse_book.specs.AreMatched.{same, times};
+ghost use Rattle.fuse_core.specs.AreMatched.{same, times};
 
 use crate::Mark;
-use fuse_book::Key;
+use crate::book::Key;
 use fuse_reply::LateFrame;
 
 /// The tag of a mark.

@@ -1,6 +1,6 @@
 // Marks and late frames in every order, many at once, and where memory is wanting.
 use crate::asserts::expect_same;
-use fuse_book::Book;
+use fuse_core::Book;
 use fuse_wire::RequestId;
 use std::alloc::Global;
 use std::process::Abort;

@@ -8,7 +8,7 @@ use Rattle.fuse_reply.specs.Late.{LateSeen}
 use Rattle.fuse_reply.specs.declared.out.Out.{Out}
 use Rattle.fuse_reply.specs.declared.out.Out.TheVariants.{Deferred}
 use Rattle.fuse_core.specs.Marks.{late_tag}
-use Rattle.fuse_book.specs.AreMatched.{AreMatched, Tag}
+use Rattle.fuse_core.specs.AreMatched.{AreMatched, Tag}
 use Rattle.fuse_core.specs.OnePerMessage.{OnePerMessage, Owing, UpToOrder}
 use Rattle.fuse_workers.specs.OnePerMessageLater.{OnePerMessageLater}
 use Rattle.fuse_loop.specs.Progress.{LeavesOut}

@@ -16,8 +16,8 @@ use Rattle.fuse_loop.specs.EventLoop.{Run, RunEnds}
 use Rattle.fuse_workers.specs.Hearing.{Hears, StopsWith, end_of}
 use Rattle.fuse_loop.specs.Incoming.{AllGoOn, IsBroken}
 use Rattle.fuse_loop.specs.Lines.{lates_in, notices_in}
-use Rattle.fuse_book.specs.Book.{EachWaiting, IsBookOf, tags_of}
-use Rattle.fuse_book.specs.AreMatched.{AreMatched, Tag}
+use Rattle.fuse_core.specs.Book.{EachWaiting, IsBookOf, tags_of}
+use Rattle.fuse_core.specs.AreMatched.{AreMatched, Tag}
 use Rattle.fuse_workers.specs.OnePerMessageLater.{EachLetGo, NoneHeldBack, OnePerMessageLater}
 use Rattle.fuse_workers.specs.Relays.{RelayState, Relays, is_own, late_out, with_tag}
 use Rattle.fuse_reply.specs.Late.{LateSeen}
@@ -29,7 +29,7 @@ use Rattle.fuse_workers.specs.declared.stopped.Stopped.{Stopped}
 use Rattle.fuse_workers.specs.declared.stopped.Stopped.TheVariants.{Gone, Destroy, Broken, Failed}
 use Rattle.fuse_core.specs.declared.state.Job.{Job}
 use Rattle.fuse_loop.specs.declared.transcript.Transcript.{Transcript}
-use Rattle.fuse_book.proofs.Bookkeeping.{IsBookOf-matches}
+use Rattle.fuse_core.proofs.Bookkeeping.{IsBookOf-matches}
 use Rattle.fuse_workers.proofs.LateReplies.{each-arrived, each-let_go, gone-matched, none-arrived, none-gone, none-unused, replies-gone}
 use Rattle.fuse_workers.proofs.Pairing.{OnePerMessage-parts, Pairs-all, Parts-prompt}
 use Rattle.fuse_loop.proofs.Quieting.{LeavesOut-none}

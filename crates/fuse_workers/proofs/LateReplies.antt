@@ -4,14 +4,14 @@ use Rattle.std.specs.List.{All, AllByRecursion, Contains}
 use Rattle.std.proofs.lemmas.List.Elements.{All-cons, All-head, All-tail, All-weaker}
 use Rattle.std.proofs.lemmas.Option.{none-some}
 use Rattle.fuse_reply.specs.Late.{LateSeen}
-use Rattle.fuse_book.specs.Book.{IsBookOf, tags_of}
+use Rattle.fuse_core.specs.Book.{IsBookOf, tags_of}
 use Rattle.fuse_core.specs.Marks.{late_tag}
-use Rattle.fuse_book.specs.AreMatched.{HasUnused, AreMatched, Tag}
+use Rattle.fuse_core.specs.AreMatched.{HasUnused, AreMatched, Tag}
 use Rattle.fuse_workers.specs.OnePerMessageLater.{EachLetGo}
 use Rattle.fuse_workers.specs.Relays.{IsLateReply, is_own, with_tag}
-use Rattle.fuse_book.specs.declared.book.Book.{Book}
-use Rattle.fuse_book.proofs.Bookkeeping.{IsBookOf-came, IsBookOf-matches, IsBookOf-sent, first_or_later, Contains-first, Contains-later}
-use Rattle.fuse_book.proofs.Matching.{same_is}
+use Rattle.fuse_core.specs.declared.book.Book.{Book}
+use Rattle.fuse_core.proofs.Bookkeeping.{IsBookOf-came, IsBookOf-matches, IsBookOf-sent, first_or_later, Contains-first, Contains-later}
+use Rattle.fuse_core.proofs.Matching.{same_is}
 use Rattle.fuse_workers.proofs.Splitting.{frames_gone}
 
 -- late frames that have the tags which they went under

@@ -17,18 +17,18 @@ use Rattle.fuse_reply.specs.declared.out.OutEnd.TheVariants.{Written, Noted, Los
 use Rattle.fuse_reply.specs.Deliver.{Delivers, NoNotice}
 use Rattle.fuse_reply.specs.declared.parcel.Parcel.{Parcel}
 use Rattle.fuse_reply.specs.declared.parcel.Parcel.TheVariants.{Prompt, Notice, Late}
-use Rattle.fuse_book.specs.Book.{EachWaiting, IsBookOf, tagged}
+use Rattle.fuse_core.specs.Book.{EachWaiting, IsBookOf, tagged}
 use Rattle.fuse_loop.specs.Lines.{late_in, lates_in, notices_in}
 use Rattle.fuse_core.specs.Marks.{late_tag}
-use Rattle.fuse_book.specs.AreMatched.{Tag}
+use Rattle.fuse_core.specs.AreMatched.{Tag}
 use Rattle.fuse_workers.specs.Pairing.{Parts, outs_of}
 use Rattle.fuse_loop.specs.Progress.{LeavesOut, Moves, OutletState, counting, progress}
 use Rattle.fuse_workers.specs.Relays.{HandsEach, IsLateReply, IsRelayed, RelayState, Relays, SendsLate, SendsOut, SendsParcel, TakesLate}
 use Rattle.fuse_workers.specs.Relays.{is_own, late_out, with_tag}
-use Rattle.fuse_book.specs.declared.book.Book.{Book}
+use Rattle.fuse_core.specs.declared.book.Book.{Book}
 use Rattle.fuse_loop.proofs.FrameLines.{notices-append}
 use Rattle.fuse_loop.proofs.ItemLists.{All-append}
-use Rattle.fuse_book.proofs.Matching.{same_self}
+use Rattle.fuse_core.proofs.Matching.{same_self}
 use Rattle.fuse_loop.proofs.Moving.{LeavesOut-append, Moves-frame, Moves-none, Moves-note, Moves-notice, Moves-refused, Moves-then}
 use Rattle.fuse_workers.proofs.Pairing.{Parts-append, Parts-framed, Parts-lost, Parts-noted, outs_of-append}
 

@@ -4,7 +4,7 @@ use Rattle.fuse_wire.specs.Sink.{Note as Noted}
 use Rattle.fuse_reply.specs.Late.{LateSeen}
 use Rattle.fuse_reply.specs.declared.out.Out.{Out}
 use Rattle.fuse_reply.specs.declared.out.Out.TheVariants.{Frame, Note, Deferred}
-use Rattle.fuse_book.specs.AreMatched.{Tag}
+use Rattle.fuse_core.specs.AreMatched.{Tag}
 use Rattle.fuse_workers.specs.Pairing.{Parts}
 use Rattle.fuse_loop.specs.Progress.{LeavesOut}
 use Rattle.fuse_workers.specs.Relays.{late_out}

@@ -6,7 +6,7 @@ use Rattle.fuse_wire.specs.Sink.{Note as Noted}
 use Rattle.fuse_reply.specs.Late.{LateSeen}
 use Rattle.fuse_reply.specs.declared.out.Out.{Out}
 use Rattle.fuse_core.specs.Marks.{late_tag}
-use Rattle.fuse_book.specs.AreMatched.{HasUnused, AreMatched}
+use Rattle.fuse_core.specs.AreMatched.{HasUnused, AreMatched}
 use Rattle.fuse_core.specs.OnePerMessage.{OnePerMessage, Owing}
 use Rattle.fuse_loop.specs.Progress.{LeavesOut}
 use Rattle.fuse_workers.specs.Relays.{IsLateReply, late_out}

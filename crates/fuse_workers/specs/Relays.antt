@@ -11,13 +11,13 @@ use Rattle.fuse_reply.specs.declared.out.Out.{Out}
 use Rattle.fuse_reply.specs.declared.out.Out.TheVariants.{Frame, Note as Noting, Deferred}
 use Rattle.fuse_reply.specs.declared.parcel.Parcel.{Parcel}
 use Rattle.fuse_reply.specs.declared.parcel.Parcel.TheVariants.{Prompt, Notice, Late}
-use Rattle.fuse_book.specs.Book.{EachWaiting, IsBookOf, tagged}
+use Rattle.fuse_core.specs.Book.{EachWaiting, IsBookOf, tagged}
 use Rattle.fuse_loop.specs.Lines.{lates_in, notices_in}
 use Rattle.fuse_core.specs.Marks.{late_tag}
-use Rattle.fuse_book.specs.AreMatched.{Tag, same}
+use Rattle.fuse_core.specs.AreMatched.{Tag, same}
 use Rattle.fuse_workers.specs.Pairing.{Parts, outs_of}
 use Rattle.fuse_loop.specs.Progress.{LeavesOut, Moves, OutletState, SendsNotice, SendsOnce, progress}
-use Rattle.fuse_book.specs.declared.book.Book.{Book}
+use Rattle.fuse_core.specs.declared.book.Book.{Book}
 
 -- whoever sends: the end that frames go out by, and the book of replies that come later
 pub record RelayState : Type 0 where

@@ -19,7 +19,7 @@ mod threads;
 mod worker;
 mod workers;
 
-pub use fuse_book::Book;
+pub use fuse_core::Book;
 pub use fuse_loop::Buffers;
 pub use fuse_loop::Channel;
 pub use fuse_loop::End;

@@ -2,7 +2,7 @@
 ghost use Rattle.std.specs.Prelude.{◌≡◌};
 ghost use Rattle.fuse_workers.specs.Relays.{SendsLate, SendsOut, SendsParcel, relay_of};
 
-use fuse_book::Book;
+use fuse_core::Book;
 use fuse_loop::Outlet;
 use fuse_reply::{LateFrame, Out, Parcel};
 use fuse_wire::Sink;

@@ -1,7 +1,7 @@
 use Rattle.std.proofs.Common.{◌≡◌, ◌≤◌, take}
 use Rattle.std.specs.List.{count_by}
 use Rattle.fuse_core.specs.Marks.{tag_of}
-use Rattle.fuse_book.specs.AreMatched.{same}
+use Rattle.fuse_core.specs.AreMatched.{same}
 use Rattle.fuse_core.proofs.marks.count_marks.Given as goal
 
 -- those so far are counted

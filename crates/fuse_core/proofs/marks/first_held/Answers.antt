@@ -1,7 +1,7 @@
 use Rattle.std.proofs.Common.{◌≡◌, ◌<◌, ◌≤◌, ◌∙◌, false, get_or, length, true, ap, arith, refl, sym, ℕ}
 use Rattle.std.proofs.lemmas.Option.{slice_get_read}
 use Rattle.fuse_core.specs.Marks.{late_tag}
-use Rattle.fuse_book.specs.AreMatched.{Tag, same}
+use Rattle.fuse_core.specs.AreMatched.{Tag, same}
 use Rattle.fuse_core.proofs.LateFrames.{let_go-end, let_go-found, let_go-next, still_held-end, still_held-found, still_held-next}
 use Rattle.fuse_core.proofs.marks.first_held.Goals as goal
 

@@ -1,9 +1,9 @@
 use Rattle.std.proofs.Common.{subst, sym}
 use Rattle.fuse_reply.specs.Late.{LateSeen}
 use Rattle.fuse_reply.specs.declared.out.Out.{Out}
-use Rattle.fuse_book.specs.AreMatched.{Tag}
+use Rattle.fuse_core.specs.AreMatched.{Tag}
 use Rattle.fuse_workers.specs.Relays.{SendsOut, TakesMark, is_own, relay_of}
-use Rattle.fuse_book.specs.declared.book.Book.{Book}
+use Rattle.fuse_core.specs.declared.book.Book.{Book}
 use Rattle.fuse_workers.proofs.relay.Relay.deliver.Goals as goal
 
 -- the mark came into the book, and what it let go was sent

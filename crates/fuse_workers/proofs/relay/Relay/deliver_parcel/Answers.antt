@@ -3,7 +3,7 @@ use Rattle.fuse_reply.specs.Late.{LateSeen}
 use Rattle.fuse_reply.specs.declared.parcel.Parcel.{Parcel}
 use Rattle.fuse_core.specs.Marks.{late_tag}
 use Rattle.fuse_workers.specs.Relays.{SendsParcel, TakesLate, relay_of}
-use Rattle.fuse_book.specs.declared.book.Book.{Book}
+use Rattle.fuse_core.specs.declared.book.Book.{Book}
 use Rattle.fuse_workers.proofs.Relaying.{TakesLate-by}
 use Rattle.fuse_workers.proofs.relay.Relay.deliver_parcel.Goals as goal
 

@@ -4,10 +4,10 @@ use Rattle.std.specs.HashMap.{get}
 use Rattle.std.specs.List.{All, Contains, filter}
 use Rattle.std.specs.Option.{option_to_list}
 use Rattle.fuse_wire.specs.Faults.{counted}
-use Rattle.fuse_book.specs.declared.book.Book.{Book}
-use Rattle.fuse_book.specs.declared.unmatched.Unmatched.{Unmatched}
-use Rattle.fuse_book.specs.declared.unmatched.Unmatched.TheVariants.{Marks, Frames}
-use Rattle.fuse_book.specs.AreMatched.{HasUnused, Tag, same, times}
+use Rattle.fuse_core.specs.declared.book.Book.{Book}
+use Rattle.fuse_core.specs.declared.unmatched.Unmatched.{Unmatched}
+use Rattle.fuse_core.specs.declared.unmatched.Unmatched.TheVariants.{Marks, Frames}
+use Rattle.fuse_core.specs.AreMatched.{HasUnused, Tag, same, times}
 
 -- the tags of late frames
 abbrev pub tags_of : {F : Type 0} → List (Tag × F) → List Tag

@@ -10,13 +10,13 @@ use Rattle.std.proofs.lemmas.List.Elements.{All-append, All-cons, All-contains_i
 use Rattle.std.proofs.lemmas.List.Elements.{Contains-append_left, Contains-append_right, filter-append}
 use Rattle.std.proofs.lemmas.Map.{update-update}
 use Rattle.fuse_wire.specs.Faults.{counted}
-use Rattle.fuse_book.specs.declared.unmatched.Unmatched.{Unmatched}
-use Rattle.fuse_book.specs.declared.unmatched.Unmatched.TheVariants.{Marks, Frames}
-use Rattle.fuse_book.specs.declared.book.Book.{Book}
-use Rattle.fuse_book.specs.Book.{Accounts, Backs, Counts, EachSent, EachWaiting, IsBookOf, Loses, Meets}
-use Rattle.fuse_book.specs.Book.{frames_of, frames_waiting, how_many, marks_waiting, tagged, tags_of, waiting}
-use Rattle.fuse_book.specs.AreMatched.{HasUnused, AreMatched, Tag, same, times}
-use Rattle.fuse_book.proofs.Matching.{AreMatched-from_times, once_if_same, same_is, same_self, times-cons}
+use Rattle.fuse_core.specs.declared.unmatched.Unmatched.{Unmatched}
+use Rattle.fuse_core.specs.declared.unmatched.Unmatched.TheVariants.{Marks, Frames}
+use Rattle.fuse_core.specs.declared.book.Book.{Book}
+use Rattle.fuse_core.specs.Book.{Accounts, Backs, Counts, EachSent, EachWaiting, IsBookOf, Loses, Meets}
+use Rattle.fuse_core.specs.Book.{frames_of, frames_waiting, how_many, marks_waiting, tagged, tags_of, waiting}
+use Rattle.fuse_core.specs.AreMatched.{HasUnused, AreMatched, Tag, same, times}
+use Rattle.fuse_core.proofs.Matching.{AreMatched-from_times, once_if_same, same_is, same_self, times-cons}
 
 -- where no mark comes
 pub none_more : (k tag : Tag) (marks : List Tag) → times k marks ≡ times k marks + cond (same tag k) 0 0

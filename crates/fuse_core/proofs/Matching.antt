@@ -4,7 +4,7 @@ use Rattle.std.proofs.Common.{refl, ap, subst, ⊎_elim, inl, inr, arith}
 use Rattle.std.proofs.lemmas.Bool.Decides.{nat_tests}
 use Rattle.std.proofs.lemmas.List.Sums.{sum_by-cons, sum_by-remove}
 use Rattle.std.proofs.lemmas.Option.{get_or_from_slice_get, slice_get_within}
-use Rattle.fuse_book.specs.AreMatched.{AreMatched, Tag, same, times}
+use Rattle.fuse_core.specs.AreMatched.{AreMatched, Tag, same, times}
 
 pub same_self : (tag : Tag) → same tag tag ≡ true
 same_self tag = grind (arith, nat_tests)

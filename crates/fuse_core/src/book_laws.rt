@@ -1,9 +1,9 @@
 //! Laws of the marks and late frames that a sender keeps. The functions here do nothing: their contracts are the laws.
 ghost use Rattle.std.specs.Prelude.{◌≡◌, List, []};
 ghost use Rattle.std.specs.List.{All, Contains};
-ghost use Rattle.fuse_book.specs.Book.{EachSent, IsBookOf, frames_waiting, tags_of, waiting};
-ghost use Rattle.fuse_book.specs.AreMatched.{HasUnused, AreMatched, Tag};
-ghost use Rattle.fuse_book.specs.declared.book.Book.{Book as BookOf};
+ghost use Rattle.fuse_core.specs.Book.{EachSent, IsBookOf, frames_waiting, tags_of, waiting};
+ghost use Rattle.fuse_core.specs.AreMatched.{HasUnused, AreMatched, Tag};
+ghost use Rattle.fuse_core.specs.declared.book.Book.{Book as BookOf};
 
 /// The late frames that were sent go to different marks, each with its number and id. This holds whatever was lost.
 pub fn late_frames_go_to_different_marks<F: Drop>()

@@ -1,8 +1,8 @@
 use Rattle.std.proofs.Common.{◌∙◌, Some}
 use Rattle.std.specs.HashMap.{get}
-use Rattle.fuse_book.specs.AreMatched.{Tag, same}
-use Rattle.fuse_book.proofs.Bookkeeping.{Counts-after, EachWaiting-after, IsBookOf-after, none_more, same_not}
-use Rattle.fuse_book.proofs.book.Book.late.Goals as goal
+use Rattle.fuse_core.specs.AreMatched.{Tag, same}
+use Rattle.fuse_core.proofs.Bookkeeping.{Counts-after, EachWaiting-after, IsBookOf-after, none_more, same_not}
+use Rattle.fuse_core.proofs.book.Book.late.Goals as goal
 
 pub returns-clause-keeps : goal.returns-clause-keeps
 returns-clause-keeps g c = λ marks came sent book.

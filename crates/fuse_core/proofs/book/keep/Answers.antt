@@ -1,9 +1,9 @@
 use Rattle.std.proofs.Common.{◌≡◌, ◌⊎◌, None, subst, sym}
 use Rattle.std.specs.HashMap.{get}
 use Rattle.std.specs.Map.{lookup, update}
-use Rattle.fuse_book.specs.AreMatched.{same}
-use Rattle.fuse_book.proofs.Bookkeeping.{put_or_none, same_not}
-use Rattle.fuse_book.proofs.book.keep.Goals as goal
+use Rattle.fuse_core.specs.AreMatched.{same}
+use Rattle.fuse_core.proofs.Bookkeeping.{put_or_none, same_not}
+use Rattle.fuse_core.proofs.book.keep.Goals as goal
 
 pub returns-in-None-clause-left : goal.returns-in-None-clause-left
 returns-in-None-clause-left g c = put_or_none (get same c.args.waiting.now) c.args.tag c.args.left c.requires

@@ -1,7 +1,7 @@
 // What waits under one tag: a mark for its late frame, or a late frame for its mark.
 ghost use Rattle.std.specs.Prelude.{◌≡◌, ◌==◌, if◌then◌else◌, true, false, None, Some, min, slice_get};
 ghost use Rattle.fuse_wire.specs.Faults.{last_count};
-ghost use Rattle.fuse_book.specs.Book.{Backs, Loses, Meets, frames_waiting, how_many, marks_waiting};
+ghost use Rattle.fuse_core.specs.Book.{Backs, Loses, Meets, frames_waiting, how_many, marks_waiting};
 
 use std::alloc::Global;
 use std::collections::VecDeque;

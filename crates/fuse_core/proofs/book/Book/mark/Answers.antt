@@ -1,11 +1,11 @@
 use Rattle.std.proofs.Common.{◌∙◌, ◌++◌, [], ◌∷◌, None, append-nil, subst}
 use Rattle.std.specs.HashMap.{get}
 use Rattle.std.proofs.lemmas.List.Sums.{sum_by_push}
-use Rattle.fuse_book.specs.Book.{IsBookOf, tagged}
-use Rattle.fuse_book.specs.AreMatched.{Tag, same}
-use Rattle.fuse_book.proofs.Bookkeeping.{Counts-after, EachWaiting-after, IsBookOf-after, same_not}
-use Rattle.fuse_book.proofs.Matching.{once_if_same}
-use Rattle.fuse_book.proofs.book.Book.mark.Goals as goal
+use Rattle.fuse_core.specs.Book.{IsBookOf, tagged}
+use Rattle.fuse_core.specs.AreMatched.{Tag, same}
+use Rattle.fuse_core.proofs.Bookkeeping.{Counts-after, EachWaiting-after, IsBookOf-after, same_not}
+use Rattle.fuse_core.proofs.Matching.{once_if_same}
+use Rattle.fuse_core.proofs.book.Book.mark.Goals as goal
 
 pub returns-clause-keeps : goal.returns-clause-keeps
 returns-clause-keeps g c = λ marks came sent book.

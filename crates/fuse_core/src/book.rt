@@ -5,9 +5,9 @@ ghost use Rattle.std.specs.HashMap.{get};
 ghost use Rattle.std.specs.Map.{update};
 ghost use Rattle.std.specs.Option.{IfSome};
 ghost use Rattle.fuse_wire.specs.Faults.{counted, last_count};
-ghost use Rattle.fuse_book.specs.Book.{Counts, EachWaiting, IsBookOf};
-ghost use Rattle.fuse_book.specs.Book.{frames_waiting, how_many, marks_waiting, tagged, waiting};
-ghost use Rattle.fuse_book.specs.AreMatched.{Tag, same};
+ghost use Rattle.fuse_core.specs.Book.{Counts, EachWaiting, IsBookOf};
+ghost use Rattle.fuse_core.specs.Book.{frames_waiting, how_many, marks_waiting, tagged, waiting};
+ghost use Rattle.fuse_core.specs.AreMatched.{Tag, same};
 
 use crate::unmatched::{Unmatched, with_frame, with_mark};
 use fuse_wire::RequestId;

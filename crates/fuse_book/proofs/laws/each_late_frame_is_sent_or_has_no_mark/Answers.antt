@@ -1,5 +1,0 @@
-use Rattle.fuse_book.proofs.Bookkeeping.{IsBookOf-sent}
-use Rattle.fuse_book.proofs.laws.each_late_frame_is_sent_or_has_no_mark.Goals as goal
-
-pub returns : goal.returns
-returns g c = λ book marks came sent h whole. IsBookOf-sent book marks came sent h whole

@@ -1,2 +1,0 @@
-pub mod AreMatched
-pub mod Book
