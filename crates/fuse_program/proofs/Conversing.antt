@@ -24,9 +24,9 @@ use Rattle.fuse_loop.specs.Progress.{is_notice, nothing_yet, progress}
 use Rattle.fuse_loop.specs.declared.transcript.Transcript.{Transcript}
 use Rattle.fuse_session.specs.declared.error.SessionError.TheVariants as session
 use Rattle.fuse_program.specs.Status.{status}
-use Rattle.fuse_tree.specs.Tree.{tree_promise, tree_may_init}
+use Rattle.fuse_hello.specs.Tree.{tree_promise, tree_may_init}
 use Rattle.fuse_program.specs.Program.{Fronts, WritesFrames, EachAnswered, Still, ByteExchange, InputWell, form_setup}
-use Rattle.fuse_tree.specs.declared.hello.Hello.{Hello}
+use Rattle.fuse_hello.specs.declared.hello.Hello.{Hello}
 use Rattle.fuse_program.specs.declared.arguments.ServeForm.{ServeForm}
 use Rattle.fuse_program.proofs.Statuses.{status-counted, ok-statuses, eight-status}
 use Rattle.fuse_program.proofs.Reading.{Fronts-begins, Fronts-takes, TakesBytes-takes, NoByteLeft-nothing, front-whole, same_some}

@@ -17,13 +17,13 @@ use Rattle.fuse_loop.specs.Progress.{nothing_yet, progress, replies}
 use Rattle.fuse_session.specs.declared.error.SessionError.{SessionError}
 use Rattle.fuse_session.specs.declared.error.SessionError.TheVariants as session
 use Rattle.fuse_loop.specs.declared.transcript.Transcript.{Transcript}
-use Rattle.fuse_tree.specs.Generated.{destroy_message, init_message, request_at, requests, stream}
-use Rattle.fuse_tree.specs.Store.{Stored, messages_told, stored_told, summary_of}
+use Rattle.fuse_hello.specs.Generated.{destroy_message, init_message, request_at, requests, stream}
+use Rattle.fuse_hello.specs.Store.{Stored, messages_told, stored_told, summary_of}
 use Rattle.fuse_program.specs.Load.{AnsweredByTree, IsNoLine, Summarizes}
-use Rattle.fuse_tree.specs.Tree.{tree_promise}
+use Rattle.fuse_hello.specs.Tree.{tree_promise}
 use Rattle.fuse_program.specs.declared.arguments.LoadForm.{LoadForm}
-use Rattle.fuse_tree.specs.declared.hello.Hello.{Hello}
-use Rattle.fuse_tree.specs.declared.summary.Summary.{Summary}
+use Rattle.fuse_hello.specs.declared.hello.Hello.{Hello}
+use Rattle.fuse_hello.specs.declared.summary.Summary.{Summary}
 use Rattle.fuse_program.proofs.Messages.{Goes, fits-buffer, front-goes, stream-received}
 
 -- a store that holds nothing

@@ -21,11 +21,11 @@ use Rattle.fuse_header.specs.declared.error.RequestError.TheVariants.{ShortReadH
 use Rattle.fuse_loop.specs.Incoming.{incoming, incoming_by}
 use Rattle.fuse_loop.specs.Incoming.Incoming.{Destroy, Request}
 use Rattle.fuse_session.specs.Complete.{GoodHeaders, HandshakeWell, IsInit, OpensAtLeast, OpensWell, SessionWell}
-use Rattle.fuse_tree.specs.Generated.{destroy_message, generated_message, init_message, init_body, name_body, read_body, request, request_at, requests, stream}
-use Rattle.fuse_tree.specs.Generated.{write_body, x_after}
-use Rattle.fuse_tree.specs.Store.{messages_told}
-use Rattle.fuse_tree.specs.Tree.{tree_may_init}
-use Rattle.fuse_tree.specs.declared.hello.Hello.{Hello}
+use Rattle.fuse_hello.specs.Generated.{destroy_message, generated_message, init_message, init_body, name_body, read_body, request, request_at, requests, stream}
+use Rattle.fuse_hello.specs.Generated.{write_body, x_after}
+use Rattle.fuse_hello.specs.Store.{messages_told}
+use Rattle.fuse_hello.specs.Tree.{tree_may_init}
+use Rattle.fuse_hello.specs.declared.hello.Hello.{Hello}
 use Rattle.fuse_program.proofs.Conversing.{AcceptsAll-tree}
 
 -- the field of the length

@@ -27,13 +27,13 @@ use Rattle.fuse_session.specs.Handshake.{Greets, Handshake, HandshakeEnd, Negoti
 use Rattle.fuse_session.specs.Handshake.{greeting, greeting_by_header, greeting_by_operation, offer_of}
 use Rattle.fuse_session.specs.Handshake.HandshakeEnd.{Accepted}
 use Rattle.fuse_dispatch.specs.OwedMessage.{OwedByPromise}
-use Rattle.fuse_tree.specs.Generated.{init_message, stream}
-use Rattle.fuse_tree.specs.Store.{is_error, line, summary_of}
+use Rattle.fuse_hello.specs.Generated.{init_message, stream}
+use Rattle.fuse_hello.specs.Store.{is_error, line, summary_of}
 use Rattle.fuse_program.specs.Load.{AnsweredByTree, Loads, SameStream, Summarizes, WritesOneLine}
-use Rattle.fuse_tree.specs.Tree.{tree_may_init, tree_promise}
+use Rattle.fuse_hello.specs.Tree.{tree_may_init, tree_promise}
 use Rattle.fuse_program.specs.declared.arguments.LoadForm.{LoadForm}
-use Rattle.fuse_tree.specs.declared.hello.Hello.{Hello}
-use Rattle.fuse_tree.specs.declared.summary.Summary.{Summary}
+use Rattle.fuse_hello.specs.declared.hello.Hello.{Hello}
+use Rattle.fuse_hello.specs.declared.summary.Summary.{Summary}
 use Rattle.fuse_program.proofs.Messages.{init_message-is}
 use Rattle.fuse_program.proofs.OneOut.{IsOwedOne, later, later-one, out_of}
 

@@ -34,9 +34,9 @@ use Rattle.fuse_dispatch.specs.Found.{found_attributes, found_entry}
 use Rattle.fuse_dispatch.specs.OwedMessage.{IsPoll, OwedByPromise, OwedBy, OwedCall}
 use Rattle.fuse_dispatch.specs.Verdict.{Verdict, admitted, admitted_operation, asking, fixed_error, fixed_or, is_forget, serving, verdict, verdict_by}
 use Rattle.fuse_dispatch.specs.Verdict.Verdict.{Broken, Ends, Fixed, Forgets, Calls}
-use Rattle.fuse_tree.specs.Generated.{destroy_message, generated_message, name_body, read_body, request, request_at, requests, write_body, x_after}
-use Rattle.fuse_tree.specs.Tree.{tree_bytes, contents, members, tree_named, node_attr, tree_answer, tree_mark, tree_promise}
-use Rattle.fuse_tree.specs.declared.hello.Hello.{Hello}
+use Rattle.fuse_hello.specs.Generated.{destroy_message, generated_message, name_body, read_body, request, request_at, requests, write_body, x_after}
+use Rattle.fuse_hello.specs.Tree.{tree_bytes, contents, members, tree_named, node_attr, tree_answer, tree_mark, tree_promise}
+use Rattle.fuse_hello.specs.declared.hello.Hello.{Hello}
 use Rattle.fuse_program.proofs.Messages.{All-map, good_message, opcode_field, size_field, read_length, write_length}
 
 -- a call whose answer is never ENOMEM: no poll, and no READ of more bytes than are held without memory

@@ -11,11 +11,11 @@ use Rattle.fuse_core.specs.OnePerMessage.{OnePerMessage}
 use Rattle.fuse_dispatch.specs.OwedMessage.{OwedByPromise}
 use Rattle.fuse_session.specs.declared.error.SessionError.{SessionError}
 use Rattle.fuse_session.specs.declared.error.SessionError.TheVariants.{Memory, Threads}
-use Rattle.fuse_tree.specs.Generated.{stream}
-use Rattle.fuse_tree.specs.Store.{line, summary_of}
-use Rattle.fuse_tree.specs.Tree.{tree_promise}
-use Rattle.fuse_tree.specs.declared.hello.Hello.{Hello}
-use Rattle.fuse_tree.specs.declared.summary.Summary.{Summary}
+use Rattle.fuse_hello.specs.Generated.{stream}
+use Rattle.fuse_hello.specs.Store.{line, summary_of}
+use Rattle.fuse_hello.specs.Tree.{tree_promise}
+use Rattle.fuse_hello.specs.declared.hello.Hello.{Hello}
+use Rattle.fuse_hello.specs.declared.summary.Summary.{Summary}
 use Rattle.fuse_program.specs.declared.arguments.LoadForm.{LoadForm}
 
 -- The frames and notes that the tree is owed to give for these messages: those of the handshake, and one for each later message.

@@ -22,8 +22,8 @@ use Rattle.fuse_session.specs.Handshake.HandshakeEnd.{Accepted}
 use Rattle.fuse_loop.specs.Progress.{replies, is_notice, NoticeOrReply}
 use Rattle.fuse_session.specs.declared.error.SessionError.TheVariants.{Init, Receive}
 use Rattle.fuse_program.specs.Status.{status}
-use Rattle.fuse_tree.specs.Tree.{tree_promise}
-use Rattle.fuse_tree.specs.declared.hello.Hello.{Hello}
+use Rattle.fuse_hello.specs.Tree.{tree_promise}
+use Rattle.fuse_hello.specs.declared.hello.Hello.{Hello}
 use Rattle.fuse_program.specs.declared.arguments.ServeForm.{ServeForm}
 
 -- what a form sets a session up with: the tree, and what its words say

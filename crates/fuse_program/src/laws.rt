@@ -2,10 +2,10 @@
 ghost use Rattle.std.specs.Prelude.{◌≡◌, ℕ, List};
 ghost use Rattle.std.specs.List.Sorted.{IsPermutation};
 ghost use Rattle.fuse_wire.specs.Sink.{Note};
-ghost use Rattle.fuse_tree.specs.Generated.{stream};
+ghost use Rattle.fuse_hello.specs.Generated.{stream};
 ghost use Rattle.fuse_program.specs.Load.{AnsweredByTree, SameStream, Summarizes};
 ghost use Rattle.fuse_program.specs.declared.arguments.LoadForm.{LoadForm};
-ghost use Rattle.fuse_tree.specs.declared.summary.Summary.{Summary};
+ghost use Rattle.fuse_hello.specs.declared.summary.Summary.{Summary};
 
 /// The replies and notes that the tree is owed to give for generated messages are the same but for their order,
 /// whoever serves them. So what `load` counts is one summary for each seed and count, however many threads it takes.

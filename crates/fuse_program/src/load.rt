@@ -1,13 +1,13 @@
 // The generated messages, served from memory.
 ghost use Rattle.std.specs.Prelude.{◌≡◌, ◌<◌, IfOk, IfErr};
 ghost use Rattle.std.specs.String.{string_bytes};
-ghost use Rattle.fuse_tree.specs.Store.{line};
+ghost use Rattle.fuse_hello.specs.Store.{line};
 ghost use Rattle.fuse_program.specs.Load.{IsNoLine, Summarizes};
 
 use crate::arguments::LoadForm;
 use fuse_config::{Config, SessionACL};
 use fuse_session::{Ended, SessionError, mount};
-use fuse_tree::{FrameStore, Hello, StoredMessages, Summary};
+use fuse_hello::{FrameStore, Hello, StoredMessages, Summary};
 use std::sync::Wait;
 use std::thread::Threads;
 

@@ -1,7 +1,7 @@
 // What `load` writes. The lines were computed from the tables that the tree and the generator were made by.
 use crate::asserts::expect_same;
 use crate::generator_tests::{Ending, end_so};
-use fuse_tree::{FrameStore, Summary};
+use fuse_hello::{FrameStore, Summary};
 use fuse_wire::{Noting, RequestId, Sending, Sink};
 
 /// The line of five requests.

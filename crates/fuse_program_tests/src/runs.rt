@@ -2,7 +2,7 @@
 use fuse_config::{Config, SessionACL};
 use fuse_program::{Served, run, serve};
 use fuse_session::{Ended, mount};
-use fuse_tree::Hello;
+use fuse_hello::Hello;
 use fuse_wire::{ByteRead, ByteSink, ByteSource, MemoryBytes, MemoryOut, Sink, Source};
 use std::process::Abort;
 use std::sync::Wait;

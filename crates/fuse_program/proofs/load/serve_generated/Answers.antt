@@ -5,8 +5,8 @@ use Rattle.fuse_session.specs.SessionEnd.{Outcome}
 use Rattle.fuse_session.specs.Headline.{Headline, Lossless}
 use Rattle.fuse_session.specs.Refused.{Untouched}
 use Rattle.fuse_session.proofs.Refusing.{OptionsWell-none_listed}
-use Rattle.fuse_tree.specs.Store.{Stored, messages_told, stored_told}
-use Rattle.fuse_tree.specs.Tree.{tree_promise}
+use Rattle.fuse_hello.specs.Store.{Stored, messages_told, stored_told}
+use Rattle.fuse_hello.specs.Tree.{tree_promise}
 use Rattle.fuse_program.proofs.Loading.{Summarizes-ok, empty, failure-causes}
 use Rattle.fuse_program.proofs.Messages.{HandshakeWell-stream, SessionWell-stream}
 use Rattle.fuse_program.proofs.load.serve_generated.Goals as goal

@@ -12,7 +12,7 @@ use Rattle.fuse_session.specs.Refused.{Untouched}
 use Rattle.fuse_session.specs.declared.error.SessionError.TheVariants.{Memory}
 use Rattle.fuse_program.specs.Program.{ByteExchange, form_setup}
 use Rattle.fuse_program.specs.Status.{status}
-use Rattle.fuse_tree.specs.Tree.{tree_promise, tree_may_init}
+use Rattle.fuse_hello.specs.Tree.{tree_promise, tree_may_init}
 use Rattle.fuse_session.proofs.Refusing.{OptionsWell-none_listed}
 use Rattle.fuse_program.proofs.Conversing.{AcceptsAll-tree, ByteExchange-mounted, EachAnswered-headline, SessionWell-bytes, complete-status}
 use Rattle.fuse_program.proofs.Statuses.{nine-untouched, zero-status}

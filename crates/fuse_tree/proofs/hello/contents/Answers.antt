@@ -1,6 +1,0 @@
-use Rattle.std.proofs.Common.{sym, ap}
-use Rattle.fuse_tree.specs.Tree.{contents}
-use Rattle.fuse_tree.proofs.hello.contents.Goals as goal
-
-pub returns-in-3 : goal.returns-in-3
-returns-in-3 c = sym (ap contents c.in-3.is)
