@@ -16,11 +16,5 @@ mod unmatched;
 
 pub use book::Book;
 pub use event::Event;
-pub use state::Job;
-pub use state::LINE_PLACES;
-pub use state::Mark;
-pub use state::SentOut;
-pub use state::State;
-pub use state::WorkerHand;
-pub use stepping::run;
-pub use stepping::step;
+pub use state::{Job, LINE_PLACES, Mark, SentOut, State, WorkerHand};
+pub use stepping::{run, step};

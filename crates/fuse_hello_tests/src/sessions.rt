@@ -1,7 +1,7 @@
 // Sessions of the tree, and the bytes that they are given.
 use fuse_config::{Config, SessionACL};
-use fuse_session::{Ended, mount};
 use fuse_hello::Hello;
+use fuse_session::{Ended, mount};
 use fuse_wire::{Sink, Source};
 use std::process::Abort;
 use std::sync::Wait;

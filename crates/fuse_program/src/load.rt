@@ -6,8 +6,8 @@ ghost use Rattle.fuse_program.specs.Load.{IsNoLine, Summarizes};
 
 use crate::arguments::LoadForm;
 use fuse_config::{Config, SessionACL};
-use fuse_session::{Ended, SessionError, mount};
 use fuse_hello::{FrameStore, Hello, StoredMessages, Summary};
+use fuse_session::{Ended, SessionError, mount};
 use std::sync::Wait;
 use std::thread::Threads;
 

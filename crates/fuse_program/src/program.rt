@@ -10,8 +10,8 @@ use crate::arguments::{GenForm, LoadForm, ServeForm, gen_form, load_form, serve_
 use crate::load::summary_line;
 use crate::status::{failure_status, status_of};
 use fuse_config::Config;
-use fuse_session::{Ended, mount};
 use fuse_hello::{Hello, write_stream};
+use fuse_session::{Ended, mount};
 use fuse_wire::{ByteSink, ByteSource, StdSink, StdSource, StreamSink, StreamSource, write_all};
 use std::io::{Read, Write};
 use std::sync::Wait;

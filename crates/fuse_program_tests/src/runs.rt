@@ -1,8 +1,8 @@
 // Runs of the program and of its tree over memory, and what they come to.
 use fuse_config::{Config, SessionACL};
+use fuse_hello::Hello;
 use fuse_program::{Served, run, serve};
 use fuse_session::{Ended, mount};
-use fuse_hello::Hello;
 use fuse_wire::{ByteRead, ByteSink, ByteSource, MemoryBytes, MemoryOut, Sink, Source};
 use std::process::Abort;
 use std::sync::Wait;

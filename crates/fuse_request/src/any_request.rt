@@ -4,10 +4,10 @@ ghost use Rattle.fuse_header.specs.Header.{header, request_of};
 ghost use Rattle.fuse_request.specs.Decoding.{Is, Keeps, operation};
 ghost use Rattle.fuse_request.specs.Message.{Decodes, body_of, header_of};
 
+use crate::Operation;
 use crate::decoding::{destroy_to_cuse_init, init_to_bmap, lookup_to_link, open_to_flush};
 use fuse_header::opcode::{FUSE_DESTROY, FUSE_INIT, FUSE_OPEN};
 use fuse_header::{Header, Request, RequestError, body};
-use crate::Operation;
 use fuse_wire::{INodeNo, RequestId};
 
 /// A message with a good header, whose body is borrowed from it.

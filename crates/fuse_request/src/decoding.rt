@@ -3,6 +3,13 @@ ghost use Rattle.fuse_request.specs.Decoding.{Is, Keeps, lookup_to_link, open_to
 ghost use Rattle.fuse_request.specs.Decoding.{destroy_to_cuse_init};
 ghost use Rattle.fuse_wire.specs.declared.newtypes.INodeNo.{INodeNo};
 
+use crate::{
+    Access, BMap, BatchForget, CopyFileRange, Create, CuseInit, Destroy, FAllocate, FSync,
+    FSyncDir, Flush, Forget, GetAttr, GetLk, GetXAttr, Init, Interrupt, IoCtl, Link, ListXAttr,
+    Lookup, Lseek, MkDir, MkNod, NotifyReply, Open, OpenDir, Operation, Poll, Read, ReadDir,
+    ReadDirPlus, ReadLink, Release, ReleaseDir, RemoveXAttr, Rename, Rename2, RmDir, SetAttr,
+    SetLk, SetXAttr, StatFs, SymLink, Unlink, Write,
+};
 use fuse_args::ArgumentIterator;
 use fuse_header::RequestError;
 use fuse_header::opcode::{
@@ -14,52 +21,6 @@ use fuse_header::opcode::{
     FUSE_RELEASEDIR, FUSE_REMOVEXATTR, FUSE_RENAME, FUSE_RENAME2, FUSE_RMDIR, FUSE_SETATTR,
     FUSE_SETLK, FUSE_SETLKW, FUSE_SETXATTR, FUSE_STATFS, FUSE_SYMLINK, FUSE_UNLINK, FUSE_WRITE,
 };
-use crate::Access;
-use crate::BMap;
-use crate::BatchForget;
-use crate::CopyFileRange;
-use crate::Create;
-use crate::CuseInit;
-use crate::Destroy;
-use crate::FAllocate;
-use crate::FSync;
-use crate::FSyncDir;
-use crate::Flush;
-use crate::Forget;
-use crate::GetAttr;
-use crate::GetLk;
-use crate::GetXAttr;
-use crate::Init;
-use crate::Interrupt;
-use crate::IoCtl;
-use crate::Link;
-use crate::ListXAttr;
-use crate::Lookup;
-use crate::Lseek;
-use crate::MkDir;
-use crate::MkNod;
-use crate::NotifyReply;
-use crate::Open;
-use crate::OpenDir;
-use crate::Operation;
-use crate::Poll;
-use crate::Read;
-use crate::ReadDir;
-use crate::ReadDirPlus;
-use crate::ReadLink;
-use crate::Release;
-use crate::ReleaseDir;
-use crate::RemoveXAttr;
-use crate::Rename;
-use crate::Rename2;
-use crate::RmDir;
-use crate::SetAttr;
-use crate::SetLk;
-use crate::SetXAttr;
-use crate::StatFs;
-use crate::SymLink;
-use crate::Unlink;
-use crate::Write;
 use fuse_wire::INodeNo;
 use std::marker::PhantomData;
 

@@ -2,9 +2,9 @@
 ghost use Rattle.std.specs.Prelude.{◌≡◌};
 ghost use Rattle.fuse_session.specs.Started.{CameOf};
 
-use fuse_dispatch::Filesystem;
 use crate::Ended;
 use crate::runnable::Runnable;
+use fuse_dispatch::Filesystem;
 use fuse_wire::{Sink, Source};
 use std::snapshot::Snapshot;
 use std::thread::{Promise, PromisedHandle};

@@ -3,9 +3,8 @@ ghost use Rattle.std.specs.Prelude.{◌≡◌, [], Err};
 ghost use Rattle.fuse_loop.specs.Progress.{nothing_yet, progress};
 ghost use Rattle.fuse_session.specs.SessionEnd.{run_outcome};
 
-use crate::SessionError;
+use crate::{InvalidData, SessionError};
 use fuse_dispatch::Filesystem;
-use crate::InvalidData;
 use fuse_loop::{Channel, End, Lines, Transcript};
 use fuse_wire::{Sink, Source};
 

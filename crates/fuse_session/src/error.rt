@@ -2,8 +2,8 @@
 ghost use Rattle.std.specs.Prelude.{◌≡◌};
 ghost use Rattle.fuse_session.specs.SessionEnd.{handshake_error};
 
-use crate::greeting::HandshakeError;
 use crate::InvalidData;
+use crate::greeting::HandshakeError;
 use fuse_wire::{Errno, Version};
 
 /// Why a session ended early, in the order in which the causes are looked at.

@@ -4,12 +4,12 @@ ghost use Rattle.fuse_session.specs.Started.{started};
 ghost use Rattle.fuse_notify.specs.Queueing.{fresh_door};
 ghost use Rattle.fuse_session.specs.Ran.{Ran};
 
+use crate::Ended;
 use crate::carried::{Came, Handle};
+use crate::runnable::Runnable;
 use crate::starting::start_thread;
 use fuse_dispatch::Filesystem;
 use fuse_notify::Notifier;
-use crate::Ended;
-use crate::runnable::Runnable;
 use fuse_wire::{NoMemory, Sink, Source};
 use std::alloc::AllocGlobal;
 use std::marker::Model;

@@ -3,8 +3,8 @@ ghost use Rattle.std.specs.Prelude.{◌≡◌, MatchResult};
 ghost use Rattle.fuse_session.specs.Started.{CameOf};
 
 use crate::carried::{Came, Carried, ComesOf, Handle};
-use fuse_dispatch::Filesystem;
 use crate::runnable::Runnable;
+use fuse_dispatch::Filesystem;
 use fuse_wire::{Sink, Source};
 use std::alloc::{AllocGlobal, Global};
 use std::snapshot::Snapshot;

@@ -4,10 +4,8 @@ ghost use Rattle.fuse_reply.specs.Frame.{frame};
 ghost use Rattle.fuse_session.specs.Handshake.{Negotiates};
 ghost use Rattle.fuse_session.specs.HandshakeStep.{HandshakeRun, OneStep, end_after_init};
 
-use crate::greeting::Greeting;
-use crate::greeting::HandshakeError;
 use crate::InvalidData;
-use crate::greeting::Offer;
+use crate::greeting::{Greeting, HandshakeError, Offer};
 use fuse_config::{KernelConfig, version_reply};
 use fuse_dispatch::{Filesystem, refusal};
 use fuse_loop::{Channel, Taken};

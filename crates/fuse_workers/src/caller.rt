@@ -12,13 +12,13 @@ ghost use Rattle.fuse_core.specs.OnePerMessage.{number_of};
 ghost use Rattle.fuse_workers.specs.Callers.{CallerOn};
 ghost use Rattle.fuse_workers.specs.Answered.{IsCaller};
 
+use crate::run_context::RunContext;
+use crate::stopped::Stopped;
+use crate::taking::take_request;
 use crate::worker::answer_job;
 use fuse_line::Pass;
 use fuse_loop::{Answerer, Intake, RequestJob, Work, destroy_reply};
 use fuse_reply::Parcel;
-use crate::run_context::RunContext;
-use crate::stopped::Stopped;
-use crate::taking::take_request;
 use fuse_wire::{NoMemory, Source};
 use std::alloc::AllocGlobal;
 use std::sync::Wait;

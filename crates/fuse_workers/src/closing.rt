@@ -9,11 +9,11 @@ ghost use Rattle.fuse_loop.specs.Lines.{ended_by};
 ghost use Rattle.fuse_workers.specs.Relays.{Relays, relay_of};
 
 use crate::caller::Caller;
+use crate::relay::Relay;
+use crate::sender::send_rest;
 use fuse_line::{Line, Pass};
 use fuse_loop::Ending;
 use fuse_reply::Parcel;
-use crate::relay::Relay;
-use crate::sender::send_rest;
 use fuse_wire::Sink;
 use std::sync::Wait;
 

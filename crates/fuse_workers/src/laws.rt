@@ -4,10 +4,10 @@ ghost use Rattle.std.specs.Prelude.{◌≡◌};
 ghost use Rattle.fuse_core.specs.Owing.{SendsOwed};
 
 use crate::MOST_WORKERS;
-pub use fuse_core::book_laws::each_late_frame_is_sent_or_has_no_mark;
-pub use fuse_core::book_laws::each_late_frame_that_is_sent_came;
-pub use fuse_core::book_laws::late_frames_go_to_different_marks;
-pub use fuse_core::book_laws::no_frame_is_held_with_an_unused_mark;
+pub use fuse_core::book_laws::{
+    each_late_frame_is_sent_or_has_no_mark, each_late_frame_that_is_sent_came,
+    late_frames_go_to_different_marks, no_frame_is_held_with_an_unused_mark,
+};
 pub use fuse_core::laws::a_line_has_64_places;
 use fuse_loop::Work;
 

@@ -3,8 +3,8 @@
 ghost use Rattle.std.specs.Prelude.{◌≡◌};
 
 use crate::caller::Caller;
-use fuse_loop::{Ending, Intake};
 use crate::relay::Relay;
+use fuse_loop::{Ending, Intake};
 use fuse_wire::{Sink, Source};
 
 /// The ends of a run, lent to whoever conducts it, the first passes of its lines, and the mark of its end.

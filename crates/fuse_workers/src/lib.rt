@@ -19,25 +19,9 @@ mod threads;
 mod worker;
 mod workers;
 
-pub use fuse_core::Book;
-pub use fuse_loop::Buffers;
-pub use fuse_loop::Channel;
-pub use fuse_loop::End;
-pub use fuse_core::Event;
-pub use fuse_loop::Incoming;
-pub use fuse_core::Job;
-pub use fuse_core::LINE_PLACES;
-pub use fuse_loop::Lines;
+pub use fuse_core::{Book, Event, Job, LINE_PLACES, Mark, SentOut, State, WorkerHand, run, step};
+pub use fuse_loop::{
+    Buffers, Channel, End, Incoming, Lines, RunEnd, Taken, Transcript, Work, run_inline,
+};
 pub use threads::MOST_WORKERS;
-pub use fuse_core::Mark;
-pub use fuse_loop::RunEnd;
-pub use fuse_core::SentOut;
-pub use fuse_core::State;
-pub use fuse_loop::Taken;
-pub use fuse_loop::Transcript;
-pub use fuse_loop::Work;
-pub use fuse_core::WorkerHand;
-pub use fuse_core::run;
-pub use fuse_loop::run_inline;
 pub use workers::run_workers;
-pub use fuse_core::step;

@@ -11,13 +11,12 @@ ghost use Rattle.fuse_workers.specs.Answered.{IsCaller, IsServed};
 ghost use Rattle.fuse_loop.specs.Answering.{answering};
 
 use crate::caller::Caller;
+use crate::run_context::RunContext;
+use crate::sender::{LentRelay, serve_sink};
 use crate::worker::answer_jobs;
 use fuse_line::{Line, Pass};
 use fuse_loop::{RequestJob, Work};
 use fuse_reply::Parcel;
-use crate::sender::LentRelay;
-use crate::run_context::RunContext;
-use crate::sender::serve_sink;
 use fuse_wire::Sink;
 use std::snapshot::Snapshot;
 use std::sync::Wait;

@@ -7,10 +7,10 @@ ghost use Rattle.fuse_reply.specs.declared.parcel.Parcel.TheVariants.{Prompt};
 ghost use Rattle.fuse_workers.specs.Answered.{IsServed};
 ghost use Rattle.fuse_loop.specs.Answering.{answering};
 
+use crate::run_context::RunContext;
 use fuse_line::Pass;
 use fuse_loop::{Answerer, RequestJob, Work};
 use fuse_reply::Parcel;
-use crate::run_context::RunContext;
 use std::sync::Wait;
 use std::sync::atomic::AtomicBool;
 

@@ -24,25 +24,21 @@ ghost use Rattle.fuse_loop.specs.Progress.{PassesOnAll, Quiet, nothing_yet, prog
 ghost use Rattle.fuse_workers.specs.Answered.{IsCaller};
 ghost use Rattle.fuse_loop.specs.Answering.{answering};
 
+use crate::alone::answer_in_turn_alone;
+use crate::caller::{Caller, answer_last, answer_rest, take_messages};
 use crate::closing::{ClosedRun, mark_end, send_last};
 use crate::lent::{LentEnds, take_back};
+use crate::relay::Relay;
+use crate::run_context::RunContext;
+use crate::sender::{LentRelay, send_rest};
+use crate::stopped::Stopped;
 use crate::threads::{MOST_WORKERS, Worker, join_workers, start_sender, start_workers};
 use fuse_core::Book;
-use crate::caller::Caller;
-use crate::caller::answer_last;
-use crate::caller::answer_rest;
-use crate::caller::take_messages;
 use fuse_line::Line;
 use fuse_loop::{
     Buffers, End, Ending, Intake, Lines, Outlet, RequestJob, RunEnd, RunLine, Transcript, Work,
 };
 use fuse_reply::Parcel;
-use crate::sender::LentRelay;
-use crate::relay::Relay;
-use crate::run_context::RunContext;
-use crate::stopped::Stopped;
-use crate::alone::answer_in_turn_alone;
-use crate::sender::send_rest;
 use fuse_wire::{NoMemory, Sink, Source};
 use std::alloc::Global;
 use std::sync::atomic::{AtomicBool, Ordering};
