@@ -8,6 +8,8 @@ mod arguments_tests;
 #[cfg(test)]
 mod asserts;
 #[cfg(test)]
+mod asserts_hello;
+#[cfg(test)]
 mod fault_tests;
 #[cfg(test)]
 mod generator_tests;
@@ -16,6 +18,10 @@ mod load_tests;
 #[cfg(test)]
 mod runs;
 #[cfg(test)]
+mod sessions;
+#[cfg(test)]
 mod sweep_tests;
 #[cfg(test)]
 mod tests;
+#[cfg(test)]
+mod tree_tests;

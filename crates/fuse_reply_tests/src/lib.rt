@@ -5,6 +5,8 @@
 #[cfg(test)]
 mod asserts;
 #[cfg(test)]
+mod asserts_notify;
+#[cfg(test)]
 mod deferral_tests;
 #[cfg(test)]
 mod directory_tests;
@@ -16,6 +18,8 @@ mod fixed_tests;
 mod frames;
 #[cfg(test)]
 mod long_tests;
+#[cfg(test)]
+mod notice_tests;
 #[cfg(test)]
 mod stream_tests;
 #[cfg(test)]

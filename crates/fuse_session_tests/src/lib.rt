@@ -6,19 +6,39 @@
 #[cfg(test)]
 mod asserts;
 #[cfg(test)]
+mod asserts_call;
+#[cfg(test)]
+mod call_tests;
+#[cfg(test)]
 mod counting;
 #[cfg(test)]
 mod ends;
 #[cfg(test)]
+mod every_call;
+#[cfg(test)]
 mod fault_tests;
 #[cfg(test)]
+mod file_calls;
+#[cfg(test)]
+mod link_tests;
+#[cfg(test)]
 mod messages;
+#[cfg(test)]
+mod node_calls;
 #[cfg(test)]
 mod option_tests;
 #[cfg(test)]
 mod order_tests;
 #[cfg(test)]
+mod put_off_tests;
+#[cfg(test)]
+mod putting_off;
+#[cfg(test)]
+mod recording;
+#[cfg(test)]
 mod refusals;
+#[cfg(test)]
+mod row_sessions;
 #[cfg(test)]
 mod rows;
 #[cfg(test)]
@@ -27,3 +47,5 @@ mod session_tests;
 mod spawn_tests;
 #[cfg(test)]
 mod tests;
+#[cfg(test)]
+mod verdict_tests;

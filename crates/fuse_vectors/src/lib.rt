@@ -3,8 +3,44 @@
 #![tactic(auto)]
 
 #[cfg(test)]
+mod argument_tests;
+#[cfg(test)]
 mod asserts;
 #[cfg(test)]
+mod asserts_args;
+#[cfg(test)]
+mod asserts_config;
+#[cfg(test)]
+mod asserts_request;
+#[cfg(test)]
+mod asserts_wire;
+#[cfg(test)]
+mod derives;
+#[cfg(test)]
+mod devices;
+#[cfg(test)]
+mod fixed_part_tests;
+#[cfg(test)]
+mod headers;
+#[cfg(test)]
+mod init_tests;
+#[cfg(test)]
+mod messages;
+#[cfg(test)]
+mod names;
+#[cfg(test)]
+mod numbers;
+#[cfg(test)]
+mod option_tests;
+#[cfg(test)]
+mod printing;
+#[cfg(test)]
+mod requests;
+#[cfg(test)]
 mod runner;
+#[cfg(test)]
+mod setter_tests;
+#[cfg(test)]
+mod std_devices;
 #[cfg(test)]
 mod vectors;

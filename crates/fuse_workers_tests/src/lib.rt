@@ -6,6 +6,12 @@
 #[cfg(test)]
 mod asserts;
 #[cfg(test)]
+mod asserts_core;
+#[cfg(test)]
+mod book_tests;
+#[cfg(test)]
+mod core_tests;
+#[cfg(test)]
 mod deferred_tests;
 #[cfg(test)]
 mod deferring;

@@ -1,0 +1,103 @@
+// What reaches a filesystem of each message, and what the message gets where the filesystem wants nothing of its own.
+use crate::asserts_call::expect_same;
+use crate::every_call::{Call, Row, asker};
+use crate::file_calls::{files, others};
+use crate::node_calls::{inodes, names};
+use crate::recording::{Recorded, Recording};
+use crate::row_sessions::{frames_of, id_at, notes_of, source_of_rows};
+use fuse_config::{Config, SessionACL};
+use fuse_probing::Probing;
+use fuse_session::{Ended, mount};
+use fuse_wire::{MemorySink, MemorySource};
+use std::process::Abort;
+use std::sync::Wait;
+use std::thread::Threads;
+
+/// What was recorded is this call of the request with this lowest byte of its id.
+fn is_call(rt: &impl Abort, recorded: &Recorded, id: u8, call: &Call) {
+    let (method, arguments, texts) = call;
+    let found = (recorded.method, recorded.asker, recorded.texts.as_slice());
+    expect_same(rt, &found, &(*method, asker(id), *texts));
+    expect_same(rt, &recorded.arguments.as_slice(), arguments);
+}
+
+/// What was recorded from this place on is these calls of the request with this lowest byte of its id. The place behind
+/// them comes back.
+fn are_calls(
+    rt: &impl Abort,
+    recorded: &[Recorded],
+    place: usize,
+    id: u8,
+    calls: &[Call],
+) -> usize {
+    let mut next = place;
+    for call in calls {
+        is_call(rt, recorded.get(next).expect(rt, "a call"), id, call);
+        next = next.saturating_add(1);
+    }
+    next
+}
+
+/// What reached the filesystem is INIT, then what the rows say, in order, and then that the session is over.
+fn reached(rt: &impl Abort, recorded: &[Recorded], rows: &[Row]) {
+    let asker = (0xdead_beef_baad_f00d, 0xc001_d00d, 0xc001_cafe, 0xc0de_ba5e);
+    let init = recorded.first().expect(rt, "INIT");
+    expect_same(rt, &(init.method, init.asker), &("init", asker));
+    let mut next = 1;
+    for (place, row) in rows.iter().enumerate() {
+        next = are_calls(rt, recorded, next, id_at(place), row.calls);
+    }
+    let last = recorded.last().expect(rt, "the end");
+    let found = (last.method, recorded.len());
+    expect_same(rt, &found, &("destroy", next.saturating_add(1)));
+}
+
+/// The sink took the frames and the notes of INIT and these rows, and no other.
+fn replied<R: AllocGlobal + Abort>(rt: &R, sink: &MemorySink, rows: &[Row]) {
+    let frames = frames_of(rt, rows, None);
+    let notes = notes_of(rt, rows);
+    expect_same(rt, &sink.frames(), &frames.as_slice());
+    expect_same(rt, &sink.notes(), &notes.as_slice());
+}
+
+/// What is left of a session.
+type Over<R> = Ended<Probing<Recording<R>>, MemorySource, MemorySink>;
+
+/// Serves these messages.
+fn serve_rows<R: Threads + Wait + AllocGlobal + Abort + Send + Sync + Copy>(
+    rt: &R,
+    rows: &[Row],
+) -> Over<R> {
+    let alloc = rt.alloc();
+    let source = source_of_rows(rt, rows);
+    let sink = MemorySink::new(alloc, Vec::new(alloc));
+    let probe = Recording::new(*rt, alloc);
+    let mut config = Config::new(alloc);
+    config.acl = SessionACL::All;
+    mount(rt, Probing { probe }, source, sink, 0, 4096, &config)
+}
+
+/// Serves these messages: they come to the calls and the replies that they say, and to no other.
+fn comes_to<R: Threads + Wait + AllocGlobal + Abort + Send + Sync + Copy>(rt: &R, rows: &[Row]) {
+    let over = serve_rows(rt, rows);
+    let messages = rows.len().saturating_add(1) as u64;
+    let found = (over.outcome, over.transcript.received);
+    expect_same(rt, &found, &(Ok(()), messages));
+    let recorded = over.filesystem.probe.take();
+    reached(rt, recorded.as_slice(), rows);
+    drop(recorded);
+    replied(rt, &over.sink, rows);
+    drop(over);
+}
+
+#[test]
+fn what_is_asked_of_inodes_and_names_reaches_the_filesystem(rt: HostRuntime) {
+    comes_to(&rt, inodes());
+    comes_to(&rt, names());
+}
+
+#[test]
+fn what_is_asked_of_open_files_reaches_the_filesystem(rt: HostRuntime) {
+    comes_to(&rt, files());
+    comes_to(&rt, others());
+}

@@ -1,0 +1,284 @@
+//! Messages from a stream of bytes, and from memory.
+ghost use Rattle.std.specs.Prelude.{◌≡◌, length};
+ghost use Rattle.fuse_wire.specs.declared.consts.TheConstants.{BUFFER_SIZE};
+
+use crate::asserts_wire::expect_same;
+use fuse_wire::Received::{Failed, Gone, Message, Retry};
+use fuse_wire::{
+    Items, MemoryBytes, MemorySource, Received, Source, StreamSource, Turn, receive_buffer,
+};
+use std::alloc::{AllocError, Global};
+use std::process::Abort;
+
+/// What a source answers, and the length field of the message, where it gives one.
+type Answer = (u32, Received);
+
+/// Puts the bytes of a message behind others.
+fn push_message(bytes: &mut Vec<u8>, field: u32, size: usize) -> Result<(), AllocError> {
+    bytes.extend_from_slice(&field.to_le_bytes())?;
+    for place in 4..size {
+        bytes.push((place % 251) as u8)?;
+    }
+    Ok(())
+}
+
+/// The bytes of one message.
+fn message(rt: &impl Abort, alloc: Global, field: u32, size: usize) -> Vec<u8> {
+    let mut bytes = Vec::new(alloc);
+    push_message(&mut bytes, field, size).expect(rt, "there is memory");
+    bytes
+}
+
+/// The source answers so, and a message is the bytes of its size.
+fn expect_answer<S: Source>(
+    rt: &impl Abort,
+    alloc: Global,
+    source: &mut S,
+    buffer: &mut [u8],
+    answer: &Answer,
+)
+    requires { length buffer.old ≡ BUFFER_SIZE }
+    ensures { length buffer.new ≡ BUFFER_SIZE }
+{
+    let (field, answer) = answer;
+    expect_same(rt, &source.receive(buffer), answer);
+    if let Message(size) = answer {
+        let message = message(rt, alloc, *field, *size);
+        expect_same(rt, &buffer.get(..*size), &Some(message.as_slice()));
+    }
+}
+
+/// The source gives these answers.
+fn expect_answers<S: Source>(
+    rt: &impl Abort,
+    alloc: Global,
+    source: &mut S,
+    buffer: &mut [u8],
+    answers: &[Answer],
+)
+    requires { length buffer.old ≡ BUFFER_SIZE }
+    ensures { length buffer.new ≡ BUFFER_SIZE }
+{
+    for answer in answers {
+        expect_answer(rt, alloc, source, buffer, answer);
+    }
+}
+
+/// Messages whose bytes stand on a stream: one says that it is shorter than a header, one is longer than the others, and
+/// the last ends where the stream does.
+const MESSAGES: &[Answer] = &[
+    (48, Message(48)),
+    (39, Message(40)),
+    (1000, Message(1000)),
+    (64, Message(50)),
+    (0, Gone),
+];
+
+/// The bytes of the messages, joined.
+fn joined(alloc: Global, answers: &[Answer]) -> Result<Vec<u8>, AllocError> {
+    let mut bytes = Vec::new(alloc);
+    for (field, answer) in answers {
+        if let Message(size) = answer {
+            push_message(&mut bytes, *field, *size)?;
+        }
+    }
+    Ok(bytes)
+}
+
+/// A stream of the messages, so many bytes at a time, is cut into them.
+fn expect_cut(rt: &impl Abort, alloc: Global, step: usize, buffer: &mut [u8])
+    requires { length buffer.old ≡ BUFFER_SIZE }
+    ensures { length buffer.new ≡ BUFFER_SIZE }
+{
+    let bytes = joined(alloc, MESSAGES).expect(rt, "there is memory");
+    let stream = MemoryBytes::new(bytes, step.max(1), Vec::new(alloc));
+    let mut source = StreamSource::new(stream);
+    expect_answers(rt, alloc, &mut source, buffer, MESSAGES);
+    drop(source.into_inner());
+}
+
+/// The turn of a source in memory that gives this answer. At its end there is none.
+fn turn(rt: &impl Abort, alloc: Global, answer: &Answer) -> Option<Turn> {
+    match answer {
+        (field, Message(size)) => {
+            let message = message(rt, alloc, *field, *size);
+            Some(Turn::Message(Items::from_vec(message)))
+        }
+        (_, Retry) => Some(Turn::Retry),
+        (_, Failed) => Some(Turn::Fail),
+        (_, Gone) => None,
+    }
+}
+
+/// The turns of a source in memory that give these answers.
+fn turns(rt: &impl Abort, alloc: Global, answers: &[Answer]) -> Vec<Turn> {
+    let mut turns = Vec::new(alloc);
+    for answer in answers {
+        if let Some(turn) = turn(rt, alloc, answer) {
+            turns.push(turn).expect(rt, "there is memory");
+        }
+    }
+    turns
+}
+
+/// A source in memory gives these answers.
+fn expect_turns(rt: &impl Abort, alloc: Global, buffer: &mut [u8], answers: &[Answer])
+    requires { length buffer.old ≡ BUFFER_SIZE }
+    ensures { length buffer.new ≡ BUFFER_SIZE }
+{
+    let mut source = MemorySource::new(turns(rt, alloc, answers));
+    expect_answers(rt, alloc, &mut source, buffer, answers);
+}
+
+/// What three calls of a source give.
+fn three_answers<S: Source>(source: &mut S, buffer: &mut [u8]) -> [Received; 3]
+    requires { length buffer.old ≡ BUFFER_SIZE }
+    ensures { length buffer.new ≡ BUFFER_SIZE }
+{
+    [
+        source.receive(buffer),
+        source.receive(buffer),
+        source.receive(buffer),
+    ]
+}
+
+/// The length field that a stream begins with, how many bytes it has, which read fails, counted from 1, and what it
+/// gives. Each read gives all that is asked for.
+type Stream = (u32, usize, u64, &'static [Received]);
+
+/// So many bytes: a length field, and zero bytes behind it.
+fn plain(rt: &impl Abort, alloc: Global, field: u32, size: usize) -> Vec<u8> {
+    let mut bytes = Vec::from_slice(alloc, &field.to_le_bytes()).expect(rt, "there is memory");
+    bytes.resize(size, 0).expect(rt, "there is memory");
+    bytes
+}
+
+/// A stream that stands so gives these answers.
+fn expect_read(rt: &impl Abort, alloc: Global, buffer: &mut [u8], stream: &Stream)
+    requires { length buffer.old ≡ BUFFER_SIZE }
+    ensures { length buffer.new ≡ BUFFER_SIZE }
+{
+    let (field, size, call, answers) = stream;
+    let faults = Vec::from_slice(alloc, &[*call]).expect(rt, "there is memory");
+    let bytes = plain(rt, alloc, *field, *size);
+    let mut source = StreamSource::new(MemoryBytes::new(bytes, usize::MAX, faults));
+    let found = three_answers(&mut source, buffer);
+    drop(source.into_inner());
+    expect_same(
+        rt,
+        &(*field, *call, found.as_slice()),
+        &(*field, *call, *answers),
+    );
+}
+
+/// What a source gives.
+enum Case {
+    /// The messages, of a stream that gives so many bytes at a time.
+    Cut(usize),
+    /// These answers, of a source in memory. A Retry before a message changes nothing, and a Fail takes no message.
+    /// After the last turn there is no more.
+    Turns(&'static [Answer]),
+    /// Three answers, of a stream that stands so.
+    Reads(Stream),
+}
+
+const CASES: &[Case] = &[
+    Case::Cut(1),
+    Case::Cut(7),
+    Case::Cut(1000),
+    Case::Turns(MESSAGES),
+    Case::Turns(&[
+        (0, Retry),
+        (7, Message(48)),
+        (0, Retry),
+        (7, Message(40)),
+        (0, Retry),
+        (0, Gone),
+        (0, Gone),
+    ]),
+    Case::Turns(&[
+        (7, Message(48)),
+        (0, Retry),
+        (0, Failed),
+        (0, Gone),
+        (0, Gone),
+    ]),
+    Case::Turns(&[(0, Failed), (0, Gone), (0, Gone)]),
+    Case::Turns(&[
+        (7, Message(40)),
+        (0, Failed),
+        (7, Message(48)),
+        (0, Failed),
+        (0, Gone),
+        (0, Gone),
+    ]),
+    Case::Turns(&[
+        (0, Failed),
+        (0, Failed),
+        (0, Retry),
+        (7, Message(1000)),
+        (0, Gone),
+        (0, Gone),
+    ]),
+    Case::Turns(&[(0, Gone), (0, Gone)]),
+    Case::Reads((48, 48, 1, &[Failed, Message(48), Gone])),
+    Case::Reads((48, 48, 2, &[Failed, Message(8), Gone])),
+    Case::Reads((48, 48, 3, &[Message(48), Failed, Gone])),
+    Case::Reads((48, 48, 4, &[Message(48), Gone, Failed])),
+    // A message is two reads, however long it is.
+    Case::Reads((100_000, 100_000, 3, &[Message(100_000), Failed, Gone])),
+    // What the buffer can't hold is cut off, and stands on the stream as what comes next.
+    Case::Reads((
+        16_781_311,
+        16_781_313,
+        0,
+        &[Message(16_781_311), Message(2), Gone],
+    )),
+    Case::Reads((
+        16_781_312,
+        16_781_313,
+        0,
+        &[Message(16_781_312), Message(1), Gone],
+    )),
+    Case::Reads((
+        16_781_313,
+        16_781_313,
+        0,
+        &[Message(16_781_312), Message(1), Gone],
+    )),
+    Case::Reads((
+        u32::MAX,
+        16_781_313,
+        0,
+        &[Message(16_781_312), Message(1), Gone],
+    )),
+];
+
+/// The source gives what the case says.
+fn expect_case(rt: &impl Abort, alloc: Global, buffer: &mut [u8], case: &Case)
+    requires { length buffer.old ≡ BUFFER_SIZE }
+    ensures { length buffer.new ≡ BUFFER_SIZE }
+{
+    match case {
+        Case::Cut(step) => expect_cut(rt, alloc, *step, buffer),
+        Case::Turns(answers) => expect_turns(rt, alloc, buffer, answers),
+        Case::Reads(stream) => expect_read(rt, alloc, buffer, stream),
+    }
+}
+
+#[test]
+fn each_source_gives_what_its_case_says(rt: HostRuntime) {
+    let mut room = receive_buffer(rt.alloc()).expect(&rt, "there is memory");
+    let buffer = room.as_mut_slice();
+    for case in CASES {
+        expect_case(&rt, rt.alloc(), buffer, case);
+    }
+}
+
+#[test]
+fn a_receive_buffer_is_of_zero_bytes_and_takes_no_more(rt: HostRuntime) {
+    let room = receive_buffer(rt.alloc()).expect(&rt, "there is memory");
+    let others = room.iter().filter(|byte| **byte != 0).count();
+    let found = (room.len(), room.capacity(), others);
+    expect_same(&rt, &found, &(16_781_312, 16_781_312, 0));
+}
