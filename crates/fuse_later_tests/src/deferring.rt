@@ -2,9 +2,9 @@
 ghost use Rattle.std.specs.Prelude.{true};
 ghost use Rattle.fuse_later_tests.specs.Deferring.{ComesOfLookup};
 
-use fuse_probing::{Argument, Probe};
 use fuse_reply::{Later, NoDoor, Replied, ReplyEntry};
 use fuse_request::Request;
+use fuse_testing::{Argument, Probe};
 use fuse_wire::{Errno, INodeNo};
 use std::alloc::{AllocError, AllocFailed, Global};
 use std::sync::atomic::{AtomicBool, AtomicU64, Ordering};

@@ -4,9 +4,9 @@ use crate::deferring::{Deferring, HELD, LAST, SOON, Shelf, Tally, close, shared_
 use crate::messages::{Frame, Message, are_after_init, differ_after_init, source_after_init};
 use crate::serving::{Rest, counts, everybody, rest_of};
 use fuse_config::Config;
-use fuse_probing::Probing;
-use fuse_probing::test_messages::{ENOENT, ENOSYS};
 use fuse_session::{Ended, Filesystem, Session, SessionError, Transcript, mount};
+use fuse_testing::Probing;
+use fuse_testing::test_messages::{ENOENT, ENOSYS};
 use fuse_wire::{Items, MemorySink, MemorySource, u64_at};
 use std::alloc::{AllocGlobal, Global};
 use std::process::Abort;

@@ -1,5 +1,5 @@
 // What a session is sent, and what it sends.
-use fuse_probing::test_messages::{
+use fuse_testing::test_messages::{
     ACCEPTED, INIT_7_8, error_reply, getattr, lookup_by, poll, turn,
 };
 use fuse_wire::{Items, MemorySource, Turn};

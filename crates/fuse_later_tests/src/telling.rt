@@ -3,9 +3,9 @@ ghost use Rattle.std.specs.Prelude.{false};
 
 use bitflags::Flags;
 use fuse_notify::{Notifier, NotifyError, PollNotifier};
-use fuse_probing::{Argument, Probe};
 use fuse_reply::{Replied, ReplyAttr, ReplyEntry, ReplyPoll};
 use fuse_request::Request;
+use fuse_testing::{Argument, Probe};
 use fuse_wire::{Errno, FileHandle, INodeNo, PollEvents, PollFlags, PollHandle};
 use std::alloc::Global;
 use std::sync::atomic::{AtomicBool, AtomicU64, Ordering};

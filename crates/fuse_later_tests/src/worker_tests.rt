@@ -3,8 +3,8 @@ use crate::asserts::expect_same;
 use crate::messages::{Frame, Message, are_after_init, source_after_init};
 use crate::serving::serve;
 use crate::telling::Telling;
-use fuse_probing::Probing;
-use fuse_probing::test_messages::ENOENT;
+use fuse_testing::Probing;
+use fuse_testing::test_messages::ENOENT;
 use fuse_wire::MemorySink;
 
 #[test]

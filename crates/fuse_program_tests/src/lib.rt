@@ -8,8 +8,6 @@ mod arguments_tests;
 #[cfg(test)]
 mod asserts;
 #[cfg(test)]
-mod asserts_hello;
-#[cfg(test)]
 mod fault_tests;
 #[cfg(test)]
 mod generator_tests;

@@ -1,5 +1,5 @@
 // The tree in sessions from memory to memory: each request, and what it gets.
-use crate::asserts_hello::expect_same;
+use crate::asserts::expect_same;
 use crate::sessions::{joined, mount_tree};
 use fuse_config::SessionACL;
 use fuse_header::RequestError;

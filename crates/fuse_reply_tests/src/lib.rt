@@ -5,8 +5,6 @@
 #[cfg(test)]
 mod asserts;
 #[cfg(test)]
-mod asserts_notify;
-#[cfg(test)]
 mod deferral_tests;
 #[cfg(test)]
 mod directory_tests;

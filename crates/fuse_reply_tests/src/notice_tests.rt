@@ -4,7 +4,7 @@ ghost use Rattle.fuse_wire.specs.declared.sink.Sending.TheVariants.{Sent};
 ghost use Rattle.std.specs.Arc.{arc_value};
 ghost use Rattle.fuse_line.specs.declared.hand.Kind.TheVariants.{First};
 
-use crate::asserts_notify::expect_same;
+use crate::asserts::expect_same;
 use fuse_line::{Class, Line, Pass};
 use fuse_notify::laws::equal_where_they_are_the_same;
 use fuse_notify::{Notice, NoticeError, Notifier, NotifyError, Undelivered, deliver};

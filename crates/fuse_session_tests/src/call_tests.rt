@@ -1,13 +1,13 @@
 // What reaches a filesystem of each message, and what the message gets where the filesystem wants nothing of its own.
-use crate::asserts_call::expect_same;
+use crate::asserts::expect_same;
 use crate::every_call::{Call, Row, asker};
 use crate::file_calls::{files, others};
 use crate::node_calls::{inodes, names};
 use crate::recording::{Recorded, Recording};
 use crate::row_sessions::{frames_of, id_at, notes_of, source_of_rows};
 use fuse_config::{Config, SessionACL};
-use fuse_probing::Probing;
 use fuse_session::{Ended, mount};
+use fuse_testing::Probing;
 use fuse_wire::{MemorySink, MemorySource};
 use std::process::Abort;
 use std::sync::Wait;

@@ -3,10 +3,10 @@ ghost use Rattle.std.specs.Prelude.{◌<◌, false};
 
 use crate::asserts::expect_same;
 use fuse_config::Config;
-use fuse_probing::{Argument, Probe, Probing};
 use fuse_reply::{Replied, ReplyAttr, ReplyData, ReplyEntry};
 use fuse_request::Request;
 use fuse_session::{Ended, SessionError, Transcript, mount};
+use fuse_testing::{Argument, Probe, Probing};
 use fuse_wire::consts::MAX_WRITE_SIZE;
 use fuse_wire::{Errno, FileHandle, INodeNo, LockOwner, OpenFlags, Sink, Source};
 use std::alloc::Global;

@@ -1,5 +1,5 @@
 // Messages with arguments that all differ, and what each comes to.
-use fuse_probing::Argument;
+use fuse_testing::Argument;
 use std::process::Abort;
 
 /// How many nanoseconds a second has.

@@ -1,14 +1,14 @@
 // Calls about open files and directories, and what no filesystem is asked.
 use crate::every_call::Reply::{Error, Payload};
 use crate::every_call::{OPENED, Row};
-use fuse_probing::Argument::{Absent, Flag, Number};
-use fuse_probing::test_messages::{EIO, ENOSYS};
 use fuse_request::opcode::{
     CUSE_INIT, FUSE_BMAP, FUSE_COPY_FILE_RANGE, FUSE_CREATE, FUSE_DESTROY, FUSE_FALLOCATE,
     FUSE_FLUSH, FUSE_FSYNC, FUSE_FSYNCDIR, FUSE_GETLK, FUSE_INIT, FUSE_INTERRUPT, FUSE_IOCTL,
     FUSE_LSEEK, FUSE_NOTIFY_REPLY, FUSE_OPEN, FUSE_OPENDIR, FUSE_POLL, FUSE_READ, FUSE_READDIR,
     FUSE_READDIRPLUS, FUSE_RELEASE, FUSE_RELEASEDIR, FUSE_SETLK, FUSE_SETLKW, FUSE_WRITE,
 };
+use fuse_testing::Argument::{Absent, Flag, Number};
+use fuse_testing::test_messages::{EIO, ENOSYS};
 
 /// A message of each opcode that is about open files, with what it comes to.
 pub(crate) fn files() -> &'static [Row] {

@@ -6,8 +6,6 @@
 #[cfg(test)]
 mod asserts;
 #[cfg(test)]
-mod asserts_call;
-#[cfg(test)]
 mod call_tests;
 #[cfg(test)]
 mod counting;

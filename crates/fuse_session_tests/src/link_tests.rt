@@ -1,13 +1,13 @@
 // LINK: which inode gets one more name, and in which directory.
 ghost use Rattle.std.specs.Prelude.{false};
 
-use crate::asserts_call::expect_same;
+use crate::asserts::expect_same;
 use fuse_config::{Config, SessionACL};
-use fuse_probing::test_messages::{ACCEPTED, EIO, EPERM, INIT_7_8, error_reply, link, source_of};
-use fuse_probing::{Argument, Probe, Probing};
 use fuse_reply::{Replied, ReplyEntry};
 use fuse_request::Request;
 use fuse_session::mount;
+use fuse_testing::test_messages::{ACCEPTED, EIO, EPERM, INIT_7_8, error_reply, link, source_of};
+use fuse_testing::{Argument, Probe, Probing};
 use fuse_wire::{Errno, INodeNo, MemorySink};
 
 /// A filesystem that lets no name be given, and answers EPERM for the inode 2 in the directory 1 alone, and else EIO.

@@ -1,6 +1,6 @@
 // What sessions are given and what they send, as plain data, and the bytes that this is.
 use crate::counting::CONTENTS;
-use fuse_probing::test_messages::{
+use fuse_testing::test_messages::{
     ACCEPTED, INIT_7_8, batch_forget, empty_batch_forget, endless_lookup, error_reply, forget,
     getattr, init, lookup, message, read, short_forget, with_argument,
 };

@@ -1,14 +1,14 @@
 // Calls about inodes and names.
 use crate::every_call::Reply::{Error, Note, Payload};
 use crate::every_call::{Row, SECOND, STATFS};
-use fuse_probing::Argument::{Absent, Now, Number};
-use fuse_probing::test_messages::{ENOSYS, EPERM};
 use fuse_request::opcode::{
     FUSE_ACCESS, FUSE_BATCH_FORGET, FUSE_FORGET, FUSE_GETATTR, FUSE_GETXATTR, FUSE_LINK,
     FUSE_LISTXATTR, FUSE_LOOKUP, FUSE_MKDIR, FUSE_MKNOD, FUSE_READLINK, FUSE_REMOVEXATTR,
     FUSE_RENAME, FUSE_RENAME2, FUSE_RMDIR, FUSE_SETATTR, FUSE_SETXATTR, FUSE_STATFS, FUSE_SYMLINK,
     FUSE_UNLINK,
 };
+use fuse_testing::Argument::{Absent, Now, Number};
+use fuse_testing::test_messages::{ENOSYS, EPERM};
 
 /// A message of each opcode that is about inodes, with what it comes to.
 pub(crate) fn inodes() -> &'static [Row] {

@@ -1,14 +1,14 @@
 // The reply to each call can be given after its method has returned.
-use crate::asserts_call::expect_same;
+use crate::asserts::expect_same;
 use crate::every_call::{Reply, Row};
 use crate::file_calls::{files, others};
 use crate::node_calls::{inodes, names};
 use crate::putting_off::PuttingOff;
 use crate::row_sessions::{frames_of, notes_of, source_of_rows};
 use fuse_config::{Config, SessionACL};
-use fuse_probing::test_messages::{ENOENT, ENOSYS};
 use fuse_request::opcode::{FUSE_SETXATTR, FUSE_WRITE};
 use fuse_session::{Ended, mount};
+use fuse_testing::test_messages::{ENOENT, ENOSYS};
 use fuse_wire::{Items, MemorySink, MemorySource};
 use std::process::Abort;
 use std::sync::Wait;

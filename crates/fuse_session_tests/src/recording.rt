@@ -2,8 +2,8 @@
 ghost use Rattle.std.specs.Prelude.{◌≡◌, false, refl};
 ghost use Rattle.fuse_dispatch.specs.Defaults.{default_answer};
 
-use fuse_probing::{Argument, Probe};
 use fuse_request::Request;
+use fuse_testing::{Argument, Probe};
 use fuse_wire::Errno;
 use std::alloc::{AllocError, Global};
 use std::sync::{Mutex, Wait};

@@ -5,11 +5,11 @@ use crate::messages::Given::{Asked, Opening};
 use crate::messages::Request::Argument;
 use crate::rows::{Devices, ONE, Row};
 use fuse_config::SessionACL;
-use fuse_probing::test_messages::{EACCES, EINVAL, EIO, ENOSYS, NO_OPCODE};
 use fuse_request::opcode::{
     FUSE_COPY_FILE_RANGE, FUSE_FALLOCATE, FUSE_INIT, FUSE_INTERRUPT, FUSE_IOCTL, FUSE_LSEEK,
     FUSE_NOTIFY_REPLY, FUSE_READ, FUSE_READDIR, FUSE_READDIRPLUS, FUSE_STATFS, FUSE_WRITE,
 };
+use fuse_testing::test_messages::{EACCES, EINVAL, EIO, ENOSYS, NO_OPCODE};
 
 pub(crate) const REFUSALS: &[Row] = &[
     Row {

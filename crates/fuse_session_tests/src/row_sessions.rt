@@ -1,6 +1,6 @@
 // What a session of rows is sent, and what its sink takes.
 use crate::every_call::{Reply, Row, asker, frame_of, message_of};
-use fuse_probing::test_messages::{ACCEPTED, INIT_7_8};
+use fuse_testing::test_messages::{ACCEPTED, INIT_7_8};
 use fuse_wire::{Items, MemorySource, RequestId, Turn};
 use std::process::Abort;
 

@@ -7,12 +7,12 @@ use crate::rows::are_sent;
 use crate::session_tests::{Left, Over, is_left};
 use fuse_config::{Config, SessionACL};
 use fuse_notify::Notifier;
-use fuse_probing::Probing;
-use fuse_probing::test_messages::{ACCEPTED, EIO, ENOENT, INIT_7_8, error_reply, lookup};
 use fuse_session::{
     BackgroundSession, InlineSpawner, Session, SessionError, SpawnError, Spawner, ThreadSpawner,
     Transcript, spawn_mount,
 };
+use fuse_testing::Probing;
+use fuse_testing::test_messages::{ACCEPTED, EIO, ENOENT, INIT_7_8, error_reply, lookup};
 use fuse_wire::{
     MemoryBytes, MemoryOut, MemorySink, MemorySource, NoMemory, PollHandle, StreamSink,
     StreamSource,

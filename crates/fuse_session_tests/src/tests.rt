@@ -8,12 +8,12 @@ use crate::messages::{Frame, Given, Request, copied};
 use crate::refusals::REFUSALS;
 use crate::rows::{Devices, ONE, ONE_AND_TWO, Row, TWO, serve, serve_all};
 use fuse_config::{Config, SessionACL};
-use fuse_probing::test_messages::{
-    EACCES, EINVAL, EIO, ENOENT, ENOSYS, EPROTO, INIT_7_8, NO_OPCODE,
-};
 use fuse_request::RequestError;
 use fuse_request::opcode::{FUSE_DESTROY, FUSE_LOOKUP};
 use fuse_session::{SessionError, Transcript};
+use fuse_testing::test_messages::{
+    EACCES, EINVAL, EIO, ENOENT, ENOSYS, EPROTO, INIT_7_8, NO_OPCODE,
+};
 use fuse_wire::{Errno, Items, RequestId};
 use std::process::Abort;
 use std::sync::Wait;

@@ -1,14 +1,10 @@
 // The verdicts on messages, in the order of the rules.
 
-use crate::asserts_call::expect_same_in;
+use crate::asserts::expect_same_in;
 use crate::every_call::{Reply, Row, message_of};
 use crate::file_calls::{files, others};
 use crate::node_calls::{inodes, names};
 use fuse_config::SessionACL;
-use fuse_probing::test_messages::{
-    EACCES, EINVAL, EIO, ENOSYS, INIT_7_8, NO_OPCODE, endless_lookup, forget, getattr, init,
-    lookup, message, read, short_forget, with_argument,
-};
 use fuse_request::opcode::{
     FUSE_BATCH_FORGET, FUSE_COPY_FILE_RANGE, FUSE_DESTROY, FUSE_FALLOCATE, FUSE_FORGET, FUSE_FSYNC,
     FUSE_FSYNCDIR, FUSE_INIT, FUSE_INTERRUPT, FUSE_IOCTL, FUSE_NOTIFY_REPLY, FUSE_READ,
@@ -17,6 +13,10 @@ use fuse_request::opcode::{
 };
 use fuse_request::{Operation, RequestError};
 use fuse_session::{Verdict, verdict};
+use fuse_testing::test_messages::{
+    EACCES, EINVAL, EIO, ENOSYS, INIT_7_8, NO_OPCODE, endless_lookup, forget, getattr, init,
+    lookup, message, read, short_forget, with_argument,
+};
 use std::process::Abort;
 
 /// A message with the id 2, or an INIT.

@@ -1,7 +1,5 @@
 // What is fetched from bodies of several lengths: INIT as kernels of several ages send it, names, and rows.
-use crate::asserts_args::expect;
-use crate::asserts_args::expect_same;
-use crate::asserts_args::expect_same_in;
+use crate::asserts::{expect, expect_same, expect_same_in};
 use crate::fixed_part_tests::BYTES;
 use fuse_args::ArgumentIterator;
 use std::process::Abort;

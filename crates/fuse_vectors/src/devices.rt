@@ -2,7 +2,7 @@
 ghost use Rattle.std.specs.Prelude.{◌≡◌, length};
 ghost use Rattle.fuse_wire.specs.MemorySink.{EachFails, NumbersDiffer};
 
-use crate::asserts_wire::expect_same;
+use crate::asserts::expect_same;
 use fuse_wire::{
     ByteRead, ByteSink, ByteSource, ByteWrite, Items, MemoryBytes, MemoryOut, MemorySink, Noting,
     RequestId, Sending, Sink, StreamSink,

@@ -1,5 +1,5 @@
 // Each part of fixed size, fetched from words that differ in each byte.
-use crate::asserts_args::expect_same_in;
+use crate::asserts::expect_same_in;
 use fuse_args::{
     ArgumentIterator, BMapArguments, CopyFileRangeArguments, CreateArguments, FAllocateArguments,
     FSyncArguments, FlushArguments, GetAttrArguments, GetLkArguments, IoCtlArguments,

@@ -1,5 +1,5 @@
 // Messages taken apart: their headers, what they ask, and why some are none.
-use crate::asserts_request::expect_same;
+use crate::asserts::expect_same;
 use bitflags::Flags;
 use fuse_request::{
     AnyRequest, CopyFileRangeFile, FilenameInDir, ForgetList, ForgetOne, GetXAttrSize,

@@ -1,5 +1,5 @@
 // The INIT reply's bytes, what a kernel offers, and a fresh configuration.
-use crate::asserts_config::expect_same;
+use crate::asserts::expect_same;
 use crate::setter_tests::{Step, offered, set_all};
 use bitflags::Flags;
 use fuse_config::{Config, SessionACL, version_reply};

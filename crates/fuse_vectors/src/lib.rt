@@ -7,14 +7,6 @@ mod argument_tests;
 #[cfg(test)]
 mod asserts;
 #[cfg(test)]
-mod asserts_args;
-#[cfg(test)]
-mod asserts_config;
-#[cfg(test)]
-mod asserts_request;
-#[cfg(test)]
-mod asserts_wire;
-#[cfg(test)]
 mod derives;
 #[cfg(test)]
 mod devices;

@@ -2,7 +2,7 @@
 ghost use Rattle.std.specs.Prelude.{◌≡◌, length};
 ghost use Rattle.fuse_wire.specs.declared.consts.TheConstants.{BUFFER_SIZE};
 
-use crate::asserts_wire::expect_same;
+use crate::asserts::expect_same;
 use fuse_wire::Received::{Failed, Gone, Message, Retry};
 use fuse_wire::{
     Items, MemoryBytes, MemorySource, Received, Source, StreamSource, Turn, receive_buffer,

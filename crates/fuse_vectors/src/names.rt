@@ -1,6 +1,5 @@
 //! Errors, flags and constants: the names and values of `errno.h`, `fuse.h`, `poll(2)`, `renameat2(2)` and `access(2)`.
-use crate::asserts_wire::expect_same;
-use crate::asserts_wire::expect_text;
+use crate::asserts::{expect_same, expect_text};
 use bitflags::{Flag, Flags};
 use fuse_wire::consts::{
     BUFFER_SIZE, FUSE_IOCTL_MAX_IOV, FUSE_KERNEL_MINOR_VERSION, FUSE_KERNEL_VERSION, FUSE_LK_FLOCK,

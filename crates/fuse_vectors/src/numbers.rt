@@ -1,6 +1,5 @@
 //! Numbers under names of their own, times and spans: their texts, their order, and the way they come and go.
-use crate::asserts_wire::expect_same;
-use crate::asserts_wire::expect_text;
+use crate::asserts::{expect_same, expect_text};
 use fuse_wire::{
     Duration, FileHandle, Generation, INodeNo, Items, LockOwner, OpenAccMode, OpenFlags,
     PollHandle, RequestId, SystemTime, Version, system_time_from_time, time_from_system_time,

@@ -1,5 +1,5 @@
 // Each option, its text there and back, and each pair of options.
-use crate::asserts_config::expect_same;
+use crate::asserts::expect_same;
 use fuse_config::{
     Config, Conflict, InvalidOption, MountOption, MountOptionGroup, OptionText, SessionACL,
     check_option_conflicts, conflicts_with, option_group, option_to_flag, option_to_string,

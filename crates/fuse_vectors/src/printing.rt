@@ -1,5 +1,5 @@
 // The names by which operations are printed.
-use crate::asserts_request::expect_same;
+use crate::asserts::expect_same;
 use crate::requests::{Row, good, message};
 use fuse_request::AnyRequest;
 use std::alloc::{AllocError, Global};

@@ -1,5 +1,5 @@
 // Messages of each opcode: what they decode to, which are cut short, and what their bits say.
-use crate::asserts_request::expect_same;
+use crate::asserts::expect_same;
 use crate::headers::{header, refusal};
 use bitflags::Flags;
 use fuse_request::{

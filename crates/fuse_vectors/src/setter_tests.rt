@@ -1,5 +1,5 @@
 // Each setter at its edges, and what the INIT reply has of it.
-use crate::asserts_config::expect_same;
+use crate::asserts::expect_same;
 use bitflags::Flags;
 use fuse_config::KernelConfig;
 use fuse_wire::{Duration, InitFlags, Version};

@@ -1,5 +1,5 @@
 //! Devices over a reader and a writer of std.
-use crate::asserts_wire::expect_same;
+use crate::asserts::expect_same;
 use fuse_wire::{ByteRead, ByteSink, ByteSource, ByteWrite, StdSink, StdSource};
 use std::io;
 use std::io::ErrorKind::{BrokenPipe, Interrupted, Other, TimedOut, UnexpectedEof, WouldBlock};

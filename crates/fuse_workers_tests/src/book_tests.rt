@@ -1,5 +1,5 @@
 // Marks and late frames in every order, many at once, and where memory is wanting.
-use crate::asserts_core::expect_same;
+use crate::asserts::expect_same;
 use fuse_core::Book;
 use fuse_wire::RequestId;
 use std::alloc::Global;

@@ -1,5 +1,5 @@
 // What comes of events, from the state in which nothing has happened yet.
-use crate::asserts_core::expect_same;
+use crate::asserts::expect_same;
 use fuse_core::{Event, Mark, State, run, step};
 use fuse_loop::{Doors, Ending, RunLine};
 use fuse_reply::{LateFrame, NoticeFrame, Out, Parcel, ReplyData, ReplyEmpty};

@@ -6,8 +6,6 @@
 #[cfg(test)]
 mod asserts;
 #[cfg(test)]
-mod asserts_core;
-#[cfg(test)]
 mod book_tests;
 #[cfg(test)]
 mod core_tests;

@@ -7,7 +7,7 @@ use Rattle.fuse_reply.specs.declared.door.NoDoor.{NoDoor}
 use Rattle.fuse_reply.specs.declared.out.Out.{Out}
 use Rattle.fuse_dispatch.proofs.Answering.{Answered-error}
 use Rattle.fuse_wire.specs.ErrorNumbers.{EIO, ENOENT}
-use Rattle.fuse_probing.specs.Probing.{IsAnswered}
+use Rattle.fuse_testing.specs.Probing.{IsAnswered}
 use Rattle.fuse_later_tests.specs.Deferring.{ComesOfLookup}
 use Rattle.fuse_later_tests.proofs.deferring.DeferringProbe.lookup.Goals as goal
 

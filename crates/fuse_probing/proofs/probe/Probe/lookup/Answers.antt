@@ -1,7 +1,0 @@
-use Rattle.fuse_reply.specs.Answer.Answer.{Error}
-use Rattle.fuse_dispatch.proofs.Answering.{Answered-frame}
-use Rattle.fuse_wire.specs.ErrorNumbers.{ENOSYS}
-use Rattle.fuse_probing.proofs.probe.Probe.lookup.Goals as goal
-
-pub returns : goal.returns
-returns g c = Answered-frame (Error ENOSYS) tt c.lookup.ensures.answer (g.met.Self.Probe.allows_default _) c.lookup.ensures.reply

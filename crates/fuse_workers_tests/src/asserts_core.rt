@@ -1,8 +1,0 @@
-//! That what is found is what is expected: a call of this is cheaper to prove than the macro where it stands.
-use std::fmt::Debug;
-use std::process::Abort;
-
-/// The two are equal. Each may begin with what tells the case.
-pub(crate) fn expect_same<T: PartialEq + Debug>(rt: &impl Abort, found: &T, expected: &T) {
-    assert_eq!(rt; *found, *expected);
-}
