@@ -15,7 +15,7 @@ use std::alloc::Global;
 use std::collections::HashMap;
 
 /// The number of a message, and the id of its request.
-pub type Key = (u64, u64);
+pub(crate) type Key = (u64, u64);
 
 /// What waits, by what it waits for.
 type WaitingByKey<F> = HashMap<Key, Unmatched<F>>;

@@ -1,4 +1,5 @@
-//! What several workers may do, one step after another, over plain lists and with no thread in it.
+//! What several workers may do, one step after another, over plain lists and with no thread in it, and the book of replies
+//! that come later: the marks of messages that are answered later, and their late frames.
 //! The layers above rely on this: each step leaves each message in one place, so that what was sent is owed to
 //! different messages; and a late frame goes only to a mark of its own, with its number and id.
 #![tactic(auto)]

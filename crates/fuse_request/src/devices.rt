@@ -10,9 +10,9 @@ use std::marker::Model;
 #[derive(Drop)]
 pub struct IoCtl<'a> {
     /// The fixed part, as it was sent.
-    pub arguments: IoCtlArguments,
+    pub(crate) arguments: IoCtlArguments,
     /// The data of the command, as many bytes as the fixed part says.
-    pub in_bytes: &'a [u8],
+    pub(crate) in_bytes: &'a [u8],
 }
 
 impl<'a> Model for IoCtl<'a> {
@@ -74,7 +74,7 @@ impl<'a> IoCtl<'a> {
 #[derive(Drop)]
 pub struct Poll {
     /// The fixed part, as it was sent.
-    pub arguments: PollArguments,
+    pub(crate) arguments: PollArguments,
 }
 
 impl Model for Poll {

@@ -17,9 +17,9 @@ pub struct Plus;
 #[derive(Drop)]
 pub struct Listing<K> {
     /// The fixed part, as it was sent.
-    pub arguments: ReadArguments,
+    pub(crate) arguments: ReadArguments,
     /// Whether the attributes of the entries are wanted too.
-    pub kind: PhantomData<K>,
+    pub(crate) kind: PhantomData<K>,
 }
 
 /// READDIR: entries of an open directory.

@@ -22,7 +22,7 @@ pub struct CopyFileRangeFile {
 #[derive(Drop)]
 pub struct FAllocate {
     /// The fixed part, as it was sent.
-    pub arguments: FAllocateArguments,
+    pub(crate) arguments: FAllocateArguments,
 }
 
 impl Model for FAllocate {
@@ -69,7 +69,7 @@ impl FAllocate {
 #[derive(Drop)]
 pub struct Lseek {
     /// The fixed part, as it was sent.
-    pub arguments: LseekArguments,
+    pub(crate) arguments: LseekArguments,
 }
 
 impl Model for Lseek {
@@ -108,9 +108,9 @@ impl Lseek {
 #[derive(Drop)]
 pub struct CopyFileRange {
     /// The fixed part, as it was sent.
-    pub arguments: CopyFileRangeArguments,
+    pub(crate) arguments: CopyFileRangeArguments,
     /// The node of the request.
-    pub node: INodeNo,
+    pub(crate) node: INodeNo,
 }
 
 impl Model for CopyFileRange {
@@ -166,7 +166,7 @@ impl CopyFileRange {
 #[derive(Drop)]
 pub struct BMap {
     /// The fixed part, as it was sent.
-    pub arguments: BMapArguments,
+    pub(crate) arguments: BMapArguments,
 }
 
 impl Model for BMap {

@@ -11,7 +11,7 @@ use std::marker::Model;
 #[derive(Drop)]
 pub struct Read {
     /// The fixed part, as it was sent.
-    pub arguments: ReadArguments,
+    pub(crate) arguments: ReadArguments,
 }
 
 impl Model for Read {
@@ -76,9 +76,9 @@ impl Read {
 #[derive(Drop)]
 pub struct Write<'a> {
     /// The fixed part, as it was sent.
-    pub arguments: WriteArguments,
+    pub(crate) arguments: WriteArguments,
     /// The bytes to write.
-    pub written: &'a [u8],
+    pub(crate) written: &'a [u8],
 }
 
 impl<'a> Model for Write<'a> {
@@ -144,7 +144,7 @@ impl<'a> Write<'a> {
 #[derive(Drop)]
 pub struct Flush {
     /// The fixed part, as it was sent.
-    pub arguments: FlushArguments,
+    pub(crate) arguments: FlushArguments,
 }
 
 impl Model for Flush {

@@ -75,7 +75,7 @@ impl<'a> ForgetList<'a> {
 #[derive(Drop)]
 pub struct BatchForget<'a> {
     /// The rows, 16 bytes each.
-    pub rows: &'a [u8],
+    pub(crate) rows: &'a [u8],
 }
 
 impl<'a> Model for BatchForget<'a> {

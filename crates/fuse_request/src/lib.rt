@@ -1,7 +1,8 @@
-//! Requests as the kernel sends them: a message taken apart, and which operation it asks. Who asks, the errors and the
-//! numbers of the operations, in `fuse_header`, and the operations, in `fuse_operations`, are had from here too. Nothing
-//! is copied out of the message but numbers.
-//! The layers above rely on this: a message decodes exactly where the definitions say so, to what they say.
+//! Requests as the kernel sends them: a message taken apart, which operation it asks, and what the fields of each mean. Who
+//! asks, the errors and the numbers of the operations, in `fuse_header`, are had from here too. Nothing is copied out of the
+//! message but numbers.
+//! The layers above rely on this: a message decodes exactly where the definitions say so, to what they say, and a call of a
+//! filesystem has an operation's arguments in their order.
 #![tactic(auto)]
 
 mod any_request;
@@ -18,7 +19,6 @@ mod nodes;
 mod offsets;
 mod opened;
 mod operation;
-pub mod operation_laws;
 mod places;
 mod setattr;
 mod xattrs;

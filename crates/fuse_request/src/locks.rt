@@ -21,9 +21,9 @@ pub struct Lock {
 #[derive(Drop)]
 pub struct Locking<S> {
     /// The fixed part, as it was sent.
-    pub arguments: GetLkArguments,
+    pub(crate) arguments: GetLkArguments,
     /// Whether to wait, of SETLK and SETLKW; nothing, of GETLK.
-    pub sleep: S,
+    pub(crate) sleep: S,
 }
 
 /// GETLK: whether a lock could be taken.

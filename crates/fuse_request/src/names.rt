@@ -8,7 +8,7 @@ use std::marker::Model;
 #[derive(Drop)]
 pub struct Lookup<'a> {
     /// The name, without the zero byte that ends it.
-    pub name: &'a [u8],
+    pub(crate) name: &'a [u8],
 }
 
 impl<'a> Model for Lookup<'a> {
@@ -32,9 +32,9 @@ impl<'a> Lookup<'a> {
 #[derive(Drop)]
 pub struct SymLink<'a> {
     /// The name of the link, without the zero byte that ends it.
-    pub link_name: &'a [u8],
+    pub(crate) link_name: &'a [u8],
     /// The path that the link leads to.
-    pub target: &'a [u8],
+    pub(crate) target: &'a [u8],
 }
 
 impl<'a> Model for SymLink<'a> {
@@ -65,9 +65,9 @@ impl<'a> SymLink<'a> {
 #[derive(Drop)]
 pub struct MkNod<'a> {
     /// The fixed part, as it was sent.
-    pub arguments: MkNodArguments,
+    pub(crate) arguments: MkNodArguments,
     /// The name, without the zero byte that ends it.
-    pub name: &'a [u8],
+    pub(crate) name: &'a [u8],
 }
 
 impl<'a> Model for MkNod<'a> {
@@ -113,9 +113,9 @@ impl<'a> MkNod<'a> {
 #[derive(Drop)]
 pub struct MkDir<'a> {
     /// The fixed part, as it was sent.
-    pub arguments: MkDirArguments,
+    pub(crate) arguments: MkDirArguments,
     /// The name, without the zero byte that ends it.
-    pub name: &'a [u8],
+    pub(crate) name: &'a [u8],
 }
 
 impl<'a> Model for MkDir<'a> {
@@ -154,7 +154,7 @@ impl<'a> MkDir<'a> {
 #[derive(Drop)]
 pub struct Unlink<'a> {
     /// The name, without the zero byte that ends it.
-    pub name: &'a [u8],
+    pub(crate) name: &'a [u8],
 }
 
 impl<'a> Model for Unlink<'a> {
@@ -178,7 +178,7 @@ impl<'a> Unlink<'a> {
 #[derive(Drop)]
 pub struct RmDir<'a> {
     /// The name, without the zero byte that ends it.
-    pub name: &'a [u8],
+    pub(crate) name: &'a [u8],
 }
 
 impl<'a> Model for RmDir<'a> {
@@ -202,9 +202,9 @@ impl<'a> RmDir<'a> {
 #[derive(Drop)]
 pub struct Create<'a> {
     /// The fixed part, as it was sent.
-    pub arguments: CreateArguments,
+    pub(crate) arguments: CreateArguments,
     /// The name, without the zero byte that ends it.
-    pub name: &'a [u8],
+    pub(crate) name: &'a [u8],
 }
 
 impl<'a> Model for Create<'a> {

@@ -10,7 +10,7 @@ use std::marker::Model;
 #[derive(Drop)]
 pub struct Forget {
     /// How many lookups are given back.
-    pub nlookup: u64,
+    pub(crate) nlookup: u64,
 }
 
 impl Model for Forget {
@@ -34,7 +34,7 @@ impl Forget {
 #[derive(Drop)]
 pub struct GetAttr {
     /// The fixed part, as it was sent.
-    pub arguments: GetAttrArguments,
+    pub(crate) arguments: GetAttrArguments,
 }
 
 impl Model for GetAttr {
@@ -78,7 +78,7 @@ pub struct StatFs;
 #[derive(Drop)]
 pub struct Access {
     /// The fixed part, as it was sent.
-    pub arguments: AccessArguments,
+    pub(crate) arguments: AccessArguments,
 }
 
 impl Model for Access {

@@ -18,9 +18,9 @@ pub struct Directory;
 #[derive(Drop)]
 pub struct Opening<K> {
     /// The fixed part, as it was sent.
-    pub arguments: OpenArguments,
+    pub(crate) arguments: OpenArguments,
     /// Whether a file or a directory is meant.
-    pub kind: PhantomData<K>,
+    pub(crate) kind: PhantomData<K>,
 }
 
 /// OPEN: a file is opened.
@@ -50,9 +50,9 @@ impl<K> Opening<K> {
 #[derive(Drop)]
 pub struct Releasing<K> {
     /// The fixed part, as it was sent.
-    pub arguments: ReleaseArguments,
+    pub(crate) arguments: ReleaseArguments,
     /// Whether a file or a directory is meant.
-    pub kind: PhantomData<K>,
+    pub(crate) kind: PhantomData<K>,
 }
 
 /// RELEASE: the last use of an open file ends.
@@ -117,9 +117,9 @@ impl<K> Releasing<K> {
 #[derive(Drop)]
 pub struct Syncing<K> {
     /// The fixed part, as it was sent.
-    pub arguments: FSyncArguments,
+    pub(crate) arguments: FSyncArguments,
     /// Whether a file or a directory is meant.
-    pub kind: PhantomData<K>,
+    pub(crate) kind: PhantomData<K>,
 }
 
 /// FSYNC: what an open file holds back is written.

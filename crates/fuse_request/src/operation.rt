@@ -17,7 +17,7 @@ use std::marker::Model;
 #[derive(Clone, Copy)]
 pub struct Init {
     /// The fixed part, as it was sent.
-    pub arguments: InitArguments,
+    pub(crate) arguments: InitArguments,
 }
 
 impl Init {
@@ -57,7 +57,7 @@ pub struct Destroy;
 #[derive(Drop)]
 pub struct Interrupt {
     /// The number of that request.
-    pub unique: u64,
+    pub(crate) unique: u64,
 }
 
 impl Model for Interrupt {

@@ -19,13 +19,13 @@ pub struct FilenameInDir<'a> {
 #[derive(Drop)]
 pub struct Rename<'a> {
     /// The node of the request.
-    pub node: INodeNo,
+    pub(crate) node: INodeNo,
     /// The number of the directory that it moves to.
-    pub newdir: u64,
+    pub(crate) newdir: u64,
     /// The name that it has, without the zero byte that ends it.
-    pub old_name: &'a [u8],
+    pub(crate) old_name: &'a [u8],
     /// The name that it gets, without the zero byte that ends it.
-    pub new_name: &'a [u8],
+    pub(crate) new_name: &'a [u8],
 }
 
 impl<'a> Model for Rename<'a> {
@@ -69,13 +69,13 @@ impl<'a> Rename<'a> {
 #[derive(Drop)]
 pub struct Rename2<'a> {
     /// The node of the request.
-    pub node: INodeNo,
+    pub(crate) node: INodeNo,
     /// The fixed part, as it was sent.
-    pub arguments: Rename2Arguments,
+    pub(crate) arguments: Rename2Arguments,
     /// The name that it has, without the zero byte that ends it.
-    pub old_name: &'a [u8],
+    pub(crate) old_name: &'a [u8],
     /// The name that it gets, without the zero byte that ends it.
-    pub new_name: &'a [u8],
+    pub(crate) new_name: &'a [u8],
 }
 
 impl<'a> Model for Rename2<'a> {
@@ -126,11 +126,11 @@ impl<'a> Rename2<'a> {
 #[derive(Drop)]
 pub struct Link<'a> {
     /// The node of the request.
-    pub node: INodeNo,
+    pub(crate) node: INodeNo,
     /// The number of the inode that gets the name.
-    pub oldnodeid: u64,
+    pub(crate) oldnodeid: u64,
     /// The name that it gets, without the zero byte that ends it.
-    pub new_name: &'a [u8],
+    pub(crate) new_name: &'a [u8],
 }
 
 impl<'a> Model for Link<'a> {

@@ -12,7 +12,7 @@ use std::marker::Model;
 #[derive(Drop)]
 pub struct SetAttr {
     /// The fixed part, as it was sent.
-    pub arguments: SetAttrArguments,
+    pub(crate) arguments: SetAttrArguments,
 }
 
 impl Model for SetAttr {

@@ -22,11 +22,11 @@ pub enum GetXAttrSizeEnum {
 #[derive(Drop)]
 pub struct SetXAttr<'a> {
     /// The fixed part, as it was sent.
-    pub arguments: SetXAttrArguments,
+    pub(crate) arguments: SetXAttrArguments,
     /// The name, without the zero byte that ends it.
-    pub name: &'a [u8],
+    pub(crate) name: &'a [u8],
     /// The value, as long as the fixed part says.
-    pub value: &'a [u8],
+    pub(crate) value: &'a [u8],
 }
 
 impl<'a> Model for SetXAttr<'a> {
@@ -71,9 +71,9 @@ impl<'a> SetXAttr<'a> {
 #[derive(Drop)]
 pub struct GetXAttr<'a> {
     /// The fixed part, as it was sent.
-    pub arguments: GetXAttrArguments,
+    pub(crate) arguments: GetXAttrArguments,
     /// The name, without the zero byte that ends it.
-    pub name: &'a [u8],
+    pub(crate) name: &'a [u8],
 }
 
 impl<'a> Model for GetXAttr<'a> {
@@ -117,7 +117,7 @@ impl<'a> GetXAttr<'a> {
 #[derive(Drop)]
 pub struct ListXAttr {
     /// The fixed part, as it was sent.
-    pub arguments: GetXAttrArguments,
+    pub(crate) arguments: GetXAttrArguments,
 }
 
 impl Model for ListXAttr {
@@ -141,7 +141,7 @@ impl ListXAttr {
 #[derive(Drop)]
 pub struct RemoveXAttr<'a> {
     /// The name, without the zero byte that ends it.
-    pub name: &'a [u8],
+    pub(crate) name: &'a [u8],
 }
 
 impl<'a> Model for RemoveXAttr<'a> {

@@ -35,7 +35,7 @@ pub(crate) fn run_outcome(end: End) -> Result<(), SessionError>
 }
 
 /// The end of a session that did nothing, for this reason.
-pub fn untouched<FS, S, K>(
+pub(crate) fn untouched<FS, S, K>(
     filesystem: FS,
     source: S,
     sink: K,
@@ -81,7 +81,7 @@ pub(crate) fn destroyed<FS: Filesystem, S, K>(
 }
 
 /// The end of a session whose handshake opened none: its memory is let go, `destroy` is called, and all is handed back.
-pub fn unopened<FS: Filesystem, S: Source, K: Sink>(
+pub(crate) fn unopened<FS: Filesystem, S: Source, K: Sink>(
     filesystem: FS,
     channel: Channel<S, K>,
     lines: Lines,

@@ -43,7 +43,7 @@ pub enum SessionError {
 
 impl SessionError {
     /// The error of a session whose handshake ended so.
-    pub fn of_handshake(error: HandshakeError) -> SessionError
+    pub(crate) fn of_handshake(error: HandshakeError) -> SessionError
         ensures { result ≡ handshake_error error }
     {
         match error {

@@ -15,7 +15,7 @@ const LEAST_MINOR_VERSION: u32 = 6;
 
 /// What a kernel offers to negotiate.
 #[derive(Clone, Copy)]
-pub struct Offer {
+pub(crate) struct Offer {
     /// The capabilities that it offers.
     pub capabilities: InitFlags,
     /// The most bytes that it reads ahead.
@@ -26,7 +26,7 @@ pub struct Offer {
 
 /// Why a message ends a handshake.
 #[derive(Clone, Copy)]
-pub enum HandshakeError {
+pub(crate) enum HandshakeError {
     /// It is no INIT, or no good message at all.
     InvalidData(InvalidData),
     /// It is an INIT of a version below 7.6.
@@ -37,7 +37,7 @@ pub enum HandshakeError {
 
 /// What the library makes of a message in the handshake.
 #[derive(Clone, Copy)]
-pub enum Greeting {
+pub(crate) enum Greeting {
     /// It is no good message, and ends the handshake without a frame.
     Silent(InvalidData),
     /// It is an operation of this opcode and no INIT, and ends the handshake with EIO.
@@ -82,7 +82,7 @@ fn init_of(operation: &Operation<'_>) -> Option<Init>
 
 impl Greeting {
     /// What the library makes of this message.
-    pub fn of(message: &[u8]) -> Greeting
+    pub(crate) fn of(message: &[u8]) -> Greeting
         ensures greeting { result ≡ greeting message.now }
         ensures spoken { IsSpoken result }
     {

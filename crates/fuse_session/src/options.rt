@@ -13,7 +13,7 @@ use std::alloc::Global;
 
 /// The memory of a session: that of its run, and what makes its notifiers where it runs in the background.
 #[derive(Drop)]
-pub struct SessionMemory {
+pub(crate) struct SessionMemory {
     /// The buffers of its run.
     pub buffers: Buffers,
     /// A notifier of its frame line.
@@ -22,7 +22,7 @@ pub struct SessionMemory {
 
 /// The memory of a session. The options are looked at first, and the error is the first of `Conflict`, `AutoUnmount`
 /// and `CloneFd` that holds. `Memory` where they are well and there is no memory.
-pub fn prepare(alloc: Global, config: &Config) -> Result<SessionMemory, SessionError>
+pub(crate) fn prepare(alloc: Global, config: &Config) -> Result<SessionMemory, SessionError>
     ensures ok { IfOk result IsTaken }
     ensures well { IfOk result (λ _. OptionsWell config.now) }
     ensures refused { IfErr result (λ e. NotBegun config.now e) }
@@ -33,7 +33,7 @@ pub fn prepare(alloc: Global, config: &Config) -> Result<SessionMemory, SessionE
 
 /// The memory of a session over a device that is mounted already. The error is `CloneFd` where each of several threads
 /// is to have a device of its own, and else `Memory` where there is no memory.
-pub fn prepare_device(alloc: Global, config: &Config) -> Result<SessionMemory, SessionError>
+pub(crate) fn prepare_device(alloc: Global, config: &Config) -> Result<SessionMemory, SessionError>
     ensures ok { IfOk result IsTaken }
     ensures well { IfOk result (λ _. ¬ (ClonesDevice config.now)) }
     ensures refused { IfErr result (λ e. ((e ≡ SessionError.CloneFd) × ClonesDevice config.now)

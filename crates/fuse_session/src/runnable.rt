@@ -22,7 +22,7 @@ use std::thread::Threads;
 
 /// What runs of a session: all of it but its notifier to spare, which stays with whoever starts it. It must be spent. A
 /// contract sees the session.
-pub struct Runnable<FS, S: Source, K: Sink> {
+pub(crate) struct Runnable<FS, S: Source, K: Sink> {
     /// The filesystem after the handshake, with the rule by which it is asked.
     pub shared: Shared<Asking<FS>>,
     /// How many threads are to serve. None is one.
@@ -136,7 +136,7 @@ fn serve<R: Threads + Wait + AllocGlobal + Sync, FS: Filesystem, S: Source, K: S
 
 impl<FS: Filesystem, S: Source, K: Sink + Send> Runnable<FS, S, K> {
     /// Serves the session to its end, as `Session::run` says.
-    pub fn run<R: Threads + Wait + AllocGlobal + Sync>(self, rt: &R) -> Ended<FS, S, K>
+    pub(crate) fn run<R: Threads + Wait + AllocGlobal + Sync>(self, rt: &R) -> Ended<FS, S, K>
         ensures { Ran FS.promise self result.filesystem result.outcome
             (S.told result.source) (K.told result.sink) result.transcript }
     {
@@ -164,7 +164,7 @@ impl<FS: Filesystem, S: Source, K: Sink + Send> Runnable<FS, S, K> {
 
 impl<FS: Drop, S: Source + Drop, K: Sink + Drop> Runnable<FS, S, K> {
     /// Gives it up, unserved: a closure that a thread never ran is dropped with what it holds.
-    pub fn discard(self) {
+    pub(crate) fn discard(self) {
         let Runnable {
             shared,
             n_threads: _,

@@ -70,7 +70,7 @@ impl<
     K: Sink + Send + Drop + 'static,
 > Running<FS, S, K> {
     /// Starts a thread for the session. Where there is none, or no memory, it comes back as it was.
-    pub fn on_thread<R: Threads + Wait + AllocGlobal + Send + Sync + Copy + 'static>(
+    pub(crate) fn on_thread<R: Threads + Wait + AllocGlobal + Send + Sync + Copy + 'static>(
         rt: &R,
         runnable: Runnable<FS, S, K>,
         notifier: Notifier,
@@ -94,7 +94,7 @@ impl<
 
 impl<FS: Filesystem, S: Source, K: Sink + Send> Running<FS, S, K> {
     /// Runs the session to its end, on this thread.
-    pub fn at_once<R: Threads + Wait + AllocGlobal + Sync>(
+    pub(crate) fn at_once<R: Threads + Wait + AllocGlobal + Sync>(
         rt: &R,
         runnable: Runnable<FS, S, K>,
         notifier: Notifier,
@@ -139,7 +139,7 @@ impl<FS: Filesystem, S: Source, K: Sink + Send> Running<FS, S, K> {
     }
 
     /// What queues notices for the session. `NoMemory` only where the count of what shares the line is at its end.
-    pub fn notifier(&mut self) -> Result<Notifier, NoMemory>
+    pub(crate) fn notifier(&mut self) -> Result<Notifier, NoMemory>
         ensures same { self.new ≡ self.old }
         ensures fresh { IfOk result (λ n. n ≡ fresh_door (started self.old).line) }
     {

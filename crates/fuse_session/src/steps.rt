@@ -17,7 +17,7 @@ use std::sync::Wait;
 
 /// How a handshake ended.
 #[derive(Clone, Copy)]
-pub enum HandshakeOutcome {
+pub(crate) enum HandshakeOutcome {
     /// An INIT was accepted.
     Accepted,
     /// No message is left.
@@ -116,7 +116,7 @@ fn take_step<R: Wait + AllocGlobal, FS: Filesystem, S: Source, K: Sink>(
 }
 
 /// Answers messages until an INIT is accepted, or the handshake fails.
-pub fn handshake<R: Wait + AllocGlobal, FS: Filesystem, S: Source, K: Sink>(
+pub(crate) fn handshake<R: Wait + AllocGlobal, FS: Filesystem, S: Source, K: Sink>(
     rt: &R,
     filesystem: &mut FS,
     page_size: u32,

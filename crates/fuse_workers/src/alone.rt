@@ -74,7 +74,7 @@ fn take_turn<R: Wait + AllocGlobal, W: Work, S: Source, K: Sink>(
 }
 
 /// Answers messages until no more are to be taken. After each the notices and late frames that wait are handed on.
-pub fn answer_in_turn_alone<R: Wait + AllocGlobal, W: Work, S: Source, K: Sink>(
+pub(crate) fn answer_in_turn_alone<R: Wait + AllocGlobal, W: Work, S: Source, K: Sink>(
     context: &RunContext<R, W>,
     intake: &mut Intake<S>,
     answerer: &mut Answerer,

@@ -25,7 +25,7 @@ use std::sync::Wait;
 
 /// The first passes of both lines, and what the caller answers messages with itself.
 #[derive(Drop)]
-pub struct Caller {
+pub(crate) struct Caller {
     /// The first pass of the line of jobs.
     pub jobs: Pass<RequestJob>,
     /// The first pass of the line of frames.
@@ -118,7 +118,7 @@ fn take_one<R: Wait + AllocGlobal, W: Work, S: Source>(
 }
 
 /// Takes messages and hands them in, until no message is left or one ends the run.
-pub fn take_messages<R: Wait + AllocGlobal, W: Work, S: Source>(
+pub(crate) fn take_messages<R: Wait + AllocGlobal, W: Work, S: Source>(
     context: &RunContext<R, W>,
     intake: &mut Intake<S>,
     worker_count: usize,
@@ -145,7 +145,10 @@ pub fn take_messages<R: Wait + AllocGlobal, W: Work, S: Source>(
 }
 
 /// Answers the jobs that no worker took. No worker is left.
-pub fn answer_rest<R: Wait + AllocGlobal, W: Work>(context: &RunContext<R, W>, caller: &mut Caller)
+pub(crate) fn answer_rest<R: Wait + AllocGlobal, W: Work>(
+    context: &RunContext<R, W>,
+    caller: &mut Caller,
+)
     requires lines { CallerOn context.now.jobs.now context.now.frames.now caller.old }
     requires first { (caller.old.jobs.hand.kind ≡ First) × (caller.old.frames.hand.kind ≡ First) }
     ensures lines { CallerOn context.now.jobs.now context.now.frames.now caller.new }
@@ -168,7 +171,7 @@ pub fn answer_rest<R: Wait + AllocGlobal, W: Work>(context: &RunContext<R, W>, c
 }
 
 /// Answers DESTROY, where it was the last message.
-pub fn answer_last<R: Wait + AllocGlobal, W: Work>(
+pub(crate) fn answer_last<R: Wait + AllocGlobal, W: Work>(
     context: &RunContext<R, W>,
     stopped: Stopped,
     caller: &mut Caller,

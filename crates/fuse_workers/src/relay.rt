@@ -9,7 +9,7 @@ use fuse_wire::Sink;
 
 /// The end that frames go out by, with the book of replies that come later.
 #[derive(Drop)]
-pub struct Relay<K: Sink> {
+pub(crate) struct Relay<K: Sink> {
     /// Where frames and notes go.
     pub outlet: Outlet<K>,
     /// The marks of replies that come later, and the late frames without one yet.
@@ -19,7 +19,7 @@ pub struct Relay<K: Sink> {
 impl<K: Sink> Relay<K> {
     /// Hands on a parcel: what goes out at once to the sink, and a late frame as the book lets it go.
     #[inline(always)]
-    pub fn deliver_parcel(&mut self, parcel: Parcel)
+    pub(crate) fn deliver_parcel(&mut self, parcel: Parcel)
         ensures { SendsParcel parcel (relay_of self.old.outlet self.old.book) (relay_of self.new.outlet self.new.book) }
     {
         match parcel {
@@ -35,7 +35,7 @@ impl<K: Sink> Relay<K> {
 
     /// Hands what goes out for a message to the sink. The mark of a reply that comes later lets its frame go.
     #[inline(always)]
-    pub fn deliver(&mut self, out: Out)
+    pub(crate) fn deliver(&mut self, out: Out)
         ensures { SendsOut out (relay_of self.old.outlet self.old.book) (relay_of self.new.outlet self.new.book) }
     {
         match out {

@@ -6,7 +6,7 @@ use fuse_reply::Parcel;
 /// What the caller and each worker of a run work with, but for their passes: the runtime, what answers requests, and both
 /// lines. Of these the sender is lent two: the runtime and the line of frames.
 #[derive(Drop)]
-pub struct RunContext<'s, R, W> {
+pub(crate) struct RunContext<'s, R, W> {
     /// The runtime.
     pub rt: &'s R,
     /// What answers requests.

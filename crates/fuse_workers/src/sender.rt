@@ -16,7 +16,7 @@ use std::sync::atomic::AtomicBool;
 
 /// The end that frames go out by, with its book, lent to the sender, and its pass.
 #[derive(Drop)]
-pub struct LentRelay<'a, K: Sink> {
+pub(crate) struct LentRelay<'a, K: Sink> {
     /// The end that is lent.
     pub relay: &'a mut Relay<K>,
     /// The sender's pass of the line of frames.
@@ -47,7 +47,7 @@ fn send_parcels<R: Wait, K: Sink>(
 }
 
 /// What the sender does with the end that it is lent.
-pub fn serve_sink<'a, R: Wait, K: Sink>(
+pub(crate) fn serve_sink<'a, R: Wait, K: Sink>(
     rt: &R,
     frames: &Line<Parcel>,
     lent: LentRelay<'a, K>,
@@ -66,7 +66,7 @@ pub fn serve_sink<'a, R: Wait, K: Sink>(
 }
 
 /// Hands the parcels on that the sender left. Nobody else has an inner pass.
-pub fn send_rest<R: Wait, K: Sink>(
+pub(crate) fn send_rest<R: Wait, K: Sink>(
     rt: &R,
     frames: &Line<Parcel>,
     pass: &mut Pass<Parcel>,

@@ -8,7 +8,7 @@ use fuse_wire::RequestId;
 
 /// Why no more messages are taken.
 #[derive(Clone, Copy)]
-pub enum Stopped {
+pub(crate) enum Stopped {
     /// No message is left.
     Gone,
     /// The last message was DESTROY, of this number and id.
@@ -21,7 +21,7 @@ pub enum Stopped {
 
 impl Stopped {
     /// How the run ended.
-    pub fn end(self) -> End
+    pub(crate) fn end(self) -> End
         ensures { result ≡ end_of self }
     {
         match self {

@@ -11,7 +11,7 @@ use std::sync::Wait;
 
 /// Takes the message of this number, and gives its length where it is a request. Else no more are taken.
 #[inline(always)]
-pub fn take_request<R: Wait, S: Source>(
+pub(crate) fn take_request<R: Wait, S: Source>(
     rt: &R,
     seq: u64,
     intake: &mut Intake<S>,

@@ -30,7 +30,7 @@ pub(crate) fn answer_job<R: Wait + AllocGlobal, W: Work>(
 }
 
 /// Answers jobs, until there is none left once it was told that no more come.
-pub fn answer_jobs<R: Wait + AllocGlobal, W: Work>(
+pub(crate) fn answer_jobs<R: Wait + AllocGlobal, W: Work>(
     context: &RunContext<R, W>,
     mut job_pass: Pass<RequestJob>,
     mut frame_pass: Pass<Parcel>,
