@@ -18,11 +18,19 @@ use std::marker::Model;
 use std::sync::Wait;
 use std::sync::atomic::{AtomicBool, Ordering};
 
+/// That a push found its line full. Only a push makes one, so whoever has one has made such a push.
+#[derive(Debug, Drop, PartialEq, Eq)]
+pub struct LineFull {
+    seen: (),
+}
+
 /// The line was full, and this is the item that was to be pushed.
 #[derive(Debug, Drop, PartialEq, Eq)]
 pub struct Full<T> {
     /// That item.
     pub item: T,
+    /// What the push has seen.
+    pub line: LineFull,
 }
 
 /// A line of items, oldest first, that threads share by reference. Contracts see it as its name, which knows how many
@@ -102,7 +110,8 @@ impl<T: Class> Line<T> {
         ensures full { IfErr result (λ _. Held self.now.slots (Tells T.is_inner pass.old.hand)) }
     {
         if let Err(item) = self.queue.push_as::<PushStep, R>(rt, &mut pass.seat, item) {
-            return Err(Full { item });
+            let line = LineFull { seen: () };
+            return Err(Full { item, line });
         }
         self.items.wake_one();
         Ok(())

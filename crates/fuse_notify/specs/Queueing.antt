@@ -4,6 +4,7 @@ use Rattle.atomic_table.specs.Seated.{TableId}
 use Rattle.fuse_line.specs.Hand.{hand}
 use Rattle.fuse_line.specs.declared.hand.Kind.TheVariants.{Door}
 use Rattle.fuse_line.specs.Seen.{Seen}
+use Rattle.fuse_line.specs.declared.line.LineFull.{LineFull}
 use Rattle.fuse_reply.specs.Sizes.{inline_size}
 use Rattle.fuse_reply.specs.Queueing.{with_parcel, FoundFull}
 use Rattle.fuse_reply.specs.declared.parcel.Parcel.{Parcel}
@@ -15,11 +16,9 @@ use Rattle.fuse_notify.specs.declared.notifier.NotifyError.{NotifyError}
 use Rattle.fuse_notify.specs.declared.notifier.NotifyError.TheVariants.{TooBig, Full, Memory}
 
 -- the frame of a notice was pushed, or else nothing was, since the line was full
-abbrev pub Pushes : Result (Unit {0}) NotifyError → (frame : List ℕ) (before after : Seen Parcel) → Type 0
+abbrev pub Pushes : Result (Unit {0}) LineFull → (frame : List ℕ) (before after : Seen Parcel) → Type 0
 Pushes (Ok done) frame before after = after ≡ with_parcel before (Told frame)
-Pushes (Err Full) frame before after = (after ≡ before) × FoundFull before
-Pushes (Err TooBig) frame before after = ⊥
-Pushes (Err Memory) frame before after = ⊥
+Pushes (Err full) frame before after = (after ≡ before) × FoundFull before
 
 -- Just this notice was queued, behind all that this door queued before. Or else nothing was: no frame can carry it, there was no
 -- memory for a payload that is not held inline, or its own push found the line full.
@@ -27,7 +26,7 @@ abbrev pub Queues : Result (Unit {0}) NotifyError → Notice → (before after :
 Queues (Ok done) n before after = (after ≡ with_parcel before (Told (notice n))) × FitsFrame n
 Queues (Err TooBig) n before after = (after ≡ before) × IsTooBig n
 Queues (Err Memory) n before after = (after ≡ before) × FitsFrame n × (inline_size < length (notice_payload n))
-Queues (Err Full) n before after = (after ≡ before) × FitsFrame n × FoundFull before
+Queues (Err (Full seen)) n before after = (after ≡ before) × FitsFrame n × FoundFull before
 
 -- whichever notice was made is queued
 abbrev pub QueuesMade : (made : Result (List ℕ) NoticeError) → Result (Unit {0}) NotifyError → (before after : Seen Parcel) → Type 0

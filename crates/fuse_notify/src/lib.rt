@@ -13,4 +13,4 @@ mod poll_notifier;
 pub use delivery::{Undelivered, deliver};
 pub use notice::{Notice, NoticeError};
 pub use notifier::{Notifier, NotifyError};
-pub use poll_notifier::PollNotifier;
+pub use poll_notifier::{Notified, PollNotifier};

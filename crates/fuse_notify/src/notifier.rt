@@ -6,7 +6,7 @@ ghost use Rattle.fuse_reply.specs.Notice.Notice.{Poll, InvalInode, InvalEntry, S
 ghost use Rattle.fuse_notify.specs.Queueing.{Pushes, Queues, QueuesMade, fresh_door};
 
 use crate::{Notice, NoticeError, PollNotifier};
-use fuse_line::{Line, Pass};
+use fuse_line::{Line, LineFull, Pass};
 use fuse_reply::Parcel;
 use fuse_wire::{INodeNo, NoMemory, PollHandle};
 use std::alloc::Global;
@@ -14,12 +14,12 @@ use std::marker::Model;
 use std::sync::{Arc, Wait};
 
 /// Why a notice is not queued. Nothing is, then.
-#[derive(Clone, Copy, Debug, PartialEq, Eq)]
+#[derive(Debug, Drop, PartialEq, Eq)]
 pub enum NotifyError {
     /// No frame can carry it: the name's or data's length, or the whole frame's, is above `u32::MAX`.
     TooBig,
-    /// Its own push found the line full. It can be tried again.
-    Full,
+    /// Its own push found the line full, as this tells. It can be tried again.
+    Full(LineFull),
     /// There is no memory for it.
     Memory,
 }
@@ -162,20 +162,23 @@ impl Notifier {
         ensures { QueuesMade made result self.old self.new }
     {
         match made {
-            Ok(notice) => self.push(rt, notice),
+            Ok(notice) => match self.push(rt, notice) {
+                Ok(()) => Ok(()),
+                Err(full) => Err(NotifyError::Full(full)),
+            },
             Err(NoticeError::TooBig) => Err(NotifyError::TooBig),
             Err(NoticeError::Memory) => Err(NotifyError::Memory),
         }
     }
 
     /// Queues this notice, unless the line is full.
-    pub(crate) fn push<R: Wait>(&mut self, rt: &R, notice: Notice) -> Result<(), NotifyError>
+    pub(crate) fn push<R: Wait>(&mut self, rt: &R, notice: Notice) -> Result<(), LineFull>
         ensures { Pushes result notice self.old self.new }
     {
         let parcel = Parcel::Notice(notice.into_frame());
         match self.line.push(rt, &mut self.pass, parcel) {
             Ok(()) => Ok(()),
-            Err(_) => Err(NotifyError::Full),
+            Err(full) => Err(full.line),
         }
     }
 }

@@ -1,9 +1,9 @@
 // What a poll is told through.
-ghost use Rattle.std.specs.Prelude.{◌≡◌, [], ◌∷◌, IfErr};
+ghost use Rattle.std.specs.Prelude.{◌≡◌, [], IfErr, IfOk};
 ghost use Rattle.fuse_reply.specs.Notice.{notice};
 ghost use Rattle.fuse_reply.specs.Notice.Notice.{Poll};
 ghost use Rattle.fuse_reply.specs.declared.parcel.Parcel.TheVariants.{Notice as Told};
-ghost use Rattle.fuse_reply.specs.Queueing.{FoundFull};
+ghost use Rattle.fuse_reply.specs.Queueing.{FoundFull, with_parcel};
 
 use crate::{Notice, Notifier};
 use fuse_line::Full;
@@ -33,6 +33,21 @@ impl Model for PollNotifier {
     ghost invariant = { λ p. p.notifier.hand.put ≡ [] };
 }
 
+/// That a poll was told: its one notice was queued. Contracts see the door that it went through.
+#[derive(Drop)]
+pub struct Notified {
+    notifier: Notifier,
+}
+
+impl Model for Notified {
+    ghost use Rattle.fuse_line.specs.Seen.{Seen};
+    ghost use Rattle.fuse_reply.specs.declared.parcel.Parcel.{Parcel};
+
+    ghost Value = { Seen Parcel };
+
+    ghost view = { λ t. t.notifier };
+}
+
 impl PollNotifier {
     /// For the poll with this handle.
     pub(crate) fn new(handle: PollHandle, notifier: Notifier) -> PollNotifier
@@ -51,7 +66,8 @@ impl PollNotifier {
 
     /// The file has news: queues the one notice of this poll, and waits for nobody. Where its own push found the line
     /// full the notifier comes back as it was, and can be tried again.
-    pub fn notify<R: Wait + AllocGlobal>(self, rt: &R) -> Result<(), Full<PollNotifier>>
+    pub fn notify<R: Wait + AllocGlobal>(self, rt: &R) -> Result<Notified, Full<PollNotifier>>
+        ensures told { IfOk result (λ told. told ≡ with_parcel self.door (Told (notice (Poll self.handle)))) }
         ensures back { IfErr result (λ full. full.item ≡ self) }
         ensures full { IfErr result (λ full. FoundFull self.door) }
     {
@@ -61,18 +77,11 @@ impl PollNotifier {
         } = self;
         let notice = Notice::poll(rt.alloc(), handle);
         match notifier.push(rt, notice) {
-            Ok(()) => {
-                spend(notifier, handle);
-                Ok(())
-            }
-            Err(_) => Err(Full {
+            Ok(()) => Ok(Notified { notifier }),
+            Err(full) => Err(Full {
                 item: PollNotifier { handle, notifier },
+                line: full,
             }),
         }
     }
 }
-
-/// Lets go of a notifier that has told its poll, once, and nothing else.
-fn spend(notifier: Notifier, handle: PollHandle)
-    requires { notifier.hand.put ≡ Told (notice (Poll handle.0)) ∷ [] }
-{}

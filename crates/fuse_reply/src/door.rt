@@ -6,7 +6,7 @@ ghost use Rattle.fuse_reply.specs.Door.{LooksAt, PushesLate, QueuesJust};
 ghost use Rattle.fuse_reply.specs.Late.{IsReplyTo};
 
 use crate::{EndMark, EndNote, LateFrame, Packed, Parcel, Replied};
-use fuse_line::{Line, Pass};
+use fuse_line::{Full, Line, Pass};
 use fuse_wire::RequestId;
 use std::alloc::Global;
 use std::marker::Model;
@@ -70,6 +70,20 @@ impl Door {
     }
 }
 
+/// That a late reply was queued. Contracts see the door that it went through.
+#[derive(Drop)]
+pub struct Queued {
+    door: Door,
+}
+
+impl Model for Queued {
+    ghost use Rattle.fuse_reply.specs.Door.{DoorSeen};
+
+    ghost Value = { DoorSeen };
+
+    ghost view = { λ q. q.door };
+}
+
 /// A door whose reply was put off. It can't be dropped: it is let go once what the reply was spent into was queued, or by a
 /// note that the run has ended. A contract sees the door.
 pub(crate) struct LateDoor {
@@ -108,7 +122,7 @@ impl LateDoor {
         rt: &R,
         id: RequestId,
         packed: Packed,
-    ) -> Result<(), Packed>
+    ) -> Result<(), Full<Packed>>
         requires { IsReplyTo id.0 packed }
         ensures { PushesLate result id.0 packed self.old self.new }
     {
@@ -121,24 +135,29 @@ impl LateDoor {
         let parcel = Parcel::Late(LateFrame::new(*seq, id, packed));
         match line.push(rt, pass, parcel) {
             Ok(()) => Ok(()),
-            Err(full) => match full.item {
-                Parcel::Late(frame) => Err(frame.into_packed()),
+            Err(Full { item, line }) => match item {
+                Parcel::Late(frame) => Err(Full {
+                    item: frame.into_packed(),
+                    line,
+                }),
                 // What comes back is what was pushed.
                 Parcel::Prompt(_, _) | Parcel::Notice(_) => unreachable!(),
             },
         }
     }
 
-    /// Lets go of it after a push: since it was as the snapshot has it, just what the reply was spent into was queued.
+    /// Is spent after a push: since it was as the snapshot has it, just what the reply was spent into was queued.
     pub(crate) fn let_go_after_push(
         self,
         id: RequestId,
         before: Snapshot<LateDoor>,
         replied: Snapshot<Replied>,
-    )
+    ) -> Queued
         requires { QueuesJust id.0 replied.value before.value self }
+        ensures { result ≡ self }
     {
-        let LateDoor { door: _ } = self;
+        let LateDoor { door } = self;
+        Queued { door }
     }
 
     /// Lets go of it since the run has ended, as the note knows.

@@ -3,6 +3,7 @@ ghost use Rattle.std.specs.Prelude.{◌≡◌, ℕ, Bool, false};
 
 use crate::door::LateDoor;
 use crate::{EndNote, Replied};
+use fuse_line::LineFull;
 use fuse_wire::RequestId;
 
 /// What a token may hold: a reply, or nothing.
@@ -32,8 +33,8 @@ pub struct Later<R: Held> {
 
 /// Why a late reply was not queued. Token and reply come back.
 pub enum LateRefusal {
-    /// Its own push found the line full. It can be tried again.
-    Full(Later<()>, Replied),
+    /// Its own push found the line full, as the last tells. It can be tried again.
+    Full(Later<()>, Replied, LineFull),
     /// The run has ended, as the note knows. Token and reply can be retired.
     Closed(Later<()>, Replied, EndNote),
 }

@@ -39,7 +39,7 @@ mod seal;
 mod sight;
 mod token;
 
-pub use door::{Door, NoDoor};
+pub use door::{Door, NoDoor, Queued};
 pub use end_mark::EndMark;
 pub use end_note::EndNote;
 pub use late_frame::LateFrame;

@@ -1,10 +1,11 @@
 // What is done with the token of a reply that comes later.
-ghost use Rattle.std.specs.Prelude.{◌≡◌, false, IfErr, IfSome};
+ghost use Rattle.std.specs.Prelude.{◌≡◌, false, IfErr, IfOk, IfSome};
+ghost use Rattle.fuse_reply.specs.Door.{QueuesLate};
 ghost use Rattle.fuse_reply.specs.Late.{IsFrameFor};
 ghost use Rattle.fuse_reply.specs.Refusing.{GivesBack};
 
 use crate::later::{Held, LateRefusal, Later};
-use crate::{EndNote, Out, Replied};
+use crate::{EndNote, Out, Queued, Replied};
 use std::snapshot::Snapshot;
 use std::sync::Wait;
 use std::thread;
@@ -30,9 +31,10 @@ impl<R: Held> Later<R> {
 impl Later<()> {
     /// Queues the frame that the reply was spent into, for whoever sends. Where its own push finds the line full, and
     /// where the run has ended, all comes back.
-    pub fn send<R: Wait>(self, rt: &R, replied: Replied) -> Result<(), LateRefusal>
+    pub fn send<R: Wait>(self, rt: &R, replied: Replied) -> Result<Queued, LateRefusal>
         requires { IsFrameFor self.id.0 replied }
-        ensures { IfErr result (λ refusal. GivesBack self.id.0 self.door replied refusal) }
+        ensures queued { IfOk result (λ queued. QueuesLate self.id.0 replied self.door queued) }
+        ensures back { IfErr result (λ refusal. GivesBack self.id.0 self.door replied refusal) }
     {
         let Later {
             id,
@@ -53,17 +55,15 @@ impl Later<()> {
             unreachable!()
         };
         match door.push(rt, id, frame.into_packed()) {
-            Ok(()) => {
-                door.let_go_after_push(id, before, spent);
-                Ok(())
-            }
-            Err(packed) => {
+            Ok(()) => Ok(door.let_go_after_push(id, before, spent)),
+            Err(full) => {
                 let token = Later {
                     id,
                     reply: (),
                     door,
                 };
-                Err(LateRefusal::Full(token, Replied::by(packed)))
+                let replied = Replied::by(full.item);
+                Err(LateRefusal::Full(token, replied, full.line))
             }
         }
     }
@@ -78,8 +78,8 @@ impl Later<()> {
         let mut frame = replied;
         for _ in rt.forever() {
             match left.send(rt, frame) {
-                Ok(()) => return None,
-                Err(LateRefusal::Full(token, replied)) => {
+                Ok(_) => return None,
+                Err(LateRefusal::Full(token, replied, _)) => {
                     left = token;
                     frame = replied;
                     thread::yield_now();
