@@ -1,19 +1,27 @@
-// What is fetched from bodies of several lengths: INIT as kernels of several ages send it, names, and rows.
-use crate::asserts::{expect, expect_same, expect_same_in};
-use crate::fixed_part_tests::BYTES;
-use fuse_args::ArgumentIterator;
+// What is fetched from the bytes of a body: INIT as kernels of several ages send it, names, and parts whose words have
+// their highest bit set.
+use crate::asserts::{expect_same, expect_same_in};
+use fuse_args::{
+    ArgumentIterator, GetLkArguments, IoCtlArguments, LseekArguments, SetAttrArguments,
+};
 use std::process::Abort;
+
+/// Words of 4 bytes, each with the highest bit and 1 more in each byte than the one before, and 3 bytes of the next.
+const BYTES: &[u8] = &[
+    0x01, 0x41, 0x61, 0x81, 0x02, 0x42, 0x62, 0x82, 0x03, 0x43, 0x63, 0x83, 0x04, 0x44, 0x64, 0x84,
+    0x05, 0x45, 0x65, 0x85, 0x06, 0x46, 0x66, 0x86, 0x07, 0x47, 0x67, 0x87, 0x08, 0x48, 0x68, 0x88,
+    0x09, 0x49, 0x69, 0x89, 0x0a, 0x4a, 0x6a, 0x8a, 0x0b, 0x4b, 0x6b, 0x8b, 0x0c, 0x4c, 0x6c, 0x8c,
+    0x0d, 0x4d, 0x6d, 0x8d, 0x0e, 0x4e, 0x6e, 0x8e, 0x0f, 0x4f, 0x6f, 0x8f, 0x10, 0x50, 0x70, 0x90,
+    0x11, 0x51, 0x71, 0x91, 0x12, 0x52, 0x72, 0x92, 0x13, 0x53, 0x73, 0x93, 0x14, 0x54, 0x74, 0x94,
+    0x15, 0x55, 0x75, 0x95, 0x16, 0x56, 0x76, 0x96, 0x17, 0x57, 0x77,
+];
 
 /// The fields of INIT: the version, the readahead, and the two words of capabilities.
 fn fetched_init(arguments: &mut ArgumentIterator<'_>) -> Option<[u32; 5]> {
     let init = arguments.fetch_init()?;
-    Some([
-        init.major,
-        init.minor,
-        init.max_readahead,
-        init.flags,
-        init.flags2,
-    ])
+    let version = [init.major, init.minor];
+    let [major, minor] = version;
+    Some([major, minor, init.max_readahead, init.flags, init.flags2])
 }
 
 /// How many bytes of INIT are there, its second word of capabilities, and how many bytes are left.
@@ -46,125 +54,125 @@ fn fetches_init_of_each_length(rt: HostRuntime) {
         expect_init(&rt, *length, *flags2, *left);
     }
     let mut arguments = ArgumentIterator::new(BYTES.get(..15).unwrap_or(&[]));
-    expect_same(&rt, &fetched_init(&mut arguments), &None);
-    expect_same(&rt, &arguments.len(), &15);
+    let found = fetched_init(&mut arguments);
+    expect_same(&rt, &(found, arguments.len()), &(None, 15));
 }
 
-#[test]
-fn fetches_numbers_below_zero(rt: HostRuntime) {
-    let mut bytes = [0xff; 48];
-    bytes[8] = 0xfe;
-    bytes[32] = 0xfd;
-    let write = ArgumentIterator::new(&bytes).fetch_write();
-    expect_same(
-        &rt,
-        &write.map(|write| (write.offset, write.flags)),
-        &Some((-2, -3)),
-    );
-    let lseek = ArgumentIterator::new(&bytes).fetch_lseek();
-    expect_same(
-        &rt,
-        &lseek.map(|lseek| (lseek.offset, lseek.whence)),
-        &Some((-2, -1)),
-    );
-    let lock = ArgumentIterator::new(&bytes).fetch_getlk();
-    expect_same(&rt, &lock.map(|lock| lock.typ), &Some(-3));
-}
-
-#[test]
-fn fetches_rows(rt: HostRuntime) {
-    let bytes = [7; 35];
-    let cases = [
-        (0, Some(0), 35),
-        (1, Some(16), 19),
-        (2, Some(32), 3),
-        (3, None, 35),
-        (0x1000_0000_0000_0000, None, 35),
-        (usize::MAX, None, 35),
-    ];
-    for (count, size, left) in cases {
-        let mut arguments = ArgumentIterator::new(&bytes);
-        let rows = arguments.fetch_slice(count);
-        expect_same_in(&rt, &count, &rows.map(|rows| rows.len()), &size);
-        expect_same_in(&rt, &count, &arguments.len(), &left);
-    }
-    let mut arguments = ArgumentIterator::new(b"0123456789abcdef0123456789ABCDEF*");
-    expect(&rt, "a row is there", arguments.fetch_slice(1).is_some());
-    let second: &[u8] = b"0123456789ABCDEF";
-    expect_same(&rt, &arguments.fetch_slice(1), &Some(second));
-}
-
-/// What a fetch of a name from these bytes gives, and how many bytes it leaves.
-fn name_and_left(bytes: &[u8]) -> (Option<&[u8]>, usize) {
-    let mut arguments = ArgumentIterator::new(bytes);
-    let name = arguments.fetch_str();
-    (name, arguments.len())
-}
+/// Bytes, the name that they begin with, and how many bytes are left.
+const NAMES: &[(&[u8], Option<&[u8]>, usize)] = &[
+    (b"bar\0ba", Some(b"bar"), 2),
+    (b"bar\0", Some(b"bar"), 0),
+    (b"\0ba", Some(b""), 2),
+    (b"\0\0", Some(b""), 1),
+    (b"bar", None, 3),
+    (b"", None, 0),
+];
 
 #[test]
 fn fetches_names(rt: HostRuntime) {
-    let cases: [(&[u8], Option<&[u8]>, usize); 6] = [
-        (b"bar\0ba", Some(b"bar"), 2),
-        (b"bar\0", Some(b"bar"), 0),
-        (b"\0ba", Some(b""), 2),
-        (b"\0\0", Some(b""), 1),
-        (b"bar", None, 3),
-        (b"", None, 0),
-    ];
-    for (bytes, name, left) in cases {
-        expect_same(&rt, &name_and_left(bytes), &(name, left));
+    for (bytes, name, left) in NAMES {
+        let mut arguments = ArgumentIterator::new(bytes);
+        let found = arguments.fetch_str();
+        expect_same(&rt, &(found, arguments.len()), &(*name, *left));
     }
 }
 
-#[test]
-fn fetches_what_a_size_counts(rt: HostRuntime) {
-    let cases: [(u32, Option<&[u8]>, Option<&[u8]>); 5] = [
-        (0, None, Some(b"")),
-        (2, None, Some(b"fo")),
-        (3, Some(b"foo"), Some(b"foo")),
-        (4, None, None),
-        (u32::MAX, None, None),
-    ];
-    for (size, exactly, at_least) in cases {
-        let mut arguments = ArgumentIterator::new(b"foo");
-        expect_same_in(&rt, &size, &arguments.fetch_exactly(size), &exactly);
-        let left = if exactly.is_some() { 0 } else { 3 };
-        expect_same_in(&rt, &size, &arguments.len(), &left);
-        let mut arguments = ArgumentIterator::new(b"foo");
-        expect_same_in(&rt, &size, &arguments.fetch_at_least(size), &at_least);
-        let left = if at_least.is_some() { 0 } else { 3 };
-        expect_same_in(&rt, &size, &arguments.len(), &left);
-    }
+// A word that is read with its sign, or two of them.
+macro_rules! signed {
+    (one $word:literal) => {
+        ($word - 0x1_0000_0000_i64) as i32
+    };
+    (two $words:literal) => {
+        ($words - 0x1_0000_0000_0000_0000_i128) as i64
+    };
+}
+
+const SIGNED_5: i32 = signed!(one 0x8565_4505);
+
+const SIGNED_9: i32 = signed!(one 0x8969_4909);
+
+const SIGNED_3_4: i64 = signed!(two 0x8464_4404_8363_4303);
+
+const SIGNED_9_10: i64 = signed!(two 0x8a6a_4a0a_8969_4909);
+
+const SIGNED_11_12: i64 = signed!(two 0x8c6c_4c0c_8b6b_4b0b);
+
+const SIGNED_13_14: i64 = signed!(two 0x8e6e_4e0e_8d6d_4d0d);
+
+/// Whether SETATTR has its fields at their places.
+fn is_setattr_in_place(arguments: &mut ArgumentIterator<'_>) -> bool {
+    matches!(
+        arguments.fetch_setattr(),
+        Some(SetAttrArguments {
+            valid: 0x8161_4101,
+            fh: 0x8464_4404_8363_4303,
+            size: 0x8666_4606_8565_4505,
+            lock_owner: 0x8868_4808_8767_4707,
+            atime: SIGNED_9_10,
+            mtime: SIGNED_11_12,
+            ctime: SIGNED_13_14,
+            atimensec: 0x8f6f_4f0f,
+            mtimensec: 0x9070_5010,
+            ctimensec: 0x9171_5111,
+            mode: 0x9272_5212,
+            uid: 0x9474_5414,
+            gid: 0x9575_5515,
+        })
+    )
+}
+
+/// Whether GETLK has its fields at their places.
+fn is_getlk_in_place(arguments: &mut ArgumentIterator<'_>) -> bool {
+    matches!(
+        arguments.fetch_getlk(),
+        Some(GetLkArguments {
+            fh: 0x8262_4202_8161_4101,
+            owner: 0x8464_4404_8363_4303,
+            start: 0x8666_4606_8565_4505,
+            end: 0x8868_4808_8767_4707,
+            typ: SIGNED_9,
+            pid: 0x8a6a_4a0a,
+            lk_flags: 0x8b6b_4b0b,
+        })
+    )
+}
+
+/// Whether IOCTL has its fields at their places.
+fn is_ioctl_in_place(arguments: &mut ArgumentIterator<'_>) -> bool {
+    matches!(
+        arguments.fetch_ioctl(),
+        Some(IoCtlArguments {
+            fh: 0x8262_4202_8161_4101,
+            flags: 0x8363_4303,
+            cmd: 0x8464_4404,
+            arg: 0x8666_4606_8565_4505,
+            in_size: 0x8767_4707,
+            out_size: 0x8868_4808,
+        })
+    )
+}
+
+/// Whether LSEEK has its fields at their places.
+fn is_lseek_in_place(arguments: &mut ArgumentIterator<'_>) -> bool {
+    matches!(
+        arguments.fetch_lseek(),
+        Some(LseekArguments {
+            fh: 0x8262_4202_8161_4101,
+            offset: SIGNED_3_4,
+            whence: SIGNED_5,
+        })
+    )
 }
 
 #[test]
-fn fetches_one_after_another(rt: HostRuntime) {
-    let bytes = b"foo\0bar\0ba";
-    let names: [&[u8]; 2] = [b"foo", b"bar"];
-    let mut arguments = ArgumentIterator::new(bytes);
-    for name in names {
-        expect_same(&rt, &arguments.fetch_str(), &Some(name));
-    }
-    expect_same(&rt, &arguments.len(), &2);
-
-    let mut arguments = ArgumentIterator::new(bytes);
-    expect(&rt, "a number is there", arguments.fetch_u64().is_some());
-    expect_same(&rt, &arguments.fetch_u64(), &None);
-    expect(
-        &rt,
-        "no access mask is there",
-        arguments.fetch_access().is_none(),
-    );
-    expect_same(&rt, &arguments.fetch_str(), &None);
-    expect_same(&rt, &arguments.len(), &2);
-    let end: &[u8] = b"ba";
-    expect_same(&rt, &arguments.fetch_all(), &end);
-    expect_same(&rt, &arguments.len(), &0);
-
-    let mut arguments = ArgumentIterator::new(bytes);
-    expect(&rt, "a name is there", arguments.fetch_str().is_some());
-    let end: &[u8] = b"bar\0ba";
-    expect_same(&rt, &arguments.fetch_all(), &end);
-    let none: &[u8] = b"";
-    expect_same(&rt, &arguments.fetch_all(), &none);
+fn fetches_each_bit_and_sign_of_a_part(rt: HostRuntime) {
+    let mut arguments = ArgumentIterator::new(BYTES);
+    let found = (is_setattr_in_place(&mut arguments), arguments.len());
+    expect_same(&rt, &found, &(true, 3));
+    let places = [
+        is_getlk_in_place(&mut ArgumentIterator::new(BYTES)),
+        is_ioctl_in_place(&mut ArgumentIterator::new(BYTES)),
+        is_lseek_in_place(&mut ArgumentIterator::new(BYTES)),
+    ];
+    expect_same(&rt, &places, &[true; 3]);
 }

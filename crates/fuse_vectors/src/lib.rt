@@ -1,5 +1,6 @@
-//! A table of the protocol's bytes, and the test that walks it: what the crates below make of each.
-//! It stands apart from the code that it tests, since the gate proves a crate once more for the tests that stand in it.
+//! The protocol's bytes: a table of vectors with its runner, and tests of the crates that read and write them
+//! (`fuse_wire` to `fuse_config`): names and numbers, messages and their arguments, devices, INIT, and what a session is
+//! set up with. They show what no clause of those crates says.
 #![tactic(auto)]
 
 #[cfg(test)]
@@ -7,32 +8,26 @@ mod argument_tests;
 #[cfg(test)]
 mod asserts;
 #[cfg(test)]
-mod derives;
-#[cfg(test)]
-mod devices;
-#[cfg(test)]
-mod fixed_part_tests;
-#[cfg(test)]
-mod headers;
+mod device_tests;
 #[cfg(test)]
 mod init_tests;
 #[cfg(test)]
-mod messages;
+mod name_tests;
 #[cfg(test)]
-mod names;
-#[cfg(test)]
-mod numbers;
+mod number_tests;
 #[cfg(test)]
 mod option_tests;
 #[cfg(test)]
-mod printing;
-#[cfg(test)]
-mod requests;
+mod request_tests;
 #[cfg(test)]
 mod runner;
 #[cfg(test)]
 mod setter_tests;
 #[cfg(test)]
-mod std_devices;
+mod source_tests;
+#[cfg(test)]
+mod std_device_tests;
+#[cfg(test)]
+mod trait_tests;
 #[cfg(test)]
 mod vectors;

@@ -4,12 +4,11 @@ ghost use Rattle.fuse_wire.specs.Flags.{FOPEN_PASSTHROUGH};
 
 use crate::asserts::expect_same;
 use crate::vectors::{
-    Answer, Choice, Fetch, Made, News, Vector, conflicts, fetches, notices, replies, requests,
-    texts, times,
+    Answer, Fetch, Made, News, Vector, conflicts, fetches, notices, replies, requests, texts, times,
 };
 use bitflags::Flags;
 use fuse_args::ArgumentIterator;
-use fuse_config::{Config, MountOption, OptionText, check_option_conflicts, option_to_string};
+use fuse_config::{Config, MountOption, check_option_conflicts, option_to_string};
 use fuse_notify::{Notice, NoticeError, deliver};
 use fuse_reply::{
     OutEnd, Replied, ReplyAttr, ReplyBmap, ReplyCreate, ReplyData, ReplyDirectory, ReplyEmpty,
@@ -31,8 +30,19 @@ fn each_vector_makes_its_bytes(rt: HostRuntime) -> Result<(), NoMemory> {
     expect_bytes(&rt, notices())?;
     expect_bytes(&rt, fetches())?;
     expect_bytes(&rt, times())?;
-    expect_bytes(&rt, conflicts())?;
-    expect_bytes(&rt, texts())
+    expect_bytes(&rt, conflicts())
+}
+
+/// A text names the option, whose text it is.
+#[test]
+fn each_option_has_its_text(rt: HostRuntime) -> Result<(), NoMemory> {
+    for (shown, text) in texts() {
+        let option = MountOption::from_str(rt.alloc(), text)?;
+        let found = format!(in rt.alloc(); "{option:?}")?;
+        let back = option_to_string(rt.alloc(), &option)?;
+        expect_same(&rt, &(found.as_str(), back.as_str()), &(*shown, *text));
+    }
+    Ok(())
 }
 
 /// These parts joined.
@@ -67,7 +77,6 @@ fn make<R: Abort + AllocGlobal>(rt: &R, alloc: Global, made: &Made) -> Result<Ve
         Made::Fetched(bytes, fetches) => fetched(alloc, bytes, fetches),
         Made::Time(nanos) => seconds_and_nanoseconds(alloc, *nanos),
         Made::SecondsAndNanoseconds(secs, nanos) => nanoseconds(alloc, *secs, *nanos),
-        Made::Text(choice) => chosen(rt, alloc, choice),
         Made::Conflict(texts) => conflicting(alloc, texts),
     }
 }
@@ -311,32 +320,6 @@ fn fetched(alloc: Global, bytes: &[u8], fetches: &[Fetch]) -> Result<Vec<u8>, No
     let told = all_fetched(alloc, &mut arguments, fetches)?;
     let left = format!(in alloc; "{} left", arguments.len())?;
     Ok(joined(alloc, &[&told, left.as_bytes()])?)
-}
-
-/// The text of an option, in front of which stands the variant of one without a text of its own.
-fn chosen(rt: &impl Abort, alloc: Global, choice: &Choice) -> Result<Vec<u8>, NoMemory> {
-    let option = match choice {
-        Choice::FSName(name) => MountOption::FSName(OptionText::new(alloc, name)?),
-        Choice::Subtype(name) => MountOption::Subtype(OptionText::new(alloc, name)?),
-        Choice::Custom(text) => MountOption::CUSTOM(OptionText::new(alloc, text)?),
-        Choice::Plain(text) => return plain(alloc, text),
-    };
-    text_of(rt, alloc, &option)
-}
-
-/// The text of an option. It names that option.
-fn text_of(rt: &impl Abort, alloc: Global, option: &MountOption) -> Result<Vec<u8>, NoMemory> {
-    let text = option_to_string(alloc, option)?;
-    let named = MountOption::from_str(alloc, text.as_str())?;
-    expect_same(rt, &named, option);
-    Ok(text.into_bytes())
-}
-
-/// The option that a text names, and its text again.
-fn plain(alloc: Global, text: &str) -> Result<Vec<u8>, NoMemory> {
-    let option = MountOption::from_str(alloc, text)?;
-    let text = option_to_string(alloc, &option)?;
-    Ok(format!(in alloc; "{option:?} {text}")?.into_bytes())
 }
 
 /// The options that these texts name.

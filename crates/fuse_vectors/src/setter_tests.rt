@@ -16,102 +16,38 @@ pub enum Step {
     Capabilities(u64, Result<(), u64>),
 }
 
-const STACK_DEPTHS: &[Step] = &[
+/// One after the other, where a kernel offers 1 << 3 and 1 << 49 and reads 131072 bytes ahead. Of a threshold that was
+/// not set the one before is three quarters of the background, rounded down.
+const STEPS: &[Step] = &[
     Step::StackDepth(2, Ok(0)),
     Step::StackDepth(3, Err(2)),
-    Step::StackDepth(u32::MAX, Err(2)),
-    Step::StackDepth(1, Ok(2)),
-    Step::StackDepth(0, Ok(1)),
-    Step::StackDepth(0, Ok(0)),
-];
-
-const WRITES: &[Step] = &[
+    Step::StackDepth(0, Ok(2)),
     Step::MaxWrite(1, Ok(16777216)),
     Step::MaxWrite(0, Err(1)),
     Step::MaxWrite(16777216, Ok(1)),
     Step::MaxWrite(16777217, Err(16777216)),
-    Step::MaxWrite(u32::MAX, Err(16777216)),
-    Step::MaxWrite(4096, Ok(16777216)),
-];
-
-const READAHEADS: &[Step] = &[
     Step::MaxReadahead(1, Ok(131072)),
     Step::MaxReadahead(0, Err(1)),
     Step::MaxReadahead(131072, Ok(1)),
     Step::MaxReadahead(131073, Err(131072)),
-    Step::MaxReadahead(u32::MAX, Err(131072)),
-    Step::MaxReadahead(4096, Ok(131072)),
-];
-
-/// Those of a kernel that reads nothing ahead.
-const NO_READAHEADS: &[Step] = &[Step::MaxReadahead(0, Err(1)), Step::MaxReadahead(1, Err(0))];
-
-const BACKGROUNDS: &[Step] = &[
-    Step::MaxBackground(1, Ok(16)),
+    Step::MaxBackground(3, Ok(16)),
     Step::MaxBackground(0, Err(1)),
-    Step::MaxBackground(u16::MAX, Ok(1)),
-    Step::MaxBackground(64, Ok(u16::MAX)),
-];
-
-const THRESHOLDS: &[Step] = &[
-    Step::Threshold(20, Ok(12)),
+    Step::Threshold(9, Ok(2)),
     Step::Threshold(0, Err(1)),
-    Step::Threshold(1, Ok(16)),
+    Step::Threshold(1, Ok(3)),
+    Step::MaxBackground(u16::MAX, Ok(3)),
     Step::Threshold(u16::MAX, Ok(1)),
-    Step::Threshold(16, Ok(16)),
-    Step::MaxBackground(1, Ok(16)),
-    Step::Threshold(3, Ok(1)),
-];
-
-// What the threshold was before it was set: three quarters of the background, rounded down.
-
-const THRESHOLD_OF_ONE: &[Step] = &[Step::MaxBackground(1, Ok(16)), Step::Threshold(9, Ok(0))];
-
-const THRESHOLD_OF_THREE: &[Step] = &[Step::MaxBackground(3, Ok(16)), Step::Threshold(9, Ok(2))];
-
-const THRESHOLD_OF_MOST: &[Step] = &[
-    Step::MaxBackground(u16::MAX, Ok(16)),
-    Step::Threshold(9, Ok(49151)),
-];
-
-const GRANULARITIES: &[Step] = &[
     Step::Granularity(10, Ok(1)),
     Step::Granularity(0, Err(1)),
     Step::Granularity(9, Err(1)),
-    Step::Granularity(11, Err(10)),
     Step::Granularity(99, Err(10)),
-    Step::Granularity(100, Ok(10)),
-    Step::Granularity(999_999_999, Err(100_000_000)),
-    Step::Granularity(1_000_000_000, Ok(100)),
+    Step::Granularity(1_000_000_000, Ok(10)),
     Step::Granularity(1_000_000_001, Err(1_000_000_000)),
-    Step::Granularity(u64::MAX, Err(1_000_000_000)),
-    Step::Granularity(1, Ok(1_000_000_000)),
-];
-
-/// Where 1 << 3 and 1 << 49 are offered.
-const CAPABILITIES: &[Step] = &[
-    Step::Capabilities(0, Ok(())),
     Step::Capabilities(1 << 3, Ok(())),
-    Step::Capabilities(1 << 4, Err(1 << 4)),
     Step::Capabilities(1 << 3 | 1 << 4 | 1 << 50, Err(1 << 4)),
     Step::Capabilities(1 << 50, Err(0)),
     Step::Capabilities(1 << 49, Ok(())),
     Step::Capabilities(u64::MAX, Err(0x7ff_ffff_fff7)),
-];
-
-/// What the kernel offers, how far it reads ahead, and what is set then.
-const SETTINGS: &[(u64, u32, &[Step])] = &[
-    (0, 131072, STACK_DEPTHS),
-    (0, 131072, WRITES),
-    (0, 131072, READAHEADS),
-    (0, 0, NO_READAHEADS),
-    (0, 131072, BACKGROUNDS),
-    (0, 131072, THRESHOLDS),
-    (0, 131072, THRESHOLD_OF_ONE),
-    (0, 131072, THRESHOLD_OF_THREE),
-    (0, 131072, THRESHOLD_OF_MOST),
-    (0, 131072, GRANULARITIES),
-    (1 << 3 | 1 << 49, 131072, CAPABILITIES),
 ];
 
 /// A span of so many nanoseconds.
@@ -183,8 +119,9 @@ pub fn offered(capabilities: u64, readahead: u32, minor: u32) -> KernelConfig {
 }
 
 #[test]
-fn each_setter_answers_as_its_row_says(rt: HostRuntime) {
-    for (capabilities, readahead, steps) in SETTINGS {
-        set_all(&rt, &mut offered(*capabilities, *readahead, 40), steps);
-    }
+fn each_setter_answers_as_its_step_says(rt: HostRuntime) {
+    set_all(&rt, &mut offered(1 << 3 | 1 << 49, 131072, 40), STEPS);
+    // of a kernel that reads nothing ahead
+    let none = &[Step::MaxReadahead(0, Err(1)), Step::MaxReadahead(1, Err(0))];
+    set_all(&rt, &mut offered(0, 0, 40), none);
 }

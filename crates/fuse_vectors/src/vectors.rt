@@ -19,8 +19,6 @@ pub(crate) enum Made {
     Time(i128),
     /// The nanoseconds after 1970 of the time of these seconds and nanoseconds.
     SecondsAndNanoseconds(i64, u32),
-    /// The text of an option of a mount. It names that option.
-    Text(Choice),
     /// The places of the options that conflict, of those that these texts name.
     Conflict(&'static [&'static str]),
 }
@@ -56,15 +54,6 @@ pub(crate) enum News {
     Delete(u64, u64, &'static [u8]),
 }
 
-/// An option of a mount.
-pub(crate) enum Choice {
-    FSName(&'static str),
-    Subtype(&'static str),
-    Custom(&'static str),
-    /// The option without a text of its own that has this name. Its text has the variant in front.
-    Plain(&'static str),
-}
-
 /// What is fetched from the arguments of a request.
 pub(crate) enum Fetch {
     /// A name.
@@ -81,7 +70,7 @@ pub(crate) enum Fetch {
 const ARGUMENTS: &[u8] = b"foo\0bar\0ba";
 
 /// INIT, from a kernel of version 7.8.
-const INIT: [u8; 104] = [
+pub(crate) const INIT: [u8; 104] = [
     0x68, 0x00, 0x00, 0x00, 0x1a, 0x00, 0x00, 0x00, 0x0d, 0xf0, 0xad, 0xba, 0xef, 0xbe, 0xad, 0xde,
     0x88, 0x77, 0x66, 0x55, 0x44, 0x33, 0x22, 0x11, 0x0d, 0xd0, 0x01, 0xc0, 0xfe, 0xca, 0x01, 0xc0,
     0x5e, 0xba, 0xde, 0xc0, 0x00, 0x00, 0x00, 0x00, 0x07, 0x00, 0x00, 0x00, 0x08, 0x00, 0x00, 0x00,
@@ -413,6 +402,16 @@ const TIMES: &[Vector] = &[
         Made::Time(-9_223_372_036_854_775_807_800_000_000),
         &[b"-9223372036854775808 200000000"],
     ),
+    (
+        "the last moment",
+        Made::SecondsAndNanoseconds(9_223_372_036_854_775_807, 999_999_999),
+        &[b"9223372036854775807999999999"],
+    ),
+    (
+        "a second before 1970",
+        Made::Time(-1_000_000_000),
+        &[b"-1 0"],
+    ),
 ];
 
 pub(crate) fn times() -> &'static [Vector] {
@@ -436,78 +435,44 @@ const CONFLICTS: &[Vector] = &[
         Made::Conflict(&["suid", "nosuid"]),
         &[b"0 and 1"],
     ),
+    (
+        "places twice",
+        Made::Conflict(&["dev", "dev", "nodev", "nodev"]),
+        &[b"0 and 2"],
+    ),
+    (
+        "one after another",
+        Made::Conflict(&["sync", "ro", "rw", "rw"]),
+        &[b"1 and 2"],
+    ),
 ];
 
 pub(crate) fn conflicts() -> &'static [Vector] {
     CONFLICTS
 }
 
-/// Texts of options.
-const TEXTS: &[Vector] = &[
-    (
-        "fsname",
-        Made::Text(Choice::FSName("Blah")),
-        &[b"fsname=Blah"],
-    ),
-    (
-        "subtype",
-        Made::Text(Choice::Subtype("Bloo")),
-        &[b"subtype=Bloo"],
-    ),
-    ("custom", Made::Text(Choice::Custom("bongos")), &[b"bongos"]),
-    (
-        "auto_unmount",
-        Made::Text(Choice::Plain("auto_unmount")),
-        &[b"AutoUnmount auto_unmount"],
-    ),
-    (
-        "default_permissions",
-        Made::Text(Choice::Plain("default_permissions")),
-        &[b"DefaultPermissions default_permissions"],
-    ),
-    ("dev", Made::Text(Choice::Plain("dev")), &[b"Dev dev"]),
-    (
-        "nodev",
-        Made::Text(Choice::Plain("nodev")),
-        &[b"NoDev nodev"],
-    ),
-    ("suid", Made::Text(Choice::Plain("suid")), &[b"Suid suid"]),
-    (
-        "nosuid",
-        Made::Text(Choice::Plain("nosuid")),
-        &[b"NoSuid nosuid"],
-    ),
-    ("ro", Made::Text(Choice::Plain("ro")), &[b"RO ro"]),
-    ("rw", Made::Text(Choice::Plain("rw")), &[b"RW rw"]),
-    ("exec", Made::Text(Choice::Plain("exec")), &[b"Exec exec"]),
-    (
-        "noexec",
-        Made::Text(Choice::Plain("noexec")),
-        &[b"NoExec noexec"],
-    ),
-    (
-        "atime",
-        Made::Text(Choice::Plain("atime")),
-        &[b"Atime atime"],
-    ),
-    (
-        "noatime",
-        Made::Text(Choice::Plain("noatime")),
-        &[b"NoAtime noatime"],
-    ),
-    (
-        "dirsync",
-        Made::Text(Choice::Plain("dirsync")),
-        &[b"DirSync dirsync"],
-    ),
-    ("sync", Made::Text(Choice::Plain("sync")), &[b"Sync sync"]),
-    (
-        "async",
-        Made::Text(Choice::Plain("async")),
-        &[b"Async async"],
-    ),
+/// Options as `Debug` shows them, and their texts.
+const TEXTS: &[(&str, &str)] = &[
+    ("FSName(OptionText { text: \"Blah\" })", "fsname=Blah"),
+    ("Subtype(OptionText { text: \"Bloo\" })", "subtype=Bloo"),
+    ("CUSTOM(OptionText { text: \"bongos\" })", "bongos"),
+    ("AutoUnmount", "auto_unmount"),
+    ("DefaultPermissions", "default_permissions"),
+    ("Dev", "dev"),
+    ("NoDev", "nodev"),
+    ("Suid", "suid"),
+    ("NoSuid", "nosuid"),
+    ("RO", "ro"),
+    ("RW", "rw"),
+    ("Exec", "exec"),
+    ("NoExec", "noexec"),
+    ("Atime", "atime"),
+    ("NoAtime", "noatime"),
+    ("DirSync", "dirsync"),
+    ("Sync", "sync"),
+    ("Async", "async"),
 ];
 
-pub(crate) fn texts() -> &'static [Vector] {
+pub(crate) fn texts() -> &'static [(&'static str, &'static str)] {
     TEXTS
 }

@@ -5,7 +5,8 @@ ghost use Rattle.fuse_wire.specs.declared.consts.TheConstants.{BUFFER_SIZE};
 use crate::asserts::expect_same;
 use fuse_wire::Received::{Failed, Gone, Message, Retry};
 use fuse_wire::{
-    Items, MemoryBytes, MemorySource, Received, Source, StreamSource, Turn, receive_buffer,
+    Items, MemoryBytes, MemorySource, NoMemory, Received, Source, StreamSource, Turn,
+    receive_buffer,
 };
 use std::alloc::{AllocError, Global};
 use std::process::Abort;
@@ -85,18 +86,6 @@ fn joined(alloc: Global, answers: &[Answer]) -> Result<Vec<u8>, AllocError> {
     Ok(bytes)
 }
 
-/// A stream of the messages, so many bytes at a time, is cut into them.
-fn expect_cut(rt: &impl Abort, alloc: Global, step: usize, buffer: &mut [u8])
-    requires { length buffer.old ≡ BUFFER_SIZE }
-    ensures { length buffer.new ≡ BUFFER_SIZE }
-{
-    let bytes = joined(alloc, MESSAGES).expect(rt, "there is memory");
-    let stream = MemoryBytes::new(bytes, step.max(1), Vec::new(alloc));
-    let mut source = StreamSource::new(stream);
-    expect_answers(rt, alloc, &mut source, buffer, MESSAGES);
-    drop(source.into_inner());
-}
-
 /// The turn of a source in memory that gives this answer. At its end there is none.
 fn turn(rt: &impl Abort, alloc: Global, answer: &Answer) -> Option<Turn> {
     match answer {
@@ -108,26 +97,6 @@ fn turn(rt: &impl Abort, alloc: Global, answer: &Answer) -> Option<Turn> {
         (_, Failed) => Some(Turn::Fail),
         (_, Gone) => None,
     }
-}
-
-/// The turns of a source in memory that give these answers.
-fn turns(rt: &impl Abort, alloc: Global, answers: &[Answer]) -> Vec<Turn> {
-    let mut turns = Vec::new(alloc);
-    for answer in answers {
-        if let Some(turn) = turn(rt, alloc, answer) {
-            turns.push(turn).expect(rt, "there is memory");
-        }
-    }
-    turns
-}
-
-/// A source in memory gives these answers.
-fn expect_turns(rt: &impl Abort, alloc: Global, buffer: &mut [u8], answers: &[Answer])
-    requires { length buffer.old ≡ BUFFER_SIZE }
-    ensures { length buffer.new ≡ BUFFER_SIZE }
-{
-    let mut source = MemorySource::new(turns(rt, alloc, answers));
-    expect_answers(rt, alloc, &mut source, buffer, answers);
 }
 
 /// What three calls of a source give.
@@ -171,114 +140,74 @@ fn expect_read(rt: &impl Abort, alloc: Global, buffer: &mut [u8], stream: &Strea
     );
 }
 
-/// What a source gives.
-enum Case {
-    /// The messages, of a stream that gives so many bytes at a time.
-    Cut(usize),
-    /// These answers, of a source in memory. A Retry before a message changes nothing, and a Fail takes no message.
-    /// After the last turn there is no more.
-    Turns(&'static [Answer]),
-    /// Three answers, of a stream that stands so.
-    Reads(Stream),
-}
-
-const CASES: &[Case] = &[
-    Case::Cut(1),
-    Case::Cut(7),
-    Case::Cut(1000),
-    Case::Turns(MESSAGES),
-    Case::Turns(&[
-        (0, Retry),
-        (7, Message(48)),
-        (0, Retry),
-        (7, Message(40)),
-        (0, Retry),
-        (0, Gone),
-        (0, Gone),
-    ]),
-    Case::Turns(&[
-        (7, Message(48)),
-        (0, Retry),
-        (0, Failed),
-        (0, Gone),
-        (0, Gone),
-    ]),
-    Case::Turns(&[(0, Failed), (0, Gone), (0, Gone)]),
-    Case::Turns(&[
-        (7, Message(40)),
-        (0, Failed),
-        (7, Message(48)),
-        (0, Failed),
-        (0, Gone),
-        (0, Gone),
-    ]),
-    Case::Turns(&[
-        (0, Failed),
-        (0, Failed),
-        (0, Retry),
-        (7, Message(1000)),
-        (0, Gone),
-        (0, Gone),
-    ]),
-    Case::Turns(&[(0, Gone), (0, Gone)]),
-    Case::Reads((48, 48, 1, &[Failed, Message(48), Gone])),
-    Case::Reads((48, 48, 2, &[Failed, Message(8), Gone])),
-    Case::Reads((48, 48, 3, &[Message(48), Failed, Gone])),
-    Case::Reads((48, 48, 4, &[Message(48), Gone, Failed])),
-    // A message is two reads, however long it is.
-    Case::Reads((100_000, 100_000, 3, &[Message(100_000), Failed, Gone])),
-    // What the buffer can't hold is cut off, and stands on the stream as what comes next.
-    Case::Reads((
-        16_781_311,
-        16_781_313,
-        0,
-        &[Message(16_781_311), Message(2), Gone],
-    )),
-    Case::Reads((
-        16_781_312,
-        16_781_313,
-        0,
-        &[Message(16_781_312), Message(1), Gone],
-    )),
-    Case::Reads((
-        16_781_313,
-        16_781_313,
-        0,
-        &[Message(16_781_312), Message(1), Gone],
-    )),
-    Case::Reads((
+/// Streams that end, or whose read fails. A message is two reads, however long it is, and what the buffer can't hold is
+/// cut off and stands on the stream as what comes next.
+const STREAMS: &[Stream] = &[
+    (48, 48, 1, &[Failed, Message(48), Gone]),
+    (48, 48, 2, &[Failed, Message(8), Gone]),
+    (48, 48, 3, &[Message(48), Failed, Gone]),
+    (48, 48, 4, &[Message(48), Gone, Failed]),
+    (100_000, 100_000, 3, &[Message(100_000), Failed, Gone]),
+    (
         u32::MAX,
         16_781_313,
         0,
         &[Message(16_781_312), Message(1), Gone],
-    )),
+    ),
 ];
 
-/// The source gives what the case says.
-fn expect_case(rt: &impl Abort, alloc: Global, buffer: &mut [u8], case: &Case)
-    requires { length buffer.old ≡ BUFFER_SIZE }
-    ensures { length buffer.new ≡ BUFFER_SIZE }
-{
-    match case {
-        Case::Cut(step) => expect_cut(rt, alloc, *step, buffer),
-        Case::Turns(answers) => expect_turns(rt, alloc, buffer, answers),
-        Case::Reads(stream) => expect_read(rt, alloc, buffer, stream),
-    }
-}
-
 #[test]
-fn each_source_gives_what_its_case_says(rt: HostRuntime) {
-    let mut room = receive_buffer(rt.alloc()).expect(&rt, "there is memory");
+fn a_stream_is_cut_into_messages(rt: HostRuntime) -> Result<(), NoMemory> {
+    let mut room = receive_buffer(rt.alloc())?;
     let buffer = room.as_mut_slice();
-    for case in CASES {
-        expect_case(&rt, rt.alloc(), buffer, case);
-    }
+    let bytes = joined(rt.alloc(), MESSAGES)?;
+    let mut source = StreamSource::new(MemoryBytes::new(bytes, 7, Vec::new(rt.alloc())));
+    expect_answers(&rt, rt.alloc(), &mut source, buffer, MESSAGES);
+    drop(source.into_inner());
+    Ok(())
 }
 
 #[test]
-fn a_receive_buffer_is_of_zero_bytes_and_takes_no_more(rt: HostRuntime) {
-    let room = receive_buffer(rt.alloc()).expect(&rt, "there is memory");
+fn a_stream_ends_or_fails_where_it_is_to(rt: HostRuntime) -> Result<(), NoMemory> {
+    let mut room = receive_buffer(rt.alloc())?;
+    let buffer = room.as_mut_slice();
+    for stream in STREAMS {
+        expect_read(&rt, rt.alloc(), buffer, stream);
+    }
+    Ok(())
+}
+
+/// A Retry before a message changes nothing, and a Fail takes no message. After the last turn there is no more.
+const TURNS: &[Answer] = &[
+    (0, Retry),
+    (7, Message(48)),
+    (0, Failed),
+    (0, Retry),
+    (7, Message(40)),
+    (0, Gone),
+    (0, Gone),
+];
+
+#[test]
+fn a_source_in_memory_takes_its_turns(rt: HostRuntime) -> Result<(), NoMemory> {
+    let mut room = receive_buffer(rt.alloc())?;
+    let buffer = room.as_mut_slice();
+    let mut turns = Vec::new(rt.alloc());
+    for answer in TURNS {
+        if let Some(turn) = turn(&rt, rt.alloc(), answer) {
+            turns.push(turn).expect(&rt, "there is memory");
+        }
+    }
+    let mut source = MemorySource::new(turns);
+    expect_answers(&rt, rt.alloc(), &mut source, buffer, TURNS);
+    Ok(())
+}
+
+#[test]
+fn a_receive_buffer_is_of_zero_bytes_and_takes_no_more(rt: HostRuntime) -> Result<(), NoMemory> {
+    let room = receive_buffer(rt.alloc())?;
     let others = room.iter().filter(|byte| **byte != 0).count();
     let found = (room.len(), room.capacity(), others);
     expect_same(&rt, &found, &(16_781_312, 16_781_312, 0));
+    Ok(())
 }

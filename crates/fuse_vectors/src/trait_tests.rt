@@ -1,4 +1,8 @@
-//! What the types of `fuse_wire` are, beside what they hold: a derive that is lost does not compile here.
+//! What types are, beside what they hold: a derive that is lost does not compile here.
+use fuse_request::{
+    CopyFileRangeFile, FilenameInDir, ForgetList, ForgetOne, GetXAttrSize, GetXAttrSizeEnum, Lock,
+    Request, RequestError,
+};
 use fuse_wire::{
     AccessFlags, BsdFileFlags, ByteRead, ByteWrite, CopyFileRangeFlags, CuseInitFlags, Duration,
     Errno, FattrFlags, FileAttr, FileHandle, FileType, FopenFlags, FsyncFlags, Generation,
@@ -32,6 +36,9 @@ fn types_are_what_they_derive() {
     is_hashed::<(ReadFlags, ReleaseFlags)>();
     is_compared::<(Errno, FileAttr, NoMemory, Received)>();
     is_compared::<(Sending, Noting, ByteRead, ByteWrite)>();
+    is_compared::<(Request, RequestError, FilenameInDir<'_>, Lock)>();
+    is_compared::<(CopyFileRangeFile, GetXAttrSize, GetXAttrSizeEnum)>();
+    is_compared::<(ForgetOne, ForgetList<'_>)>();
     is_equal::<Items<u8>>();
     is_shown::<(Turn, MemorySource, MemorySink, MemoryBytes, MemoryOut)>();
     is_shown::<(StdSource<Empty>, StdSink<Sink>)>();
