@@ -1,9 +1,7 @@
 // What is fetched from the bytes of a body: INIT as kernels of several ages send it, names, and parts whose words have
 // their highest bit set.
 use crate::asserts::{expect_same, expect_same_in};
-use fuse_args::{
-    ArgumentIterator, GetLkArguments, IoCtlArguments, LseekArguments, SetAttrArguments,
-};
+use fuse_args::{ArgumentIterator, GetLkArguments, IoCtlArguments, SetAttrArguments};
 use std::process::Abort;
 
 /// Words of 4 bytes, each with the highest bit and 1 more in each byte than the one before, and 3 bytes of the next.
@@ -19,9 +17,13 @@ const BYTES: &[u8] = &[
 /// The fields of INIT: the version, the readahead, and the two words of capabilities.
 fn fetched_init(arguments: &mut ArgumentIterator<'_>) -> Option<[u32; 5]> {
     let init = arguments.fetch_init()?;
-    let version = [init.major, init.minor];
-    let [major, minor] = version;
-    Some([major, minor, init.max_readahead, init.flags, init.flags2])
+    Some([
+        init.major,
+        init.minor,
+        init.max_readahead,
+        init.flags,
+        init.flags2,
+    ])
 }
 
 /// How many bytes of INIT are there, its second word of capabilities, and how many bytes are left.
@@ -87,11 +89,7 @@ macro_rules! signed {
     };
 }
 
-const SIGNED_5: i32 = signed!(one 0x8565_4505);
-
 const SIGNED_9: i32 = signed!(one 0x8969_4909);
-
-const SIGNED_3_4: i64 = signed!(two 0x8464_4404_8363_4303);
 
 const SIGNED_9_10: i64 = signed!(two 0x8a6a_4a0a_8969_4909);
 
@@ -152,18 +150,6 @@ fn is_ioctl_in_place(arguments: &mut ArgumentIterator<'_>) -> bool {
     )
 }
 
-/// Whether LSEEK has its fields at their places.
-fn is_lseek_in_place(arguments: &mut ArgumentIterator<'_>) -> bool {
-    matches!(
-        arguments.fetch_lseek(),
-        Some(LseekArguments {
-            fh: 0x8262_4202_8161_4101,
-            offset: SIGNED_3_4,
-            whence: SIGNED_5,
-        })
-    )
-}
-
 #[test]
 fn fetches_each_bit_and_sign_of_a_part(rt: HostRuntime) {
     let mut arguments = ArgumentIterator::new(BYTES);
@@ -172,7 +158,6 @@ fn fetches_each_bit_and_sign_of_a_part(rt: HostRuntime) {
     let places = [
         is_getlk_in_place(&mut ArgumentIterator::new(BYTES)),
         is_ioctl_in_place(&mut ArgumentIterator::new(BYTES)),
-        is_lseek_in_place(&mut ArgumentIterator::new(BYTES)),
     ];
-    expect_same(&rt, &places, &[true; 3]);
+    expect_same(&rt, &places, &[true; 2]);
 }

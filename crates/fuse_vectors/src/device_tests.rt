@@ -1,119 +1,13 @@
-//! Devices in memory, and frames on a stream.
+//! Frames on a stream, and devices in memory.
 ghost use Rattle.std.specs.Prelude.{◌≡◌, length};
-ghost use Rattle.fuse_wire.specs.MemorySink.{EachFails, NumbersDiffer};
 
 use crate::asserts::{expect_same, expect_same_in};
 use fuse_wire::{
-    ByteRead, ByteSink, ByteSource, ByteWrite, Items, MemoryBytes, MemoryOut, MemorySink, Noting,
-    RequestId, Sending, Sink, StreamSink,
+    ByteSink, ByteWrite, MemoryOut, MemorySink, Noting, RequestId, Sending, Sink, StreamSink,
 };
 use std::alloc::{AllocError, Global};
 use std::process::Abort;
 use std::test::Fail;
-
-/// What a read gives, with a piece of four bytes.
-fn read(stream: &mut MemoryBytes) -> (ByteRead, [u8; 4]) {
-    let mut piece = [0; 4];
-    let answer = stream.read(&mut piece);
-    (answer, piece)
-}
-
-/// How three bytes are read, two at once, where the second read fails.
-const READS: &[(ByteRead, [u8; 4])] = &[
-    (ByteRead::Got(2), [1, 2, 0, 0]),
-    (ByteRead::Failed, [0; 4]),
-    (ByteRead::Got(1), [3, 0, 0, 0]),
-    (ByteRead::End, [0; 4]),
-    (ByteRead::End, [0; 4]),
-];
-
-#[test]
-fn a_read_fails_where_it_is_to(rt: HostRuntime) -> Result<(), AllocError> {
-    let bytes = Vec::from_slice(rt.alloc(), &[1, 2, 3])?;
-    let faults = Vec::from_slice(rt.alloc(), &[9, 2, 2])?;
-    let mut stream = MemoryBytes::new(bytes, 2, faults);
-    for expected in READS {
-        expect_same(&rt, &read(&mut stream), expected);
-    }
-    Ok(())
-}
-
-#[test]
-fn a_write_fails_where_it_is_to(rt: HostRuntime) -> Result<(), AllocError> {
-    let faults = Vec::from_slice(rt.alloc(), &[4, 2])?;
-    let mut stream = MemoryOut::new(rt.alloc(), 2, faults);
-    let answers = [
-        stream.write(&[1, 2, 3]),
-        stream.write(&[1, 2, 3]),
-        stream.write(&[1, 2, 3]),
-        stream.write(&[1, 2, 3]),
-    ];
-    let took = ByteWrite::Wrote(2);
-    let failed = ByteWrite::Failed;
-    expect_same(&rt, &answers, &[took, failed, took, failed]);
-    let held = (stream.bytes(), stream.starved());
-    expect_same(&rt, &held, &([1, 2, 1, 2].as_slice(), 0));
-    Ok(())
-}
-
-/// How three sends of one payload byte each are answered, with a note before each.
-#[tactic(auto, unfolding(fuse_wire::specs::Numbers::number))]
-fn three_sends(sink: &mut MemorySink) -> [(Noting, Sending); 3] {
-    let header = [17, 0, 0, 0, 1, 1, 1, 1, 1, 1, 1, 1, 1, 1, 1, 1];
-    [
-        (sink.note(RequestId(9), 1), sink.send(&header, &[0])),
-        (sink.note(RequestId(8), 2), sink.send(&header, &[1])),
-        (sink.note(RequestId(7), 3), sink.send(&header, &[2])),
-    ]
-}
-
-/// What a sink holds: its frames, joined, and how many they are.
-fn held(alloc: Global, frames: &[Items<u8>]) -> Result<(Vec<u8>, usize), AllocError> {
-    let mut bytes = Vec::new(alloc);
-    for frame in frames {
-        bytes.extend_from_slice(frame.as_slice())?;
-    }
-    Ok((bytes, frames.len()))
-}
-
-/// Three sends are answered so, where these fail, and the sink holds these frames, joined, which are so many.
-fn expect_answers(
-    rt: &impl Abort,
-    alloc: Global,
-    faults: &[(u64, Sending)],
-    answers: [Sending; 3],
-    frames: (&[u8], usize),
-)
-    requires numbers { NumbersDiffer faults.now }
-    requires answers { EachFails faults.now }
-{
-    let faults = Vec::from_slice(alloc, faults).expect(rt, "there is memory");
-    let mut sink = MemorySink::new(alloc, faults);
-    let expected = answers.map(|answer| (Noting::Sent, answer));
-    expect_same(rt, &three_sends(&mut sink), &expected);
-    let notes = [(RequestId(9), 1), (RequestId(8), 2), (RequestId(7), 3)];
-    expect_same(rt, &(sink.notes(), sink.starved()), &(notes.as_slice(), 0));
-    let (bytes, count) = held(alloc, sink.frames()).expect(rt, "there is memory");
-    expect_same(rt, &(bytes.as_slice(), count), &frames);
-}
-
-const ALL: &[u8] = &[
-    17, 0, 0, 0, 1, 1, 1, 1, 1, 1, 1, 1, 1, 1, 1, 1, 0, 17, 0, 0, 0, 1, 1, 1, 1, 1, 1, 1, 1, 1, 1,
-    1, 1, 1, 17, 0, 0, 0, 1, 1, 1, 1, 1, 1, 1, 1, 1, 1, 1, 1, 2,
-];
-
-#[test]
-fn keeps_frames_and_notes_and_answers_as_the_list_says(rt: HostRuntime) {
-    use Sending::{Absent, Failed, Sent};
-    expect_answers(&rt, rt.alloc(), &[], [Sent, Sent, Sent], (ALL, 3));
-    expect_answers(
-        &rt,
-        rt.alloc(),
-        &[(3, Failed), (1, Absent)],
-        [Absent, Sent, Failed],
-        (&ALL[17..34], 1),
-    );
-}
 
 /// What stands on the stream where all of three frames were written.
 const FRAMES: &[u8] = &[
@@ -210,7 +104,9 @@ fn a_long_frame_finds_memory_and_is_two_writes(rt: HostRuntime) -> Result<(), Al
     let payload = vec![in rt.alloc(); 7; MANY]?;
     let mut kept = MemorySink::new(rt.alloc(), Vec::new(rt.alloc()));
     let answers = long_frame_twice(&mut kept, &payload);
-    expect_same(&rt, &(answers, kept.starved()), &([Sending::Sent; 2], 0));
+    let noted = kept.note(RequestId(9), 1);
+    let found = (answers, noted, kept.starved());
+    expect_same(&rt, &found, &([Sending::Sent; 2], Noting::Sent, 0));
     let faults = Vec::from_slice(rt.alloc(), &[3])?;
     let mut sink = StreamSink::new(MemoryOut::new(rt.alloc(), usize::MAX, faults));
     let answers = long_frame_twice(&mut sink, &payload);

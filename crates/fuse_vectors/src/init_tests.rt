@@ -1,8 +1,8 @@
-// The INIT reply's bytes, what a kernel offers, and a fresh configuration.
+// The INIT reply's bytes, and what a kernel offers.
 use crate::asserts::expect_same;
 use crate::setter_tests::{Step, offered, set_all};
 use bitflags::Flags;
-use fuse_config::{Config, SessionACL, version_reply};
+use fuse_config::version_reply;
 use fuse_wire::{InitFlags, Version};
 use std::process::Abort;
 
@@ -143,15 +143,4 @@ const LATER: &[u8] = &[
 #[test]
 fn answers_a_later_version(rt: HostRuntime) {
     expect_same(&rt, &version_reply().as_slice(), &LATER);
-}
-
-#[test]
-fn serves_the_owner_by_one_thread(rt: HostRuntime) {
-    let config = Config::new(rt.alloc());
-    let options = config.mount_options.as_slice().len();
-    expect_same(
-        &rt,
-        &(config.acl, config.n_threads, options, config.clone_fd),
-        &(SessionACL::Owner, None, 0, false),
-    );
 }

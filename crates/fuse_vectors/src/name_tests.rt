@@ -222,21 +222,3 @@ fn texts_are_decimal_and_padded(rt: HostRuntime) {
         expect_same(&rt, &text.as_str(), expected);
     }
 }
-
-/// A bit without a name is kept where it is told to, and belongs to no named set.
-#[test]
-fn sets_go_bit_by_bit(rt: HostRuntime) {
-    let size = FattrFlags::FATTR_SIZE;
-    let odd = FattrFlags::from_bits_retain(0x1008);
-    let bits = [
-        FattrFlags::all().bits(),
-        ReadFlags::all().bits(),
-        odd.bits(),
-        odd.complement().bits(),
-        odd.difference(size).bits(),
-        FattrFlags::from_bits_truncate(0x1008).bits(),
-    ];
-    expect_same(&rt, &bits, &[0x7ff, 2, 0x1008, 0x7f7, 0x1000, 8]);
-    let read = [FattrFlags::from_bits(0x1008), FattrFlags::from_bits(8)];
-    expect_same(&rt, &read, &[None, Some(size)]);
-}

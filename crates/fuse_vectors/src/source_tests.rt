@@ -1,13 +1,10 @@
-//! Messages from a stream of bytes, and from memory.
+//! Messages from a stream of bytes.
 ghost use Rattle.std.specs.Prelude.{◌≡◌, length};
 ghost use Rattle.fuse_wire.specs.declared.consts.TheConstants.{BUFFER_SIZE};
 
 use crate::asserts::expect_same;
-use fuse_wire::Received::{Failed, Gone, Message, Retry};
-use fuse_wire::{
-    Items, MemoryBytes, MemorySource, NoMemory, Received, Source, StreamSource, Turn,
-    receive_buffer,
-};
+use fuse_wire::Received::{Failed, Gone, Message};
+use fuse_wire::{MemoryBytes, NoMemory, Received, Source, StreamSource, receive_buffer};
 use std::alloc::{AllocError, Global};
 use std::process::Abort;
 
@@ -31,10 +28,10 @@ fn message(rt: &impl Abort, alloc: Global, field: u32, size: usize) -> Vec<u8> {
 }
 
 /// The source answers so, and a message is the bytes of its size.
-fn expect_answer<S: Source>(
+fn expect_answer(
     rt: &impl Abort,
     alloc: Global,
-    source: &mut S,
+    source: &mut StreamSource<MemoryBytes>,
     buffer: &mut [u8],
     answer: &Answer,
 )
@@ -46,22 +43,6 @@ fn expect_answer<S: Source>(
     if let Message(size) = answer {
         let message = message(rt, alloc, *field, *size);
         expect_same(rt, &buffer.get(..*size), &Some(message.as_slice()));
-    }
-}
-
-/// The source gives these answers.
-fn expect_answers<S: Source>(
-    rt: &impl Abort,
-    alloc: Global,
-    source: &mut S,
-    buffer: &mut [u8],
-    answers: &[Answer],
-)
-    requires { length buffer.old ≡ BUFFER_SIZE }
-    ensures { length buffer.new ≡ BUFFER_SIZE }
-{
-    for answer in answers {
-        expect_answer(rt, alloc, source, buffer, answer);
     }
 }
 
@@ -86,21 +67,8 @@ fn joined(alloc: Global, answers: &[Answer]) -> Result<Vec<u8>, AllocError> {
     Ok(bytes)
 }
 
-/// The turn of a source in memory that gives this answer. At its end there is none.
-fn turn(rt: &impl Abort, alloc: Global, answer: &Answer) -> Option<Turn> {
-    match answer {
-        (field, Message(size)) => {
-            let message = message(rt, alloc, *field, *size);
-            Some(Turn::Message(Items::from_vec(message)))
-        }
-        (_, Retry) => Some(Turn::Retry),
-        (_, Failed) => Some(Turn::Fail),
-        (_, Gone) => None,
-    }
-}
-
 /// What three calls of a source give.
-fn three_answers<S: Source>(source: &mut S, buffer: &mut [u8]) -> [Received; 3]
+fn three_answers(source: &mut StreamSource<MemoryBytes>, buffer: &mut [u8]) -> [Received; 3]
     requires { length buffer.old ≡ BUFFER_SIZE }
     ensures { length buffer.new ≡ BUFFER_SIZE }
 {
@@ -162,7 +130,9 @@ fn a_stream_is_cut_into_messages(rt: HostRuntime) -> Result<(), NoMemory> {
     let buffer = room.as_mut_slice();
     let bytes = joined(rt.alloc(), MESSAGES)?;
     let mut source = StreamSource::new(MemoryBytes::new(bytes, 7, Vec::new(rt.alloc())));
-    expect_answers(&rt, rt.alloc(), &mut source, buffer, MESSAGES);
+    for answer in MESSAGES {
+        expect_answer(&rt, rt.alloc(), &mut source, buffer, answer);
+    }
     drop(source.into_inner());
     Ok(())
 }
@@ -174,32 +144,6 @@ fn a_stream_ends_or_fails_where_it_is_to(rt: HostRuntime) -> Result<(), NoMemory
     for stream in STREAMS {
         expect_read(&rt, rt.alloc(), buffer, stream);
     }
-    Ok(())
-}
-
-/// A Retry before a message changes nothing, and a Fail takes no message. After the last turn there is no more.
-const TURNS: &[Answer] = &[
-    (0, Retry),
-    (7, Message(48)),
-    (0, Failed),
-    (0, Retry),
-    (7, Message(40)),
-    (0, Gone),
-    (0, Gone),
-];
-
-#[test]
-fn a_source_in_memory_takes_its_turns(rt: HostRuntime) -> Result<(), NoMemory> {
-    let mut room = receive_buffer(rt.alloc())?;
-    let buffer = room.as_mut_slice();
-    let mut turns = Vec::new(rt.alloc());
-    for answer in TURNS {
-        if let Some(turn) = turn(&rt, rt.alloc(), answer) {
-            turns.push(turn).expect(&rt, "there is memory");
-        }
-    }
-    let mut source = MemorySource::new(turns);
-    expect_answers(&rt, rt.alloc(), &mut source, buffer, TURNS);
     Ok(())
 }
 
