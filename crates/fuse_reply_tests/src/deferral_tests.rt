@@ -5,17 +5,13 @@ ghost use Rattle.fuse_line.specs.declared.hand.Kind.TheVariants.{First};
 ghost use Rattle.fuse_reply.specs.Late.{IsFrameFor};
 
 use crate::asserts::expect_same;
-use crate::frames::{
-    ATTRIBUTES, BLOCK_SIZE, ENTRY_FRONT, ID, Parts, attributes, expect_sent, sent, short, told,
-    whole_or_starved,
-};
-use crate::retire_each;
+use crate::frames::{ID, ID_BYTES, Parts, expect_sent, sent, told, whole_or_starved, within};
 use fuse_line::{Class, Line, Pass};
 use fuse_reply::{
-    Door, EndMark, EndNote, Held, LateRefusal, Later, NoDoor, Out, OutEnd, Parcel, Replied,
-    ReplyData, ReplyDirectory, ReplyEmpty, ReplyEntry, Seal,
+    Door, EndMark, EndNote, LateRefusal, Later, NoDoor, Out, OutEnd, Parcel, Replied, ReplyData,
+    ReplyEmpty, Seal,
 };
-use fuse_wire::{Duration, Errno, FileType, Generation, INodeNo, RequestId};
+use fuse_wire::RequestId;
 use std::alloc::Global;
 use std::process::Abort;
 use std::sync::{Arc, Wait};
@@ -64,21 +60,6 @@ fn put_off<R: Wait>(rt: &R, reply: ReplyEmpty) -> Result<Option<(u64, RequestId)
         Ok((replied, later)) => {
             let (reply, token) = later.reply();
             token.send_or_retire(rt, reply.ok());
-            Ok(mark_of(&replied.into_out()))
-        }
-        Err((reply, none)) => {
-            drop(reply.ok().into_out());
-            Err(none)
-        }
-    }
-}
-
-/// The same of a listing, which fails later.
-fn fail_later<R: Wait>(rt: &R, reply: ReplyDirectory) -> Result<Option<(u64, RequestId)>, NoDoor> {
-    match reply.defer() {
-        Ok((replied, later)) => {
-            let (reply, token) = later.reply();
-            token.send_or_retire(rt, reply.error(Errno::EINTR));
             Ok(mark_of(&replied.into_out()))
         }
         Err((reply, none)) => {
@@ -165,99 +146,32 @@ fn late_in(waits: &Option<Parcel>) -> Option<(u64, RequestId, bool)> {
     }
 }
 
-/// What goes out at once for a reply that was put off, the reply, and the token to send it by.
-fn parted<K: Held>(
-    rt: &impl Abort,
-    put: Result<(Replied, Later<K>), (K, NoDoor)>,
-) -> (Out, K, Later<()>)
-    ensures { K.id_or result.1 result.2.id.0 ≡ result.2.id.0 }
+/// The mark that goes out at once for a reply of bytes, which come later.
+fn carry_later<R: Wait + Abort>(rt: &R, reply: ReplyData, bytes: &[u8]) -> Option<(u64, RequestId)>
+    requires { length bytes.now ≤ 16777217 }
 {
-    match put {
-        Ok((replied, later)) => {
-            let (reply, token) = later.reply();
-            (replied.into_out(), reply, token)
-        }
-        Err(_back) => panic!(rt; "there is a door"),
-    }
-}
-
-/// What goes out at once for a reply of bytes, which come later.
-fn carry_later<R: Wait + Abort>(rt: &R, reply: ReplyData, bytes: &[u8]) -> Out
-    requires { length bytes.now ≤ 1024 }
-{
-    let (out, reply, token) = parted(rt, reply.defer());
-    token.send_or_retire(rt, reply.data(bytes));
-    out
-}
-
-/// The same for a reply of what a name leads to.
-fn look_up_later<R: Wait + Abort>(rt: &R, reply: ReplyEntry) -> Out {
-    let (out, reply, token) = parted(rt, reply.defer());
-    let ttl = Duration::new(0x8765, 0x4321);
-    token.send_or_retire(rt, reply.entry(&ttl, &attributes(), Generation(0xaa)));
-    out
-}
-
-/// The same for a listing, which has an entry when it is put off.
-fn list_later<R: Wait + Abort>(rt: &R, alloc: Global, door: Door) -> Out {
-    let mut reply = ReplyDirectory::new(alloc, ID, 100).with_door(Ok(door));
-    let Ok(false) = reply.add(INodeNo(5), 1, FileType::RegularFile, b"a") else {
-        panic!(rt; "there is room");
-    };
     let (replied, later) = match reply.defer() {
         Ok(put) => put,
         Err(_back) => panic!(rt; "there is a door"),
     };
     let (reply, token) = later.reply();
-    token.send_or_retire(rt, reply.ok());
-    replied.into_out()
+    token.send_or_retire(rt, reply.data(bytes));
+    mark_of(&replied.into_out())
 }
 
-/// What a reply is answered by that comes later.
-enum Late {
-    /// Its status alone.
-    Done,
-    /// An error, where a directory was to be listed, and has an entry.
-    NoListing,
-    /// This entry.
-    Listing,
-    /// Bytes.
-    Data(&'static [u8]),
-    /// What a name leads to.
-    Entry,
-}
-
-/// The mark of a reply that is put off through this door, and answered so.
-fn put_off_through<R: Wait + Abort>(
-    rt: &R,
-    alloc: Global,
-    door: Door,
-    late: &Late,
-) -> Result<Option<(u64, RequestId)>, NoDoor> {
-    let out = match late {
-        Late::Done => return put_off(rt, ReplyEmpty::new(alloc, ID).with_door(Ok(door))),
-        Late::NoListing => {
-            let mut reply = ReplyDirectory::new(alloc, ID, 100).with_door(Ok(door));
-            let added = reply.add(INodeNo(5), 1, FileType::RegularFile, b"a");
-            expect_same(rt, &added, &Ok(false));
-            return fail_later(rt, reply);
-        }
-        Late::Listing => list_later(rt, alloc, door),
-        Late::Data(bytes) => {
-            let reply = ReplyData::new(alloc, ID).with_door(Ok(door));
-            carry_later(rt, reply, short(rt, bytes))
-        }
-        Late::Entry => look_up_later(rt, ReplyEntry::new(alloc, ID).with_door(Ok(door))),
-    };
-    Ok(mark_of(&out))
-}
-
-/// What waits of a reply that is put off and answered so. Its mark goes out at once, and its frame is queued, once, both
-/// under the message's number.
-fn queued<R: Wait + Abort>(rt: &R, alloc: Global, late: &Late) -> Option<Parcel> {
+/// What waits of a reply that is put off, and then answered by these bytes, or by its status alone. Its mark goes out at
+/// once, and its frame is queued, once, both under the message's number.
+fn queued<R: Wait + Abort>(rt: &R, alloc: Global, bytes: Option<&[u8]>) -> Option<Parcel> {
     let (mut desk, seal, door) = desk_of(rt, alloc, 2);
     drop(seal);
-    let mark = put_off_through(rt, alloc, door, late);
+    let door = Ok(door);
+    let mark = match bytes {
+        Some(bytes) => {
+            let reply = ReplyData::new(alloc, ID).with_door(door);
+            Ok(carry_later(rt, reply, within(rt, bytes)))
+        }
+        None => put_off(rt, ReplyEmpty::new(alloc, ID).with_door(door)),
+    };
     let waits = desk.line.pop(rt, &mut desk.first);
     let is_alone = desk.line.pop(rt, &mut desk.first).is_none();
     expect_same(
@@ -277,68 +191,30 @@ fn late_out(waits: Option<Parcel>) -> Out {
 }
 
 /// The frame that is queued of such a reply is this.
-fn expect_queued<R: Wait + Abort>(rt: &R, alloc: Global, late: &Late, frame: &[&[u8]]) {
-    let (sink, end) = sent(alloc, late_out(queued(rt, alloc, late)));
+fn expect_queued<R: Wait + Abort>(rt: &R, alloc: Global, bytes: Option<&[u8]>, frame: &[&[u8]]) {
+    let (sink, end) = sent(alloc, late_out(queued(rt, alloc, bytes)));
     expect_sent(rt, alloc, &sink, end, frame);
 }
 
-/// Answers that come later, and their frames.
-const LATE: &[(Late, Parts)] = &[
-    (
-        Late::Done,
-        &[&[16, 0, 0, 0, 0, 0, 0, 0, 0xef, 0xbe, 0xad, 0xde, 0, 0, 0, 0]],
-    ),
-    (
-        Late::NoListing,
-        &[&[
-            16, 0, 0, 0, 0xfc, 0xff, 0xff, 0xff, 0xef, 0xbe, 0xad, 0xde, 0, 0, 0, 0,
-        ]],
-    ),
-    (
-        Late::Listing,
-        &[&[
-            48, 0, 0, 0, 0, 0, 0, 0, 0xef, 0xbe, 0xad, 0xde, 0, 0, 0, 0, 5, 0, 0, 0, 0, 0, 0, 0, 1,
-            0, 0, 0, 0, 0, 0, 0, 1, 0, 0, 0, 8, 0, 0, 0, 0x61, 0, 0, 0, 0, 0, 0, 0,
-        ]],
-    ),
-    (
-        Late::Data(&[0xde, 0xad, 0xbe, 0xef]),
-        &[&[
-            20, 0, 0, 0, 0, 0, 0, 0, 0xef, 0xbe, 0xad, 0xde, 0, 0, 0, 0, 0xde, 0xad, 0xbe, 0xef,
-        ]],
-    ),
-    (
-        Late::Entry,
-        &[
-            &[
-                0x90, 0, 0, 0, 0, 0, 0, 0, 0xef, 0xbe, 0xad, 0xde, 0, 0, 0, 0,
-            ],
-            ENTRY_FRONT,
-            ATTRIBUTES,
-            BLOCK_SIZE,
-        ],
-    ),
-];
-
 #[test]
 fn late_frames_are_queued_under_their_numbers(rt: HostRuntime) {
-    for (late, frame) in LATE {
-        expect_queued(&rt, rt.alloc(), late, frame);
-    }
+    let alloc = rt.alloc();
+    let done: &[u8] = &[16, 0, 0, 0, 0, 0, 0, 0];
+    expect_queued(&rt, alloc, None, &[done, ID_BYTES]);
+    let bytes: &[u8] = &[0xde, 0xad, 0xbe, 0xef];
+    let front: &[u8] = &[20, 0, 0, 0, 0, 0, 0, 0];
+    expect_queued(&rt, alloc, Some(bytes), &[front, ID_BYTES, bytes]);
 }
 
 /// An answer that takes memory.
-const LONG: Late = Late::Data(&[7; 200]);
+const LONG: Option<&[u8]> = Some(&[7; 200]);
 
-/// The header and the payload of its frame.
-const LONG_FRAME: Parts = &[
-    &[216, 0, 0, 0, 0, 0, 0, 0, 0xef, 0xbe, 0xad, 0xde, 0, 0, 0, 0],
-    &[7; 200],
-];
+/// Its frame.
+const LONG_FRAME: Parts = &[&[216, 0, 0, 0, 0, 0, 0, 0], ID_BYTES, &[7; 200]];
 
 #[test]
 fn many_late_bytes_are_queued_whole(rt: HostRuntime) {
-    expect_queued(&rt, rt.alloc(), &LONG, LONG_FRAME);
+    expect_queued(&rt, rt.alloc(), LONG, LONG_FRAME);
 }
 
 /// Takes the whole frame, and the error's. Where the script `checks/refused-memory` refuses the memory of the answer, it
@@ -346,7 +222,7 @@ fn many_late_bytes_are_queued_whole(rt: HostRuntime) {
 #[test]
 fn many_late_bytes_are_queued_whole_or_by_the_want_of_memory(rt: HostRuntime) {
     let alloc = rt.alloc();
-    let (sink, end) = sent(alloc, late_out(queued(&rt, alloc, &LONG)));
+    let (sink, end) = sent(alloc, late_out(queued(&rt, alloc, LONG)));
     assert!(&rt; end != OutEnd::Lost, "there is memory");
     let frame = whole_or_starved(told(&sink, end).1, LONG_FRAME);
     expect_sent(&rt, alloc, &sink, end, frame);
@@ -367,13 +243,7 @@ fn a_full_line_and_the_end_of_a_run_refuse_it(rt: HostRuntime) {
 fn replies_to_two_runs_are_let_go_by_their_own_notes(rt: HostRuntime) {
     let (token, replied, note) = refused_at_the_end(&rt, rt.alloc(), 3);
     let (other_token, other_replied, other_note) = refused_at_the_end(&rt, rt.alloc(), 5);
-    retire_each(
-        token,
-        replied,
-        &note,
-        other_token,
-        other_replied,
-        &other_note,
-    );
+    token.retire(replied, &note);
+    other_token.retire(other_replied, &other_note);
     expect_same(&rt, &(note.taken(), other_note.taken()), &(3, 5));
 }

@@ -1,10 +1,9 @@
 // What directory replies carry, as bytes.
 use crate::asserts::expect_same;
 use crate::frames::{
-    ATTRIBUTES, BLOCK_SIZE, ENTRY_FRONT, ID, Numbers, Parts, WIDE_ATTRIBUTES, WIDE_ENTRY_FRONT,
-    carries, entry_of, short,
+    ATTRIBUTES, BLOCK_SIZE, ENTRY_FRONT, Entry, ID, Parts, WIDE_ATTRIBUTES, WIDE_ENTRY_FRONT,
+    carries, entry, many, wide_entry, within,
 };
-use fuse_reply::laws::{listings_give_their_entries_back, plus_listings_split_in_one_way};
 use fuse_reply::{ReplyDirectory, ReplyDirectoryPlus};
 use fuse_wire::{FileType, INodeNo, NoMemory};
 use std::alloc::{AllocError, Global};
@@ -12,15 +11,22 @@ use std::process::Abort;
 
 /// An entry that a listing is to take: its inode, the offset after it, what kind of file it is, its name, and whether
 /// it does not fit.
-type Entry = (u64, u64, FileType, &'static [u8], bool);
+type Listed = (u64, u64, FileType, &'static [u8], bool);
 
 /// How many bytes a listing may have, the entries that it is to take, and its payload then.
-type Listing = (usize, &'static [Entry], Parts);
+type Listing = (usize, &'static [Listed], Parts);
 
-/// Listings of no entries, of two, and of two of five, of which a shorter one fits where another did not; and of each
-/// kind of file.
+/// Listings of no entries, of one, of two, and of two of five, of which a shorter one fits where another did not.
 const LISTINGS: &[Listing] = &[
     (0, &[(1, 1, FileType::Directory, b"", true)], &[]),
+    (
+        100,
+        &[(5, 1, FileType::RegularFile, b"a", false)],
+        &[&[
+            5, 0, 0, 0, 0, 0, 0, 0, 1, 0, 0, 0, 0, 0, 0, 0, 1, 0, 0, 0, 8, 0, 0, 0, 0x61, 0, 0, 0,
+            0, 0, 0, 0,
+        ]],
+    ),
     (
         4096,
         &[
@@ -48,159 +54,95 @@ const LISTINGS: &[Listing] = &[
             0, 0, 0, 10, 0, 0, 0,
         ]],
     ),
-    (
-        24,
-        &[(0, 0, FileType::NamedPipe, b"", false)],
-        &[&[0; 20], &[1, 0, 0, 0]],
-    ),
-    (
-        24,
-        &[(0, 0, FileType::CharDevice, b"", false)],
-        &[&[0; 20], &[2, 0, 0, 0]],
-    ),
-    (
-        24,
-        &[(0, 0, FileType::Directory, b"", false)],
-        &[&[0; 20], &[4, 0, 0, 0]],
-    ),
-    (
-        24,
-        &[(0, 0, FileType::BlockDevice, b"", false)],
-        &[&[0; 20], &[6, 0, 0, 0]],
-    ),
-    (
-        24,
-        &[(0, 0, FileType::RegularFile, b"", false)],
-        &[&[0; 20], &[8, 0, 0, 0]],
-    ),
-    (
-        24,
-        &[(0, 0, FileType::Symlink, b"", false)],
-        &[&[0; 20], &[10, 0, 0, 0]],
-    ),
-    (
-        24,
-        &[(0, 0, FileType::Socket, b"", false)],
-        &[&[0; 20], &[12, 0, 0, 0]],
-    ),
 ];
 
-/// Listings of one entry, whose name is padded to a multiple of eight bytes, and of a byte less, in which it does not
-/// fit.
-const PADDED: &[Listing] = &[
-    (
-        24,
-        &[(u64::MAX, u64::MAX, FileType::Socket, b"", false)],
-        &[&[0xff; 16], &[0, 0, 0, 0, 12, 0, 0, 0]],
-    ),
-    (
-        23,
-        &[(u64::MAX, u64::MAX, FileType::Socket, b"", true)],
-        &[],
-    ),
-    (
-        32,
-        &[(u64::MAX, u64::MAX, FileType::Socket, &[7], false)],
-        &[&[0xff; 16], &[1, 0, 0, 0, 12, 0, 0, 0], &[7], &[0; 7]],
-    ),
-    (
-        31,
-        &[(u64::MAX, u64::MAX, FileType::Socket, &[7], true)],
-        &[],
-    ),
-    (
-        32,
-        &[(u64::MAX, u64::MAX, FileType::Socket, &[7; 7], false)],
-        &[&[0xff; 16], &[7, 0, 0, 0, 12, 0, 0, 0], &[7; 7], &[0]],
-    ),
-    (
-        31,
-        &[(u64::MAX, u64::MAX, FileType::Socket, &[7; 7], true)],
-        &[],
-    ),
-    (
-        32,
-        &[(u64::MAX, u64::MAX, FileType::Socket, &[7; 8], false)],
-        &[&[0xff; 16], &[8, 0, 0, 0, 12, 0, 0, 0], &[7; 8]],
-    ),
-    (
-        31,
-        &[(u64::MAX, u64::MAX, FileType::Socket, &[7; 8], true)],
-        &[],
-    ),
-    (
-        40,
-        &[(u64::MAX, u64::MAX, FileType::Socket, &[7; 9], false)],
-        &[&[0xff; 16], &[9, 0, 0, 0, 12, 0, 0, 0], &[7; 9], &[0; 7]],
-    ),
-    (
-        39,
-        &[(u64::MAX, u64::MAX, FileType::Socket, &[7; 9], true)],
-        &[],
-    ),
-    (
-        280,
-        &[(u64::MAX, u64::MAX, FileType::Socket, &[7; 255], false)],
-        &[&[0xff; 16], &[255, 0, 0, 0, 12, 0, 0, 0], &[7; 255], &[0]],
-    ),
-    (
-        279,
-        &[(u64::MAX, u64::MAX, FileType::Socket, &[7; 255], true)],
-        &[],
-    ),
-    (
-        280,
-        &[(u64::MAX, u64::MAX, FileType::Socket, &[7; 256], false)],
-        &[&[0xff; 16], &[0, 1, 0, 0, 12, 0, 0, 0], &[7; 256]],
-    ),
-    (
-        279,
-        &[(u64::MAX, u64::MAX, FileType::Socket, &[7; 256], true)],
-        &[],
-    ),
-    (
-        1048,
-        &[(u64::MAX, u64::MAX, FileType::Socket, &[7; 1024], false)],
-        &[&[0xff; 16], &[0, 4, 0, 0, 12, 0, 0, 0], &[7; 1024]],
-    ),
-    (
-        1047,
-        &[(u64::MAX, u64::MAX, FileType::Socket, &[7; 1024], true)],
-        &[],
-    ),
+/// Kinds of files, and the types of their entries.
+const TYPES: &[(FileType, u8)] = &[
+    (FileType::NamedPipe, 1),
+    (FileType::CharDevice, 2),
+    (FileType::Directory, 4),
+    (FileType::BlockDevice, 6),
+    (FileType::RegularFile, 8),
+    (FileType::Symlink, 10),
+    (FileType::Socket, 12),
+];
+
+/// How many bytes names have, these as bytes, and how many zero bytes stand behind such a name.
+const PADDED: &[(usize, [u8; 4], usize)] = &[
+    (0, [0, 0, 0, 0], 0),
+    (1, [1, 0, 0, 0], 7),
+    (7, [7, 0, 0, 0], 1),
+    (8, [8, 0, 0, 0], 0),
+    (9, [9, 0, 0, 0], 7),
+    (255, [255, 0, 0, 0], 1),
+    (256, [0, 1, 0, 0], 0),
+    (1024, [0, 4, 0, 0], 0),
 ];
 
 /// The entry is taken, or does not fit, as its row says.
-fn add(rt: &impl Abort, reply: &mut ReplyDirectory, entry: &Entry) {
-    let (ino, offset, kind, name, full) = entry;
-    let found = reply.add(INodeNo(*ino), *offset, *kind, short(rt, name));
+fn add(rt: &impl Abort, reply: &mut ReplyDirectory, listed: &Listed) {
+    let (ino, offset, kind, name, full) = listed;
+    let found = reply.add(INodeNo(*ino), *offset, *kind, within(rt, name));
     expect_same(rt, &(*name, found), &(*name, Ok(*full)));
 }
 
-/// The listing of so many bytes that was to take these entries.
-fn listed(rt: &impl Abort, alloc: Global, size: usize, entries: &[Entry]) -> ReplyDirectory {
-    let mut reply = ReplyDirectory::new(alloc, ID, size);
-    for entry in entries {
-        add(rt, &mut reply, entry);
+/// The listing carries its payload.
+fn expect_listing(rt: &impl Abort, alloc: Global, listing: &Listing) {
+    let (size, entries, payload) = listing;
+    let mut reply = ReplyDirectory::new(alloc, ID, *size);
+    for listed in *entries {
+        add(rt, &mut reply, listed);
     }
-    expect_same(rt, &reply.size(), &size);
-    reply
+    carries(rt, alloc, reply.ok(), payload);
 }
 
-/// Each listing carries its payload.
-fn expect_listings(rt: &(impl Abort + AllocGlobal), rows: &[Listing]) {
-    for (size, entries, payload) in rows {
-        let reply = listed(rt, rt.alloc(), *size, entries);
-        carries(rt, rt.alloc(), reply.ok(), payload);
-    }
+/// The listing of so many bytes that was to take an entry of this kind and name, and whether it did not fit.
+fn list_one(
+    rt: &impl Abort,
+    alloc: Global,
+    size: usize,
+    number: u64,
+    kind: FileType,
+    name: &[u8],
+) -> (ReplyDirectory, Result<bool, NoMemory>) {
+    let mut reply = ReplyDirectory::new(alloc, ID, size);
+    let found = reply.add(INodeNo(number), number, kind, within(rt, name));
+    (reply, found)
+}
+
+/// An entry whose name has so many bytes fits where it does not in a byte less.
+fn expect_padded(rt: &impl Abort, alloc: Global, count: usize, length: &[u8; 4], zeros: usize) {
+    let name = many(rt, alloc, count);
+    let size = count.saturating_add(zeros).saturating_add(24);
+    let less = size.saturating_sub(1);
+    let (reply, full) = list_one(rt, alloc, less, u64::MAX, FileType::Socket, &name);
+    expect_same(rt, &(count, full), &(count, Ok(true)));
+    carries(rt, alloc, reply.ok(), &[]);
+    let (reply, full) = list_one(rt, alloc, size, u64::MAX, FileType::Socket, &name);
+    expect_same(rt, &(count, full), &(count, Ok(false)));
+    let head: &[u8] = &[0xff; 16];
+    let zeros = [0; 8].get(..zeros).unwrap_or(&[]);
+    carries(
+        rt,
+        alloc,
+        reply.ok(),
+        &[head, length, &[12, 0, 0, 0], &name, zeros],
+    );
 }
 
 #[test]
 fn each_listing_carries_the_entries_that_fit(rt: HostRuntime) {
-    listings_give_their_entries_back();
-    plus_listings_split_in_one_way();
-    expect_listings(&rt, LISTINGS);
-    expect_listings(&rt, PADDED);
+    let alloc = rt.alloc();
+    for listing in LISTINGS {
+        expect_listing(&rt, alloc, listing);
+    }
+    for (kind, number) in TYPES {
+        let (reply, _) = list_one(&rt, alloc, 24, 0, *kind, b"");
+        carries(&rt, alloc, reply.ok(), &[&[0; 20], &[*number, 0, 0, 0]]);
+    }
+    for (count, length, zeros) in PADDED {
+        expect_padded(&rt, alloc, *count, length, *zeros);
+    }
 }
 
 /// The last four decimal digits of a number.
@@ -248,49 +190,37 @@ fn list_many(reply: &mut ReplyDirectory) -> Result<u16, NoMemory> {
     Ok(40_000)
 }
 
-/// The listing carries so many entries, which are so many bytes.
-fn carries_numbered(
-    rt: &impl Abort,
-    alloc: Global,
-    reply: ReplyDirectory,
-    count: u16,
-    length: usize,
-) {
+/// The listing carries so many entries.
+fn carries_numbered(rt: &impl Abort, alloc: Global, reply: ReplyDirectory, count: u16) {
     let entries = all_numbered(alloc, count).expect(rt, "there is memory");
-    expect_same(rt, &entries.len(), &length);
     carries(rt, alloc, reply.ok(), &[&entries]);
 }
 
-/// Of 40,000 entries so many are taken in so many bytes, and they take so many bytes.
-fn expect_cut(rt: &impl Abort, alloc: Global, size: usize, entries: u16, length: usize) {
-    let mut reply = ReplyDirectory::new(alloc, ID, size);
-    let taken = list_many(&mut reply);
-    expect_same(rt, &(size, taken), &(size, Ok(entries)));
-    carries_numbered(rt, alloc, reply, entries, length);
-}
-
-/// So many bytes for entries, how many entries are taken, and how many bytes these take.
-const CUTS: &[(usize, u16, usize)] = &[
-    (31, 0, 0),
-    (32, 1, 32),
-    (63, 1, 32),
-    (143, 4, 128),
-    (144, 4, 128),
-    (145, 4, 128),
-    (160, 5, 160),
-    (4095, 127, 4064),
-    (4096, 128, 4096),
-    (31_999, 999, 31_968),
-    (32_000, 1000, 32_000),
-    (262_143, 8191, 262_112),
-    (4_294_967_295, 40_000, 1_280_000),
-    (usize::MAX, 40_000, 1_280_000),
+/// So many bytes for entries, and how many entries of 32 bytes each are taken.
+const CUTS: &[(usize, u16)] = &[
+    (31, 0),
+    (32, 1),
+    (63, 1),
+    (143, 4),
+    (144, 4),
+    (145, 4),
+    (160, 5),
+    (4095, 127),
+    (4096, 128),
+    (31_999, 999),
+    (32_000, 1000),
+    (262_143, 8191),
+    (4_294_967_295, 40_000),
+    (usize::MAX, 40_000),
 ];
 
 #[test]
 fn a_long_directory_is_cut_at_its_size(rt: HostRuntime) {
-    for (size, entries, length) in CUTS {
-        expect_cut(&rt, rt.alloc(), *size, *entries, *length);
+    for (size, entries) in CUTS {
+        let mut reply = ReplyDirectory::new(rt.alloc(), ID, *size);
+        let taken = list_many(&mut reply);
+        expect_same(&rt, &(*size, taken), &(*size, Ok(*entries)));
+        carries_numbered(&rt, rt.alloc(), reply, *entries);
     }
 }
 
@@ -308,7 +238,7 @@ fn list_five(alloc: Global) -> (ReplyDirectory, Result<bool, NoMemory>) {
 fn lists_more_than_is_held_inline(rt: HostRuntime) {
     let (reply, fifth) = list_five(rt.alloc());
     expect_same(&rt, &fifth, &Ok(false));
-    carries_numbered(&rt, rt.alloc(), reply, 5, 160);
+    carries_numbered(&rt, rt.alloc(), reply, 5);
 }
 
 /// Takes the fifth entry, and that it is left out. Where the script `checks/refused-memory` refuses the memory, it is
@@ -316,31 +246,42 @@ fn lists_more_than_is_held_inline(rt: HostRuntime) {
 #[test]
 fn lists_more_than_is_held_inline_or_leaves_it_out(rt: HostRuntime) {
     let (reply, fifth) = list_five(rt.alloc());
-    let (count, length) = if fifth == Ok(false) {
-        (5, 160)
-    } else {
-        (4, 128)
-    };
-    carries_numbered(&rt, rt.alloc(), reply, count, length);
+    let count = if fifth == Ok(false) { 5 } else { 4 };
+    carries_numbered(&rt, rt.alloc(), reply, count);
 }
 
-/// An entry that a listing with lookups is to take: its numbers, the offset after it, its name, and whether it does not
-/// fit.
-type PlusEntry = (Numbers, u64, &'static [u8], bool);
+/// The entry is taken, or does not fit.
+fn add_plus(
+    rt: &impl Abort,
+    reply: &mut ReplyDirectoryPlus,
+    entry: &Entry,
+    offset: u64,
+    name: &[u8],
+    full: bool,
+) {
+    let (ttl, attr, generation) = entry;
+    let found = reply.add(
+        INodeNo(0x99),
+        offset,
+        within(rt, name),
+        ttl,
+        attr,
+        *generation,
+    );
+    expect_same(rt, &(offset, found), &(offset, Ok(full)));
+}
 
-/// How many bytes a listing with lookups may have, the entries that it is to take, and its payload then.
-type PlusListing = (usize, &'static [PlusEntry], Parts);
-
-/// Listings with lookups: of three entries, of which the second does not fit behind the first, and of one alone, which
-/// does not fit in a byte less.
-const PLUS_LISTINGS: &[PlusListing] = &[
-    (
-        319,
-        &[
-            (Numbers::Small, 1, b"hello", false),
-            (Numbers::Small, 2, b"hello", true),
-            (Numbers::Small, 3, b"", false),
-        ],
+#[test]
+fn lists_entries_with_what_a_lookup_answers(rt: HostRuntime) {
+    let alloc = rt.alloc();
+    let mut reply = ReplyDirectoryPlus::new(alloc, ID, 319);
+    add_plus(&rt, &mut reply, &entry(), 1, b"hello", false);
+    add_plus(&rt, &mut reply, &entry(), 2, b"hello", true);
+    add_plus(&rt, &mut reply, &entry(), 3, b"", false);
+    carries(
+        &rt,
+        alloc,
+        reply.ok(),
         &[
             ENTRY_FRONT,
             ATTRIBUTES,
@@ -356,10 +297,24 @@ const PLUS_LISTINGS: &[PlusListing] = &[
                 0x11, 0, 0, 0, 0, 0, 0, 0, 3, 0, 0, 0, 0, 0, 0, 0, 0, 0, 0, 0, 8, 0, 0, 0,
             ],
         ],
-    ),
-    (
-        168,
-        &[(Numbers::Wide, u64::MAX, &[7; 9], false)],
+    );
+}
+
+/// The listing of so many bytes that was to take an entry of wide numbers, which is taken, or does not fit.
+fn list_wide(rt: &impl Abort, alloc: Global, size: usize, full: bool) -> ReplyDirectoryPlus {
+    let mut reply = ReplyDirectoryPlus::new(alloc, ID, size);
+    add_plus(rt, &mut reply, &wide_entry(), u64::MAX, &[7; 9], full);
+    reply
+}
+
+#[test]
+fn lists_wide_numbers_with_what_a_lookup_answers(rt: HostRuntime) {
+    let alloc = rt.alloc();
+    carries(&rt, alloc, list_wide(&rt, alloc, 167, true).ok(), &[]);
+    carries(
+        &rt,
+        alloc,
+        list_wide(&rt, alloc, 168, false).ok(),
         &[
             WIDE_ENTRY_FRONT,
             WIDE_ATTRIBUTES,
@@ -369,56 +324,5 @@ const PLUS_LISTINGS: &[PlusListing] = &[
             &[7; 9],
             &[0; 7],
         ],
-    ),
-    (167, &[(Numbers::Wide, u64::MAX, &[7; 9], true)], &[]),
-    (
-        1176,
-        &[(Numbers::Wide, u64::MAX, &[7; 1024], false)],
-        &[
-            WIDE_ENTRY_FRONT,
-            WIDE_ATTRIBUTES,
-            &[0x18, 0x17, 0x16, 0x15, 0x14, 0x13, 0x12, 0x11],
-            &[0xff; 8],
-            &[0, 4, 0, 0, 8, 0, 0, 0],
-            &[7; 1024],
-        ],
-    ),
-    (1175, &[(Numbers::Wide, u64::MAX, &[7; 1024], true)], &[]),
-];
-
-/// The entry is taken, or does not fit, as its row says.
-fn add_plus(rt: &impl Abort, reply: &mut ReplyDirectoryPlus, entry: &PlusEntry) {
-    let (numbers, offset, name, full) = entry;
-    let (ttl, attr, generation) = entry_of(numbers);
-    let found = reply.add(
-        INodeNo(0x99),
-        *offset,
-        short(rt, name),
-        &ttl,
-        &attr,
-        generation,
     );
-    expect_same(rt, &(*name, found), &(*name, Ok(*full)));
-}
-
-/// The listing with lookups of so many bytes that was to take these entries.
-fn listed_plus(
-    rt: &impl Abort,
-    alloc: Global,
-    size: usize,
-    entries: &[PlusEntry],
-) -> ReplyDirectoryPlus {
-    let mut reply = ReplyDirectoryPlus::new(alloc, ID, size);
-    for entry in entries {
-        add_plus(rt, &mut reply, entry);
-    }
-    reply
-}
-
-#[test]
-fn lists_entries_with_what_a_lookup_answers(rt: HostRuntime) {
-    for (size, entries, payload) in PLUS_LISTINGS {
-        let reply = listed_plus(&rt, rt.alloc(), *size, entries);
-        carries(&rt, rt.alloc(), reply.ok(), payload);
-    }
 }

@@ -12,11 +12,14 @@ use std::process::Abort;
 /// The request that is answered.
 pub const ID: RequestId = RequestId(0xdead_beef);
 
+/// Its bytes.
+pub const ID_BYTES: &[u8] = &[0xef, 0xbe, 0xad, 0xde, 0, 0, 0, 0];
+
 /// Bytes, as parts that stand one behind the other.
 pub type Parts = &'static [&'static [u8]];
 
 /// These parts joined.
-pub fn joined(alloc: Global, parts: &[&[u8]]) -> Result<Vec<u8>, AllocError> {
+fn joined(alloc: Global, parts: &[&[u8]]) -> Result<Vec<u8>, AllocError> {
     let mut bytes = Vec::new(alloc);
     for part in parts {
         bytes.extend_from_slice(part)?;
@@ -40,11 +43,16 @@ pub fn told(sink: &MemorySink, end: OutEnd) -> (OutEnd, Option<&[u8]>, usize) {
     (end, frame, sink.notes().len())
 }
 
-/// These bytes, which are no more than 1024.
-pub fn short<'a>(rt: &impl Abort, bytes: &'a [u8]) -> &'a [u8]
-    ensures { length result.now ≤ 1024 }
+/// So many bytes.
+pub fn many(rt: &impl Abort, alloc: Global, count: usize) -> Vec<u8> {
+    vec![in alloc; 7; count].expect(rt, "there is memory")
+}
+
+/// These bytes, which are at most one more than 16 mebibytes.
+pub fn within<'a>(rt: &impl Abort, bytes: &'a [u8]) -> &'a [u8]
+    ensures { length result.now ≤ 16777217 }
 {
-    assert!(rt; bytes.len() <= 1024);
+    assert!(rt; bytes.len() <= 16_777_217);
     bytes
 }
 
@@ -81,19 +89,12 @@ pub fn whole_or_starved(frame: Option<&[u8]>, whole: Parts) -> Parts {
     }
 }
 
-/// The header of a frame of status 0 with so many bytes after it.
-fn done_header(count: usize) -> [u8; 16] {
-    let [l0, l1, l2, l3, ..] = count.saturating_add(16).to_le_bytes();
-    [
-        l0, l1, l2, l3, 0, 0, 0, 0, 0xef, 0xbe, 0xad, 0xde, 0, 0, 0, 0,
-    ]
-}
-
 /// One frame goes out, of status 0 and this payload, and no note.
 pub fn carries(rt: &impl Abort, alloc: Global, replied: Replied, parts: &[&[u8]]) {
     let payload = joined(alloc, parts).expect(rt, "there is memory");
-    let header = done_header(payload.len());
-    sends(rt, alloc, replied, &[&header, &payload]);
+    let [l0, l1, l2, l3, ..] = payload.len().saturating_add(16).to_le_bytes();
+    let front = [l0, l1, l2, l3, 0, 0, 0, 0];
+    sends(rt, alloc, replied, &[&front, ID_BYTES, &payload]);
 }
 
 /// One frame goes out, which has these bytes from `at` on.
@@ -104,26 +105,38 @@ pub fn sends_part(rt: &impl Abort, alloc: Global, replied: Replied, at: usize, p
     expect_same(rt, &(end, found), &(OutEnd::Written, Some(part)));
 }
 
-/// The attributes that are sent.
-pub fn attributes() -> FileAttr {
-    let time = SystemTime(0x1234 * 1_000_000_000 + 0x5678);
+/// Attributes of a file of the permissions 0o644: the inode, size and blocks; the times of the last access, of the last
+/// changes of the contents and of the inode, and of creation; and links, owner, group, device, block size and flags.
+fn attributes_of(numbers: [u64; 3], times: [i128; 4], others: [u32; 6]) -> FileAttr {
+    let [ino, size, blocks] = numbers;
+    let [atime, mtime, ctime, crtime] = times;
+    let [nlink, uid, gid, rdev, blksize, flags] = others;
     FileAttr {
-        ino: INodeNo(0x11),
-        size: 0x22,
-        blocks: 0x33,
-        atime: time,
-        mtime: time,
-        ctime: time,
-        crtime: time,
+        ino: INodeNo(ino),
+        size,
+        blocks,
+        atime: SystemTime(atime),
+        mtime: SystemTime(mtime),
+        ctime: SystemTime(ctime),
+        crtime: SystemTime(crtime),
         kind: FileType::RegularFile,
         perm: 0o644,
-        nlink: 0x55,
-        uid: 0x66,
-        gid: 0x77,
-        rdev: 0x88,
-        blksize: 0xbb,
-        flags: 0x99,
+        nlink,
+        uid,
+        gid,
+        rdev,
+        blksize,
+        flags,
     }
+}
+
+/// The attributes that are sent.
+pub fn attributes() -> FileAttr {
+    attributes_of(
+        [0x11, 0x22, 0x33],
+        [0x1234 * 1_000_000_000 + 0x5678; 4],
+        [0x55, 0x66, 0x77, 0x88, 0xbb, 0x99],
+    )
 }
 
 /// Their bytes up to the block size.
@@ -145,23 +158,27 @@ pub const ENTRY_FRONT: &[u8] = &[
 
 /// Attributes whose numbers take all their bytes, each another one.
 pub fn wide_attributes() -> FileAttr {
-    FileAttr {
-        ino: INodeNo(0x1112_1314_1516_1718),
-        size: 0x2122_2324_2526_2728,
-        blocks: 0x3132_3334_3536_3738,
-        atime: SystemTime(0x4142_4344_4546_4748 * 1_000_000_000 + 0x0102_0304),
-        mtime: SystemTime(0x5152_5354_5556_5758 * 1_000_000_000 + 0x1112_1314),
-        ctime: SystemTime(0x6162_6364_6566_6768 * 1_000_000_000 + 0x0506_0708),
-        crtime: SystemTime(0x7172_7374_7576_7778 * 1_000_000_000 + 0x090a_0b0c),
-        kind: FileType::RegularFile,
-        perm: 0o644,
-        nlink: 0x7172_7374,
-        uid: 0x8182_8384,
-        gid: 0x9192_9394,
-        rdev: 0xd1d2_d3d4,
-        blksize: 0xe1e2_e3e4,
-        flags: 0xf1f2_f3f4,
-    }
+    attributes_of(
+        [
+            0x1112_1314_1516_1718,
+            0x2122_2324_2526_2728,
+            0x3132_3334_3536_3738,
+        ],
+        [
+            0x4142_4344_4546_4748 * 1_000_000_000 + 0x0102_0304,
+            0x5152_5354_5556_5758 * 1_000_000_000 + 0x1112_1314,
+            0x6162_6364_6566_6768 * 1_000_000_000 + 0x0506_0708,
+            0x7172_7374_7576_7778 * 1_000_000_000 + 0x090a_0b0c,
+        ],
+        [
+            0x7172_7374,
+            0x8182_8384,
+            0x9192_9394,
+            0xd1d2_d3d4,
+            0xe1e2_e3e4,
+            0xf1f2_f3f4,
+        ],
+    )
 }
 
 /// Their bytes, all of them.
@@ -181,55 +198,17 @@ pub const WIDE_ENTRY_FRONT: &[u8] = &[
     0x24, 0x23, 0x22, 0x21, 0x24, 0x23, 0x22, 0x21,
 ];
 
-/// Attributes of the greatest numbers.
-fn greatest_attributes() -> FileAttr {
-    let time = SystemTime(9_223_372_036_854_775_807_999_999_999);
-    FileAttr {
-        ino: INodeNo(u64::MAX),
-        size: u64::MAX,
-        blocks: u64::MAX,
-        atime: time,
-        mtime: time,
-        ctime: time,
-        crtime: time,
-        kind: FileType::RegularFile,
-        perm: u16::MAX,
-        nlink: u32::MAX,
-        uid: u32::MAX,
-        gid: u32::MAX,
-        rdev: u32::MAX,
-        blksize: u32::MAX,
-        flags: u32::MAX,
-    }
+/// How long an entry is held, its attributes and its generation.
+pub type Entry = (Duration, FileAttr, Generation);
+
+/// The entry of `ENTRY_FRONT` and `ATTRIBUTES`.
+pub fn entry() -> Entry {
+    let ttl = Duration::new(0x8765, 0x4321);
+    (ttl, attributes(), Generation(0xaa))
 }
 
-/// Which numbers an entry has.
-pub enum Numbers {
-    /// Those of `attributes`, with the generation and the time of `ENTRY_FRONT`.
-    Small,
-    /// Those of `wide_attributes`, with the generation and the time of `WIDE_ENTRY_FRONT`.
-    Wide,
-    /// The greatest.
-    Greatest,
-}
-
-/// How long an entry of these numbers is held, its attributes and its generation.
-pub fn entry_of(numbers: &Numbers) -> (Duration, FileAttr, Generation) {
-    match numbers {
-        Numbers::Small => (
-            Duration::new(0x8765, 0x4321),
-            attributes(),
-            Generation(0xaa),
-        ),
-        Numbers::Wide => (
-            Duration::new(0xb1b2_b3b4_b5b6_b7b8, 0x2122_2324),
-            wide_attributes(),
-            Generation(0xc1c2_c3c4_c5c6_c7c8),
-        ),
-        Numbers::Greatest => (
-            Duration::new(u64::MAX, 999_999_999),
-            greatest_attributes(),
-            Generation(u64::MAX),
-        ),
-    }
+/// The entry of `WIDE_ENTRY_FRONT` and `WIDE_ATTRIBUTES`.
+pub fn wide_entry() -> Entry {
+    let ttl = Duration::new(0xb1b2_b3b4_b5b6_b7b8, 0x2122_2324);
+    (ttl, wide_attributes(), Generation(0xc1c2_c3c4_c5c6_c7c8))
 }

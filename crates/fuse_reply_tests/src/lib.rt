@@ -1,7 +1,9 @@
-//! The tests of `fuse_reply`: the bytes of replies of every kind, with the least and the greatest numbers, and frames on a
-//! stream.
+//! The tests of `fuse_reply` and `fuse_notify`: the bytes of replies and notices of every kind, long ones, for which there is
+//! memory, replies that come later, and notices that wait in a line.
 #![tactic(auto)]
 
+#[cfg(test)]
+mod answer_tests;
 #[cfg(test)]
 mod asserts;
 #[cfg(test)]
@@ -11,17 +13,8 @@ mod directory_tests;
 #[cfg(test)]
 mod end_mark_tests;
 #[cfg(test)]
-mod fixed_tests;
-#[cfg(test)]
 mod frames;
 #[cfg(test)]
 mod long_tests;
 #[cfg(test)]
 mod notice_tests;
-#[cfg(test)]
-mod stream_tests;
-#[cfg(test)]
-mod tests;
-mod two_runs;
-
-pub use two_runs::retire_each;

@@ -1,8 +1,6 @@
 // Replies of many bytes, for which there is memory.
-ghost use Rattle.std.specs.Prelude.{◌≤◌, length};
-
 use crate::asserts::expect_same;
-use crate::frames::{ID, attributes, carries, sends_part, short};
+use crate::frames::{ID, attributes, carries, many, sends_part, within};
 use fuse_reply::{
     Packed, Replied, ReplyData, ReplyDirectory, ReplyDirectoryPlus, ReplyIoctl, ReplyXattr,
 };
@@ -11,7 +9,7 @@ use std::alloc::{AllocError, Global};
 use std::process::Abort;
 
 /// A kind of reply that carries any number of bytes.
-#[derive(Clone, Copy, Debug, PartialEq)]
+#[derive(Clone, Copy)]
 enum Kind {
     Data,
     Xattr,
@@ -22,39 +20,18 @@ enum Kind {
 }
 
 /// Kinds of replies, and how many bytes they carry.
-const LONG: &[(Kind, usize)] = &[
-    (Kind::Data, 1_048_576),
-    (Kind::Xattr, 256),
-    (Kind::Xattr, 65_536),
-    (Kind::Ioctl, 4097),
-    (Kind::Ioctl, 262_144),
-    (Kind::Name, 65_536),
+const LONG: &[(Kind, &[usize])] = &[
+    (Kind::Data, &[1_048_576]),
+    (Kind::Xattr, &[0, 1, 143, 144, 145, 200, 256, 65_536]),
+    (Kind::Ioctl, &[0, 127, 128, 129, 200, 4097, 262_144]),
+    (Kind::Name, &[65_536]),
 ];
-
-/// So many bytes.
-fn many(alloc: Global, count: usize) -> Result<Vec<u8>, AllocError> {
-    let mut bytes = Vec::new(alloc);
-    bytes.resize(count, 7)?;
-    Ok(bytes)
-}
-
-/// These bytes, which are at most one more than 16 mebibytes.
-fn within<'a>(rt: &impl Abort, bytes: &'a [u8]) -> &'a [u8]
-    ensures { length result.now ≤ 16777217 }
-{
-    assert!(rt; bytes.len() <= 16_777_217);
-    bytes
-}
 
 /// The reply of one entry of a directory, which has this name.
 fn named(rt: &impl Abort, alloc: Global, name: &[u8]) -> Replied {
     let mut reply = ReplyDirectory::new(alloc, ID, usize::MAX);
-    let found = reply.add(
-        INodeNo(u64::MAX),
-        u64::MAX,
-        FileType::Socket,
-        within(rt, name),
-    );
+    let number = INodeNo(u64::MAX);
+    let found = reply.add(number, u64::MAX, FileType::Socket, within(rt, name));
     expect_same(rt, &found, &Ok(false));
     reply.ok()
 }
@@ -83,39 +60,29 @@ fn front(kind: Kind) -> &'static [u8] {
 
 #[test]
 fn replies_of_many_bytes_go_out_whole(rt: HostRuntime) {
-    for (kind, count) in LONG {
-        let bytes = many(rt.alloc(), *count).expect(&rt, "there is memory");
-        let replied = replied(&rt, rt.alloc(), *kind, &bytes);
-        carries(&rt, rt.alloc(), replied, &[front(*kind), &bytes]);
+    for (kind, counts) in LONG {
+        for count in *counts {
+            let bytes = many(&rt, rt.alloc(), *count);
+            let replied = replied(&rt, rt.alloc(), *kind, &bytes);
+            carries(&rt, rt.alloc(), replied, &[front(*kind), &bytes]);
+        }
     }
 }
 
 /// What the frames of one byte more than 16 mebibytes have from this byte on: their headers, and their last bytes.
 const LONGEST: &[(Kind, usize, &[u8])] = &[
-    (
-        Kind::Data,
-        0,
-        &[17, 0, 0, 1, 0, 0, 0, 0, 0xef, 0xbe, 0xad, 0xde, 0, 0, 0, 0],
-    ),
+    (Kind::Data, 0, &[17, 0, 0, 1, 0, 0, 0, 0, 0xef, 0xbe]),
     (Kind::Data, 16_777_232, &[7]),
-    (
-        Kind::Xattr,
-        0,
-        &[17, 0, 0, 1, 0, 0, 0, 0, 0xef, 0xbe, 0xad, 0xde, 0, 0, 0, 0],
-    ),
+    (Kind::Xattr, 0, &[17, 0, 0, 1, 0, 0, 0, 0, 0xef, 0xbe]),
     (Kind::Xattr, 16_777_232, &[7]),
-    (
-        Kind::Ioctl,
-        0,
-        &[33, 0, 0, 1, 0, 0, 0, 0, 0xef, 0xbe, 0xad, 0xde, 0, 0, 0, 0],
-    ),
+    (Kind::Ioctl, 0, &[33, 0, 0, 1, 0, 0, 0, 0, 0xef, 0xbe]),
     (Kind::Ioctl, 16_777_248, &[7]),
 ];
 
 /// A frame of the longest answers is no error, its header says how long it is, and it is as long.
 #[test]
 fn the_longest_replies_find_memory_where_there_is_some(rt: HostRuntime) {
-    let bytes = many(rt.alloc(), 16_777_217).expect(&rt, "there is memory");
+    let bytes = many(&rt, rt.alloc(), 16_777_217);
     for (kind, at, part) in LONGEST {
         let replied = replied(&rt, rt.alloc(), *kind, &bytes);
         sends_part(&rt, rt.alloc(), replied, *at, part);
@@ -151,18 +118,24 @@ fn expect_packed(rt: &impl Abort, alloc: Global, header: &[u8; 16], payload: &[u
 #[test]
 fn packs_and_copies_more_than_is_held_inline(rt: HostRuntime) {
     for (count, header) in PACKED {
-        let payload = many(rt.alloc(), *count).expect(&rt, "there is memory");
+        let payload = many(&rt, rt.alloc(), *count);
         expect_packed(&rt, rt.alloc(), header, &payload);
     }
 }
 
 /// Adds entries with what a lookup answers, of 160 bytes each, and tells how many were taken before the first that was
 /// not.
-fn fill(rt: &impl Abort, reply: &mut ReplyDirectoryPlus) -> Result<u64, NoMemory> {
+fn fill(reply: &mut ReplyDirectoryPlus) -> Result<u64, NoMemory> {
     let ttl = Duration::new(0, 0);
-    let name = short(rt, b"hello");
     for place in 0..7000 {
-        if reply.add(INodeNo(2), place, name, &ttl, &attributes(), Generation(0))? {
+        if reply.add(
+            INodeNo(2),
+            place,
+            b"hello",
+            &ttl,
+            &attributes(),
+            Generation(0),
+        )? {
             return Ok(place);
         }
     }
@@ -196,7 +169,7 @@ const CUTS: &[(usize, u64, usize, &[u8])] = &[
 fn a_long_directory_with_lookups_is_cut_at_its_size(rt: HostRuntime) {
     for (size, count, at, last) in CUTS {
         let mut reply = ReplyDirectoryPlus::new(rt.alloc(), ID, *size);
-        let taken = fill(&rt, &mut reply);
+        let taken = fill(&mut reply);
         expect_same(&rt, &(*size, taken), &(*size, Ok(*count)));
         sends_part(&rt, rt.alloc(), reply.ok(), *at, last);
     }

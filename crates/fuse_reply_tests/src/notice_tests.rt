@@ -5,11 +5,11 @@ ghost use Rattle.std.specs.Arc.{arc_value};
 ghost use Rattle.fuse_line.specs.declared.hand.Kind.TheVariants.{First};
 
 use crate::asserts::expect_same;
-use fuse_line::{Class, Line, Pass};
-use fuse_notify::laws::equal_where_they_are_the_same;
+use crate::frames::many;
+use fuse_line::{Line, Pass};
 use fuse_notify::{Notice, NoticeError, Notifier, NotifyError, Undelivered, deliver};
-use fuse_reply::{MAX_PAYLOAD, Out, Parcel};
-use fuse_wire::{INodeNo, MemorySink, PollHandle, RequestId, Sending};
+use fuse_reply::{MAX_PAYLOAD, Parcel};
+use fuse_wire::{INodeNo, MemorySink, PollHandle, Sending};
 use std::alloc::Global;
 use std::process::Abort;
 use std::sync::{Arc, Wait};
@@ -44,21 +44,6 @@ enum News {
     Delete(&'static [u8]),
 }
 
-/// The five, in the order of their codes, with ranges, names and data of several kinds, and what comes of each at a sink
-/// that is absent.
-const EACH: &[(News, Result<(), Undelivered>)] = &[
-    (News::Poll, Err(Undelivered::Absent)),
-    (News::InvalInode(FROM, LENGTH), Ok(())),
-    (News::InvalInode(-1, -2), Ok(())),
-    (News::InvalInode(0, 0), Ok(())),
-    (News::InvalEntry(b"abc"), Ok(())),
-    (News::InvalEntry(b""), Ok(())),
-    (News::Store(&[0xde, 0xad, 0xbe, 0xef]), Ok(())),
-    (News::Store(&[]), Ok(())),
-    (News::Delete(b"abc"), Ok(())),
-    (News::Delete(b""), Ok(())),
-];
-
 const POLL: &[u8] = &[
     0x18, 0, 0, 0, 1, 0, 0, 0, 0, 0, 0, 0, 0, 0, 0, 0, // header
     0x11, 0x22, 0x33, 0x44, 0x55, 0x66, 0x77, 0x88, // kh
@@ -71,20 +56,6 @@ const INVAL_INODE: &[u8] = &[
     0x78, 0x77, 0x76, 0x75, 0x74, 0x73, 0x72, 0x71, // len
 ];
 
-const NEGATIVE_RANGE: &[u8] = &[
-    0x28, 0, 0, 0, 2, 0, 0, 0, 0, 0, 0, 0, 0, 0, 0, 0, // header
-    0x88, 0x87, 0x86, 0x85, 0x84, 0x83, 0x82, 0x91, // ino
-    0xff, 0xff, 0xff, 0xff, 0xff, 0xff, 0xff, 0xff, // off
-    0xfe, 0xff, 0xff, 0xff, 0xff, 0xff, 0xff, 0xff, // len
-];
-
-/// All bytes of a file.
-const WHOLE: &[u8] = &[
-    0x28, 0, 0, 0, 2, 0, 0, 0, 0, 0, 0, 0, 0, 0, 0, 0, // header
-    0x88, 0x87, 0x86, 0x85, 0x84, 0x83, 0x82, 0x91, // ino
-    0, 0, 0, 0, 0, 0, 0, 0, 0, 0, 0, 0, 0, 0, 0, 0, // off, len
-];
-
 const INVAL_ENTRY: &[u8] = &[
     0x24, 0, 0, 0, 3, 0, 0, 0, 0, 0, 0, 0, 0, 0, 0, 0, // header
     0x88, 0x87, 0x86, 0x85, 0x84, 0x83, 0x82, 0x91, // parent
@@ -92,59 +63,85 @@ const INVAL_ENTRY: &[u8] = &[
     0x61, 0x62, 0x63, 0, // name
 ];
 
-const NO_ENTRY: &[u8] = &[
-    0x21, 0, 0, 0, 3, 0, 0, 0, 0, 0, 0, 0, 0, 0, 0, 0, // header
-    0x88, 0x87, 0x86, 0x85, 0x84, 0x83, 0x82, 0x91, // parent
-    0, 0, 0, 0, 0, 0, 0, 0, // namelen
-    0, // name
+/// The five, in the order of their codes, with ranges, names and data of several kinds, and their frames.
+const EACH: &[(News, &[u8])] = &[
+    (News::Poll, POLL),
+    (News::InvalInode(FROM, LENGTH), INVAL_INODE),
+    (
+        News::InvalInode(-1, -2),
+        &[
+            0x28, 0, 0, 0, 2, 0, 0, 0, 0, 0, 0, 0, 0, 0, 0, 0, // header
+            0x88, 0x87, 0x86, 0x85, 0x84, 0x83, 0x82, 0x91, // ino
+            0xff, 0xff, 0xff, 0xff, 0xff, 0xff, 0xff, 0xff, // off
+            0xfe, 0xff, 0xff, 0xff, 0xff, 0xff, 0xff, 0xff, // len
+        ],
+    ),
+    (
+        News::InvalInode(0, 0),
+        &[
+            0x28, 0, 0, 0, 2, 0, 0, 0, 0, 0, 0, 0, 0, 0, 0, 0, // header
+            0x88, 0x87, 0x86, 0x85, 0x84, 0x83, 0x82, 0x91, // ino
+            0, 0, 0, 0, 0, 0, 0, 0, 0, 0, 0, 0, 0, 0, 0, 0, // off, len
+        ],
+    ),
+    (News::InvalEntry(b"abc"), INVAL_ENTRY),
+    (
+        News::InvalEntry(b""),
+        &[
+            0x21, 0, 0, 0, 3, 0, 0, 0, 0, 0, 0, 0, 0, 0, 0, 0, // header
+            0x88, 0x87, 0x86, 0x85, 0x84, 0x83, 0x82, 0x91, // parent
+            0, 0, 0, 0, 0, 0, 0, 0, // namelen
+            0, // name
+        ],
+    ),
+    (
+        News::Store(&[0xde, 0xad, 0xbe, 0xef]),
+        &[
+            0x2c, 0, 0, 0, 4, 0, 0, 0, 0, 0, 0, 0, 0, 0, 0, 0, // header
+            0x88, 0x87, 0x86, 0x85, 0x84, 0x83, 0x82, 0x91, // nodeid
+            0xb8, 0xb7, 0xb6, 0xb5, 0xb4, 0xb3, 0xb2, 0xb1, // offset
+            4, 0, 0, 0, 0, 0, 0, 0, // size
+            0xde, 0xad, 0xbe, 0xef,
+        ],
+    ),
+    (
+        News::Store(&[]),
+        &[
+            0x28, 0, 0, 0, 4, 0, 0, 0, 0, 0, 0, 0, 0, 0, 0, 0, // header
+            0x88, 0x87, 0x86, 0x85, 0x84, 0x83, 0x82, 0x91, // nodeid
+            0xb8, 0xb7, 0xb6, 0xb5, 0xb4, 0xb3, 0xb2, 0xb1, // offset
+            0, 0, 0, 0, 0, 0, 0, 0, // size
+        ],
+    ),
+    (
+        News::Delete(b"abc"),
+        &[
+            0x2c, 0, 0, 0, 6, 0, 0, 0, 0, 0, 0, 0, 0, 0, 0, 0, // header
+            0x88, 0x87, 0x86, 0x85, 0x84, 0x83, 0x82, 0x91, // parent
+            0xa8, 0xa7, 0xa6, 0xa5, 0xa4, 0xa3, 0xa2, 0xa1, // child
+            3, 0, 0, 0, 0, 0, 0, 0, // namelen
+            0x61, 0x62, 0x63, 0, // name
+        ],
+    ),
+    (
+        News::Delete(b""),
+        &[
+            0x29, 0, 0, 0, 6, 0, 0, 0, 0, 0, 0, 0, 0, 0, 0, 0, // header
+            0x88, 0x87, 0x86, 0x85, 0x84, 0x83, 0x82, 0x91, // parent
+            0xa8, 0xa7, 0xa6, 0xa5, 0xa4, 0xa3, 0xa2, 0xa1, // child
+            0, 0, 0, 0, 0, 0, 0, 0, // namelen
+            0, // name
+        ],
+    ),
 ];
 
-const STORE: &[u8] = &[
-    0x2c, 0, 0, 0, 4, 0, 0, 0, 0, 0, 0, 0, 0, 0, 0, 0, // header
-    0x88, 0x87, 0x86, 0x85, 0x84, 0x83, 0x82, 0x91, // nodeid
-    0xb8, 0xb7, 0xb6, 0xb5, 0xb4, 0xb3, 0xb2, 0xb1, // offset
-    4, 0, 0, 0, 0, 0, 0, 0, // size
-    0xde, 0xad, 0xbe, 0xef,
-];
-
-const NO_DATA: &[u8] = &[
-    0x28, 0, 0, 0, 4, 0, 0, 0, 0, 0, 0, 0, 0, 0, 0, 0, // header
-    0x88, 0x87, 0x86, 0x85, 0x84, 0x83, 0x82, 0x91, // nodeid
-    0xb8, 0xb7, 0xb6, 0xb5, 0xb4, 0xb3, 0xb2, 0xb1, // offset
-    0, 0, 0, 0, 0, 0, 0, 0, // size
-];
-
-const DELETE: &[u8] = &[
-    0x2c, 0, 0, 0, 6, 0, 0, 0, 0, 0, 0, 0, 0, 0, 0, 0, // header
-    0x88, 0x87, 0x86, 0x85, 0x84, 0x83, 0x82, 0x91, // parent
-    0xa8, 0xa7, 0xa6, 0xa5, 0xa4, 0xa3, 0xa2, 0xa1, // child
-    3, 0, 0, 0, 0, 0, 0, 0, // namelen
-    0x61, 0x62, 0x63, 0, // name
-];
-
-const NO_CHILD: &[u8] = &[
-    0x29, 0, 0, 0, 6, 0, 0, 0, 0, 0, 0, 0, 0, 0, 0, 0, // header
-    0x88, 0x87, 0x86, 0x85, 0x84, 0x83, 0x82, 0x91, // parent
-    0xa8, 0xa7, 0xa6, 0xa5, 0xa4, 0xa3, 0xa2, 0xa1, // child
-    0, 0, 0, 0, 0, 0, 0, 0, // namelen
-    0, // name
-];
-
-/// How long frames are, and what they begin with.
-type Frames = &'static [(usize, &'static [u8])];
-
-/// Their frames.
-const FRAMES: Frames = &[
-    (24, POLL),
-    (40, INVAL_INODE),
-    (40, NEGATIVE_RANGE),
-    (40, WHOLE),
-    (36, INVAL_ENTRY),
-    (33, NO_ENTRY),
-    (44, STORE),
-    (40, NO_DATA),
-    (44, DELETE),
-    (41, NO_CHILD),
+/// One of each.
+const FIVE: &[News] = &[
+    News::Poll,
+    News::InvalInode(FROM, LENGTH),
+    News::InvalEntry(b"abc"),
+    News::Store(&[0xde]),
+    News::Delete(b"abc"),
 ];
 
 /// The notice of this.
@@ -158,50 +155,33 @@ fn notice(alloc: Global, news: &News) -> Result<Notice, NoticeError> {
     }
 }
 
-/// The sink holds these frames, and no other.
-fn holds(rt: &impl Abort, sink: &MemorySink, expected: Frames) {
-    expect_same(rt, &sink.frames().len(), &expected.len());
-    for (frame, (length, bytes)) in sink.frames().iter().zip(expected) {
-        let found = (frame.as_slice().len(), frame.as_slice().get(..bytes.len()));
-        expect_same(rt, &found, &(*length, Some(*bytes)));
-    }
-}
-
 /// What comes of a notice at a sink whose first send is answered so.
-fn end(alloc: Global, notice: &Notice, answer: Sending) -> Result<(), Undelivered>
+fn end(rt: &impl Abort, alloc: Global, notice: &Notice, answer: Sending) -> Result<(), Undelivered>
     requires { answer ≢ Sent }
 {
-    let mut faults = Vec::new(alloc);
-    let _ = faults.push((1, answer));
+    let faults = Vec::from_slice(alloc, &[(1, answer)]).expect(rt, "there is memory");
     deliver(notice, &mut MemorySink::new(alloc, faults))
-}
-
-/// The sink takes the notice, this comes of it at one that is absent, and its failure at one that fails.
-fn expect_ends(
-    rt: &impl Abort,
-    alloc: Global,
-    news: &News,
-    sink: &mut MemorySink,
-    of_none: Result<(), Undelivered>,
-) {
-    let notice = notice(alloc, news).expect(rt, "there is memory");
-    let ends = (
-        deliver(&notice, sink),
-        end(alloc, &notice, Sending::Absent),
-        end(alloc, &notice, Sending::Failed),
-    );
-    expect_same(rt, &ends, &(Ok(()), of_none, Err(Undelivered::Failed)));
 }
 
 /// Only a poll that is absent is told, and each failure is.
 #[test]
-fn each_notice_is_the_struct_of_its_kind(rt: HostRuntime) {
-    equal_where_they_are_the_same();
-    let mut sink = MemorySink::new(rt.alloc(), Vec::new(rt.alloc()));
-    for (news, of_none) in EACH {
-        expect_ends(&rt, rt.alloc(), news, &mut sink, *of_none);
+fn a_notice_is_taken_absent_or_failed(rt: HostRuntime) {
+    let alloc = rt.alloc();
+    let mut sink = MemorySink::new(alloc, Vec::new(alloc));
+    for news in FIVE {
+        let notice = notice(alloc, news).expect(&rt, "there is memory");
+        let of_none = match news {
+            News::Poll => Err(Undelivered::Absent),
+            _ => Ok(()),
+        };
+        let ends = [
+            deliver(&notice, &mut sink),
+            end(&rt, alloc, &notice, Sending::Absent),
+            end(&rt, alloc, &notice, Sending::Failed),
+        ];
+        expect_same(&rt, &ends, &[Ok(()), of_none, Err(Undelivered::Failed)]);
     }
-    holds(&rt, &sink, FRAMES);
+    expect_same(&rt, &sink.frames().len(), &5);
 }
 
 #[test]
@@ -254,22 +234,6 @@ fn drain<R: Wait>(
     sink
 }
 
-/// The line holds these notices, and no other.
-fn expect_drained<R: Wait + Abort + AllocGlobal>(
-    rt: &R,
-    line: &Line<Parcel>,
-    first: &mut Pass<Parcel>,
-    frames: Frames,
-)
-    requires line { first.old.line ≡ line.now }
-    requires kind { first.old.hand.kind ≡ First }
-    ensures line { first.new.line ≡ line.now }
-    ensures kind { first.new.hand.kind ≡ First }
-{
-    let sink = drain(rt, rt.alloc(), line, first);
-    holds(rt, &sink, frames);
-}
-
 /// Queues the notice of this.
 fn notify<R: Wait + AllocGlobal>(
     rt: &R,
@@ -285,42 +249,63 @@ fn notify<R: Wait + AllocGlobal>(
     }
 }
 
-/// What is done with a line, and comes of it.
-enum Step {
-    /// The notice of this is made and queued, with this answer.
-    Notify(News, Result<(), NotifyError>),
-    /// The notices that wait are taken, and are these.
-    Drain(Frames),
-    /// A poll finds the line full, comes back, and is told once.
-    Poll,
-    /// The three notices that take bytes are queued with so many, and are these.
-    Carry(usize, Frames),
-}
-
-/// Makes the notice of this, and queues it, with this answer.
+/// The notice of this is queued, or not, as the answer says.
 fn expect_notified<R: Wait + Abort + AllocGlobal>(
     rt: &R,
     notifier: &mut Notifier,
     news: &News,
     answer: Result<(), NotifyError>,
 ) {
-    let is_made = notice(rt.alloc(), news).is_ok();
-    let found = (is_made, notify(rt, notifier, news));
-    expect_same(rt, &found, &(true, answer));
+    expect_same(rt, &notify(rt, notifier, news), &answer);
 }
 
-/// The poll finds the line full, and comes back. It is told once the line's notice is taken.
-fn expect_told_once<R: Wait + Abort + AllocGlobal>(
+/// The line holds this notice, and no other.
+fn expect_waits<R: Wait + Abort + AllocGlobal>(
     rt: &R,
     line: &Line<Parcel>,
     first: &mut Pass<Parcel>,
-    notifier: &mut Notifier,
+    frame: &[u8],
 )
     requires line { first.old.line ≡ line.now }
     requires kind { first.old.hand.kind ≡ First }
     ensures line { first.new.line ≡ line.now }
     ensures kind { first.new.hand.kind ≡ First }
 {
+    let sink = drain(rt, rt.alloc(), line, first);
+    expect_same(rt, &sink.frames().len(), &1);
+    for found in sink.frames() {
+        expect_same(rt, &found.as_slice(), &frame);
+    }
+}
+
+/// A line of as many places as there are notices takes each, as it is made.
+fn expect_each_queued<R: Wait + Abort + AllocGlobal>(rt: &R) {
+    let (line, mut first, mut notifier) = line_of(rt, rt.alloc(), 10);
+    for (news, _) in EACH {
+        expect_notified(rt, &mut notifier, news, Ok(()));
+    }
+    let sink = drain(rt, rt.alloc(), &line, &mut first);
+    expect_same(rt, &sink.frames().len(), &10);
+    for (found, (_, frame)) in sink.frames().iter().zip(EACH) {
+        expect_same(rt, &found.as_slice(), frame);
+    }
+}
+
+/// A full line refuses each, and takes again once its notice is taken.
+fn expect_refused<R: Wait + Abort + AllocGlobal>(rt: &R) {
+    let (line, mut first, mut notifier) = line_of(rt, rt.alloc(), 1);
+    expect_notified(rt, &mut notifier, &News::InvalEntry(b"abc"), Ok(()));
+    for news in FIVE {
+        expect_notified(rt, &mut notifier, news, Err(NotifyError::Full));
+    }
+    expect_waits(rt, &line, &mut first, INVAL_ENTRY);
+    expect_notified(rt, &mut notifier, &News::InvalInode(FROM, LENGTH), Ok(()));
+    expect_waits(rt, &line, &mut first, INVAL_INODE);
+}
+
+/// A poll finds the line full, and comes back. It is told once the line's notice is taken.
+fn expect_told_once<R: Wait + Abort + AllocGlobal>(rt: &R) {
+    let (line, mut first, mut notifier) = line_of(rt, rt.alloc(), 1);
     let poll = notifier.poll_notifier(HANDLE).expect(rt, "there is memory");
     expect_same(rt, &poll.handle(), &HANDLE);
     let mut another = notifier.again().expect(rt, "there is memory");
@@ -328,111 +313,25 @@ fn expect_told_once<R: Wait + Abort + AllocGlobal>(
     let Err(full) = poll.notify(rt) else {
         panic!(rt; "the line is full");
     };
-    expect_drained(rt, line, first, &[(36, INVAL_ENTRY)]);
+    expect_waits(rt, &line, &mut first, INVAL_ENTRY);
     expect_same(rt, &full.item.handle(), &HANDLE);
     expect_same(rt, &full.item.notify(rt).is_ok(), &true);
-    expect_drained(rt, line, first, &[(24, POLL)]);
+    expect_waits(rt, &line, &mut first, POLL);
 }
 
-/// So many bytes.
-fn many(rt: &impl Abort, alloc: Global, count: usize) -> Vec<u8> {
-    vec![in alloc; 0x61; count].expect(rt, "there is memory")
+#[test]
+fn a_line_takes_notices_while_it_has_room(rt: HostRuntime) {
+    expect_each_queued(&rt);
+    expect_refused(&rt);
+    expect_told_once(&rt);
 }
-
-/// The notices of these bytes find memory, and are queued.
-fn expect_queued<R: Wait + Abort + AllocGlobal>(rt: &R, notifier: &mut Notifier, bytes: &[u8]) {
-    let found = (
-        notifier.inval_entry(rt, INODE, bytes),
-        notifier.store(rt, INODE, OFFSET, bytes),
-        notifier.delete(rt, INODE, CHILD, bytes),
-    );
-    expect_same(rt, &found, &(Ok(()), Ok(()), Ok(())));
-}
-
-/// The three notices of so many bytes find memory, and their frames are these.
-fn expect_carried<R: Wait + Abort + AllocGlobal>(
-    rt: &R,
-    line: &Line<Parcel>,
-    first: &mut Pass<Parcel>,
-    notifier: &mut Notifier,
-    count: usize,
-    frames: Frames,
-)
-    requires line { first.old.line ≡ line.now }
-    requires kind { first.old.hand.kind ≡ First }
-    ensures line { first.new.line ≡ line.now }
-    ensures kind { first.new.hand.kind ≡ First }
-{
-    let bytes = many(rt, rt.alloc(), count);
-    expect_queued(rt, notifier, &bytes);
-    expect_drained(rt, line, first, frames);
-}
-
-/// Takes a step, which goes as it says.
-fn take<R: Wait + Abort + AllocGlobal>(
-    rt: &R,
-    line: &Line<Parcel>,
-    first: &mut Pass<Parcel>,
-    notifier: &mut Notifier,
-    step: &Step,
-)
-    requires line { first.old.line ≡ line.now }
-    requires kind { first.old.hand.kind ≡ First }
-    ensures line { first.new.line ≡ line.now }
-    ensures kind { first.new.hand.kind ≡ First }
-{
-    match step {
-        Step::Notify(news, answer) => expect_notified(rt, notifier, news, *answer),
-        Step::Drain(frames) => expect_drained(rt, line, first, frames),
-        Step::Poll => expect_told_once(rt, line, first, notifier),
-        Step::Carry(count, frames) => expect_carried(rt, line, first, notifier, *count, frames),
-    }
-}
-
-/// Takes these steps with a line of so many places.
-fn take_all<R: Wait + Abort + AllocGlobal>(rt: &R, places: usize, steps: &[Step])
-    requires { 0 < places }
-{
-    let (line, mut first, mut notifier) = line_of(rt, rt.alloc(), places);
-    for step in steps {
-        take(rt, &line, &mut first, &mut notifier, step);
-    }
-}
-
-/// Each notice is queued as it is made.
-const QUEUED: &[Step] = &[
-    Step::Notify(News::Poll, Ok(())),
-    Step::Notify(News::InvalInode(FROM, LENGTH), Ok(())),
-    Step::Notify(News::InvalInode(-1, -2), Ok(())),
-    Step::Notify(News::InvalInode(0, 0), Ok(())),
-    Step::Notify(News::InvalEntry(b"abc"), Ok(())),
-    Step::Notify(News::InvalEntry(b""), Ok(())),
-    Step::Notify(News::Store(&[0xde, 0xad, 0xbe, 0xef]), Ok(())),
-    Step::Notify(News::Store(&[]), Ok(())),
-    Step::Notify(News::Delete(b"abc"), Ok(())),
-    Step::Notify(News::Delete(b""), Ok(())),
-    Step::Drain(FRAMES),
-];
-
-/// A full line refuses each, and takes again once its notice is taken.
-const REFUSED: &[Step] = &[
-    Step::Notify(News::InvalEntry(b"abc"), Ok(())),
-    Step::Notify(News::Poll, Err(NotifyError::Full)),
-    Step::Notify(News::InvalInode(FROM, LENGTH), Err(NotifyError::Full)),
-    Step::Notify(News::InvalEntry(b"abc"), Err(NotifyError::Full)),
-    Step::Notify(News::Store(&[0xde]), Err(NotifyError::Full)),
-    Step::Notify(News::Delete(b"abc"), Err(NotifyError::Full)),
-    Step::Drain(&[(36, INVAL_ENTRY)]),
-    Step::Notify(News::InvalInode(FROM, LENGTH), Ok(())),
-    Step::Drain(&[(40, INVAL_INODE)]),
-];
 
 /// What frames with 0x0102_0304 bytes begin with: that of an entry, of data, and of a name that is gone.
 const LONG_ENTRY: &[u8] = &[
     0x25, 3, 2, 1, 3, 0, 0, 0, 0, 0, 0, 0, 0, 0, 0, 0, // header
     0x88, 0x87, 0x86, 0x85, 0x84, 0x83, 0x82, 0x91, // parent
     4, 3, 2, 1, 0, 0, 0, 0, // namelen
-    0x61, // name
+    7, // name
 ];
 
 const LONG_STORE: &[u8] = &[
@@ -440,7 +339,7 @@ const LONG_STORE: &[u8] = &[
     0x88, 0x87, 0x86, 0x85, 0x84, 0x83, 0x82, 0x91, // nodeid
     0xb8, 0xb7, 0xb6, 0xb5, 0xb4, 0xb3, 0xb2, 0xb1, // offset
     4, 3, 2, 1, 0, 0, 0, 0, // size
-    0x61,
+    7,
 ];
 
 const LONG_DELETE: &[u8] = &[
@@ -448,47 +347,39 @@ const LONG_DELETE: &[u8] = &[
     0x88, 0x87, 0x86, 0x85, 0x84, 0x83, 0x82, 0x91, // parent
     0xa8, 0xa7, 0xa6, 0xa5, 0xa4, 0xa3, 0xa2, 0xa1, // child
     4, 3, 2, 1, 0, 0, 0, 0, // namelen
-    0x61, // name
+    7, // name
 ];
 
-/// Bytes of lengths about 144 with what stands in front of them and behind, and of longer ones.
-const LONG: &[Step] = &[
-    Step::Carry(119, &[(152, &[]), (159, &[]), (160, &[])]),
-    Step::Carry(120, &[(153, &[]), (160, &[]), (161, &[])]),
-    Step::Carry(121, &[(154, &[]), (161, &[]), (162, &[])]),
-    Step::Carry(122, &[(155, &[]), (162, &[]), (163, &[])]),
-    Step::Carry(123, &[(156, &[]), (163, &[]), (164, &[])]),
-    Step::Carry(124, &[(157, &[]), (164, &[]), (165, &[])]),
-    Step::Carry(125, &[(158, &[]), (165, &[]), (166, &[])]),
-    Step::Carry(126, &[(159, &[]), (166, &[]), (167, &[])]),
-    Step::Carry(127, &[(160, &[]), (167, &[]), (168, &[])]),
-    Step::Carry(128, &[(161, &[]), (168, &[]), (169, &[])]),
-    Step::Carry(129, &[(162, &[]), (169, &[]), (170, &[])]),
-    Step::Carry(1000, &[(1033, &[]), (1040, &[]), (1041, &[])]),
-    Step::Carry(65_536, &[(65_569, &[]), (65_576, &[]), (65_577, &[])]),
-    Step::Carry(
-        0x0102_0304,
-        &[
-            (0x0102_0325, LONG_ENTRY),
-            (0x0102_032c, LONG_STORE),
-            (0x0102_032d, LONG_DELETE),
-        ],
-    ),
+/// How many bytes notices carry, about 144 with what stands in front of them and behind, and more.
+const COUNTS: &[usize] = &[
+    119, 120, 121, 122, 123, 124, 125, 126, 127, 128, 129, 1000, 65_536,
 ];
 
-#[test]
-fn a_line_takes_notices_while_it_has_room(rt: HostRuntime) {
-    let prompt = Parcel::Prompt(0, Out::note(RequestId(2), 3));
-    expect_same(&rt, &prompt.inner(), &true);
-    take_all(&rt, 10, QUEUED);
-    take_all(&rt, 65_536, QUEUED);
-    take_all(&rt, 1, REFUSED);
-    take_all(&rt, 1, &[Step::Poll]);
+/// The three notices of so many bytes find memory, their frames are as long, and begin so.
+fn expect_carried<R: Wait + Abort + AllocGlobal>(rt: &R, count: usize, fronts: [&[u8]; 3]) {
+    let bytes = many(rt, rt.alloc(), count);
+    let (line, mut first, mut notifier) = line_of(rt, rt.alloc(), 4);
+    let found = (
+        notifier.inval_entry(rt, INODE, &bytes),
+        notifier.store(rt, INODE, OFFSET, &bytes),
+        notifier.delete(rt, INODE, CHILD, &bytes),
+    );
+    expect_same(rt, &found, &(Ok(()), Ok(()), Ok(())));
+    let sink = drain(rt, rt.alloc(), &line, &mut first);
+    expect_same(rt, &sink.frames().len(), &3);
+    let expected = [33, 40, 41].iter().zip(&fronts);
+    for (frame, (more, front)) in sink.frames().iter().zip(expected) {
+        let found = (frame.as_slice().len(), frame.as_slice().get(..front.len()));
+        expect_same(rt, &found, &(count.saturating_add(*more), Some(*front)));
+    }
 }
 
 #[test]
 fn long_notices_find_memory_where_there_is_some(rt: HostRuntime) {
-    take_all(&rt, 4, LONG);
+    for count in COUNTS {
+        expect_carried(&rt, *count, [&[], &[], &[]]);
+    }
+    expect_carried(&rt, 0x0102_0304, [LONG_ENTRY, LONG_STORE, LONG_DELETE]);
 }
 
 #[test]
@@ -503,5 +394,9 @@ fn two_threads_notify_on_one_line(rt: HostRuntime) {
         || notifier.poll(&rt, HANDLE).is_ok(),
     );
     expect_same(&rt, &answers, &(true, true));
-    expect_drained(&rt, &line, &mut first, &[(24, POLL), (24, POLL)]);
+    let sink = drain(&rt, rt.alloc(), &line, &mut first);
+    expect_same(&rt, &sink.frames().len(), &2);
+    for found in sink.frames() {
+        expect_same(&rt, &found.as_slice(), &POLL);
+    }
 }

@@ -5,5 +5,5 @@ use Rattle.fuse_reply_tests.proofs.deferral_tests.carry_later.Goals as goal
 
 pub send_or_retire-requires : goal.send_or_retire-requires
 send_or_retire-requires g c =
-    answered_or_starved c.parted-out.result.1.id c.parted-out.result.2.id.0 (Data c.args.bytes.now) c.data.result c.parted-out.ensures
+    answered_or_starved c.reply-reply.result.0.id c.reply-reply.result.1.id.0 (Data c.args.bytes.now) c.data.result c.reply-reply.ensures.id
     c.data.ensures.replies c.data.ensures.answer
