@@ -430,11 +430,11 @@ const RESULTS: &[(i32, [u8; 4])] = &[
 fn ioctls_and_extended_attributes_are_sent(rt: HostRuntime) {
     let alloc = rt.alloc();
     for (code, result) in RESULTS {
-        let replied = ReplyIoctl::new(alloc, ID).ioctl(*code, &[7]);
+        let replied = ReplyIoctl::new(alloc, ID).ioctl(*code, within(&rt, &[7]));
         let rest = [0, 0, 0, 0, 1, 0, 0, 0, 1, 0, 0, 0, 7];
         carries(&rt, alloc, replied, &[result, &rest]);
     }
     let attribute = [0x11, 0x22, 0x33, 0x44];
-    let replied = ReplyXattr::new(alloc, ID).data(&attribute);
+    let replied = ReplyXattr::new(alloc, ID).data(within(&rt, &attribute));
     carries(&rt, alloc, replied, &[&attribute]);
 }

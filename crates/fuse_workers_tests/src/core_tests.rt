@@ -38,27 +38,30 @@ fn doors_to<R: AllocGlobal + Abort>(rt: &R, line: &mut RunLine<Parcel>) -> Doors
     line.doors(mark).expect(rt, "there is memory")
 }
 
-/// The frame of a parcel that came late.
-fn late_of(parcel: Option<Parcel>) -> Option<LateFrame> {
-    match parcel {
-        Some(Parcel::Late(frame)) => Some(frame),
-        other => {
-            drop(other);
-            None
-        }
-    }
-}
-
 /// The frame of the empty reply to the message of this number under this id, which comes later.
-fn late<R: Wait + AllocGlobal + Abort>(rt: &R, seq: u64, id: RequestId) -> Option<LateFrame> {
+fn late<R: Wait + AllocGlobal + Abort>(rt: &R, seq: u64, id: RequestId) -> LateFrame {
     let mut line = RunLine::new(rt.alloc()).expect(rt, "there is memory");
     let mut doors = doors_to(rt, &mut line);
     let reply = ReplyEmpty::new(rt.alloc(), id);
     queue_late(rt, reply.with_door(doors.door(seq)));
     drop(doors);
-    let parcel = line.next(rt);
-    drop(line);
-    late_of(parcel)
+    match line.next(rt) {
+        Some(Parcel::Late(frame)) => frame,
+        _other => panic!(rt; "the frame waits"),
+    }
+}
+
+/// The frame of a notice.
+fn notice<R: Wait + AllocGlobal + Abort>(rt: &R) -> NoticeFrame {
+    let mut line = RunLine::new(rt.alloc()).expect(rt, "there is memory");
+    let mut notifier = line.notifier().expect(rt, "there is memory");
+    notifier
+        .poll(rt, PollHandle(4))
+        .expect(rt, "the line has a place");
+    match line.next(rt) {
+        Some(Parcel::Notice(frame)) => frame,
+        _other => panic!(rt; "the notice waits"),
+    }
 }
 
 /// The number and id that a letter is of.
@@ -82,30 +85,6 @@ fn out_of<R: AllocGlobal>(rt: &R, letter: u8) -> Out {
         b'i' => Out::note(id, 3),
         _ => Out::Deferred(seq, id),
     }
-}
-
-/// The frame of a parcel that is a notice.
-fn notice_of(parcel: Option<Parcel>) -> Option<NoticeFrame> {
-    match parcel {
-        Some(Parcel::Notice(frame)) => Some(frame),
-        other => {
-            drop(other);
-            None
-        }
-    }
-}
-
-/// The frame of a notice.
-fn notice<R: Wait + AllocGlobal + Abort>(rt: &R) -> Option<NoticeFrame> {
-    let mut line = RunLine::new(rt.alloc()).expect(rt, "there is memory");
-    let mut notifier = line.notifier().expect(rt, "there is memory");
-    notifier
-        .poll(rt, PollHandle(4))
-        .expect(rt, "the line has a place");
-    drop(notifier);
-    let parcel = line.next(rt);
-    drop(line);
-    notice_of(parcel)
 }
 
 /// What a worker or the sender does by a letter, a capital one that of the last worker, where there are several.
@@ -138,8 +117,8 @@ fn event<R: Wait + AllocGlobal + Abort>(rt: &R, workers: usize, letter: u8) -> E
         b'v' => Event::Receive(nothing(rt)),
         b'o' | b'm' => Event::Own(message(rt), out_of(rt, letter)),
         b'b' | b'c' => Event::Own(nothing(rt), out_of(rt, letter)),
-        b'l' | b'L' | b'M' => Event::Late(late(rt, seq, id).expect(rt, "the frame waits")),
-        b'n' => Event::Notify(notice(rt).expect(rt, "the notice waits")),
+        b'l' | b'L' | b'M' => Event::Late(late(rt, seq, id)),
+        b'n' => Event::Notify(notice(rt)),
         _ => step_of(rt, workers, letter),
     }
 }
@@ -259,30 +238,10 @@ fn counts_of(state: &State) -> Counts {
     ]
 }
 
-/// What is looked at in a state: the counts, and of the first job its number and whether its message is the one.
-type Seen = (Counts, Option<(u64, bool)>);
-
-/// The number of the first job, and whether its message is the one.
-fn first_job(state: &State) -> Option<(u64, bool)> {
-    match state.jobs.as_slice().first() {
-        Some(job) => Some((job.seq, job.message.as_slice() == MESSAGE)),
-        None => None,
-    }
-}
-
-/// What is looked at after an event. None: it can't happen.
-fn seen_after(after: &Option<State>) -> Option<Seen> {
+/// The counts after an event. None: it can't happen.
+fn counts_after(after: &Option<State>) -> Option<Counts> {
     match after {
-        Some(state) => Some((counts_of(state), first_job(state))),
-        None => None,
-    }
-}
-
-/// The same where there are to be these counts. The first message is the one of the first job, where one waits.
-fn seen_by(counts: &Option<Counts>) -> Option<Seen> {
-    match counts {
-        Some(counts) if counts[1] == 0 => Some((*counts, None)),
-        Some(counts) => Some((*counts, Some((0, true)))),
+        Some(state) => Some(counts_of(state)),
         None => None,
     }
 }
@@ -292,35 +251,39 @@ fn start<R: AllocGlobal + Abort>(rt: &R, workers: usize) -> State {
     State::new(rt.alloc(), workers).expect(rt, "there is memory")
 }
 
-/// What is seen after a run of the events of these letters from there.
-fn once_run<R: Wait + AllocGlobal + Abort>(rt: &R, workers: usize, letters: &[u8]) -> Option<Seen> {
+/// The counts after a run of the events of these letters from there.
+fn once_run<R: Wait + AllocGlobal + Abort>(
+    rt: &R,
+    workers: usize,
+    letters: &[u8],
+) -> Option<Counts> {
     let events = events_of(rt, workers, letters);
     let start = start(rt, workers);
     let reached = run(rt.alloc(), &start, &events).expect(rt, "there is memory");
     drop(start);
     drop(events);
-    let seen = seen_after(&reached);
+    let counts = counts_after(&reached);
     drop(reached);
-    seen
+    counts
 }
 
-/// What is seen after a step by the event of this letter from there.
-fn once_stepped<R: Wait + AllocGlobal + Abort>(rt: &R, letter: u8) -> Option<Seen> {
+/// The counts after a step by the event of this letter from there.
+fn once_stepped<R: Wait + AllocGlobal + Abort>(rt: &R, letter: u8) -> Option<Counts> {
     let event = event(rt, 1, letter);
     let start = start(rt, 1);
     let stepped = step(rt.alloc(), &start, &event).expect(rt, "there is memory");
     drop(start);
     drop(event);
-    let seen = seen_after(&stepped);
+    let counts = counts_after(&stepped);
     drop(stepped);
-    seen
+    counts
 }
 
 /// Events come to what these rows say, with so many workers.
 fn expect_rows<R: Wait + AllocGlobal + Abort>(rt: &R, workers: usize, rows: &[Row]) {
     for (letters, wanted) in rows {
         let found = once_run(rt, workers, letters.as_bytes());
-        expect_same(rt, &(*letters, found), &(*letters, seen_by(wanted)));
+        expect_same(rt, &(*letters, found), &(*letters, *wanted));
     }
 }
 
@@ -335,48 +298,19 @@ fn events_happen_where_they_may(rt: HostRuntime) {
 }
 
 #[test]
-fn more_messages_are_answered_than_a_line_holds(rt: HostRuntime) {
-    let letters = b"rtaps".repeat(rt.alloc(), 70);
-    let letters = letters.expect(&rt, "there is memory");
-    let found = once_run(&rt, 1, &letters);
-    expect_same(&rt, &found, &Some(([70, 0, 0, 70, 0, 0, 0], None)));
-}
-
-#[test]
-fn a_message_received_is_the_one_job(rt: HostRuntime) {
+fn one_step_is_the_first_of_a_run(rt: HostRuntime) {
     let found = (once_stepped(&rt, b'r'), once_stepped(&rt, b't'));
-    let expected = Some(([1, 1, 0, 0, 0, 0, 0], Some((0, true))));
-    expect_same(&rt, &found, &(expected, None));
-}
-
-/// The counts after 64 events of a letter. One more can't happen.
-const FILLED: &[(u8, Option<Counts>)] = &[
-    (b'r', Some([64, 64, 0, 0, 0, 0, 0])),
-    (b'o', Some([64, 0, 64, 0, 0, 0, 0])),
-    (b'l', Some([0, 0, 64, 0, 0, 0, 0])),
-];
-
-#[test]
-fn a_line_has_64_places(rt: HostRuntime) {
-    for (letter, counts) in FILLED {
-        let found = (
-            once_run(&rt, 1, &[*letter; 64]),
-            once_run(&rt, 1, &[*letter; 65]),
-        );
-        expect_same(&rt, &found, &(seen_by(counts), None));
-    }
+    expect_same(&rt, &found, &(Some([1, 1, 0, 0, 0, 0, 0]), None));
 }
 
 /// Whether the mark of this number and id is that of the number 1 and the id 2.
 fn is_the_mark(seq: u64, id: u64) -> bool {
+    let id = RequestId(id);
     let mark = Mark {
-        seq,
-        id: RequestId(id),
-    };
-    mark == Mark {
         seq: 1,
         id: RequestId(2),
-    }
+    };
+    mark == Mark { seq, id }
 }
 
 #[test]

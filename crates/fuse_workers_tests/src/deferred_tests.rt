@@ -1,7 +1,7 @@
 // Runs whose replies come later, by threads of the tests' own.
 use crate::asserts::expect_same;
 use crate::deferring::{Deferring, Plan, Tally};
-use crate::devices::{Counter, MOST_TURNS, Pace, PacedSource, WatchedSink, new_counter, share};
+use crate::devices::{Counter, Pace, PacedSource, WatchedSink, new_counter, share};
 use crate::frames::Said;
 use crate::runs::{Became, counts, line_of, outcome_of};
 use crate::turns::Piece;
@@ -41,185 +41,117 @@ struct Setup {
     is_held_back: bool,
 }
 
-/// A run, and what becomes of it once it ended for want of messages.
-struct Row {
-    setup: Setup,
-    /// How many messages were taken.
-    received: u64,
-    /// How many ids have their reply.
-    replied: u64,
-    /// The bits of these ids.
-    first: u64,
-    /// The bits of the ids of which that is known.
-    known: u64,
-    /// How many frames are a second reply.
-    other: u64,
-    /// How many late frames were queued.
-    sent: u64,
-    /// How many came after the end.
-    closed: u64,
-}
+/// Each reply is put off, and answered once the run has ended.
+const PLAN: Plan = Plan {
+    prompt: NO_ID,
+    held: NO_ID,
+    awaited: 0,
+    least: 0,
+    quota: 0,
+    delay: 0,
+};
 
-const ROWS: &[Row] = &[
+/// Ten messages, which come at once, on two workers, beside one thread that answers late.
+const SETUP: Setup = Setup {
+    turns: &[Piece::Requests(0, 10)],
+    plan: PLAN,
+    workers: 2,
+    threads: 1,
+    pace: Pace::Free,
+    is_held_back: false,
+};
+
+/// What becomes of a run once it ended for want of messages: how many were taken, how many ids have their reply, the bits of
+/// these where they are known, how many frames are a second reply, how many late frames were queued, and how many came
+/// after the end.
+type Outcome = (u64, u64, Option<u64>, u64, u64, u64);
+
+const ROWS: &[(Setup, Outcome)] = &[
     // A reply comes later by another thread.
-    Row {
-        setup: Setup {
+    (
+        Setup {
             turns: &[Piece::Requests(2, 4)],
             plan: Plan {
-                prompt: NO_ID,
                 held: 3,
                 awaited: 1,
-                most_turns: 1_000_000,
-                least: 0,
                 quota: 1,
-                delay: 0,
+                ..PLAN
             },
-            workers: 2,
-            threads: 1,
-            pace: Pace::Free,
-            is_held_back: false,
+            ..SETUP
         },
-        received: 2,
-        replied: 2,
-        first: 0b1100,
-        known: u64::MAX,
-        other: 0,
-        sent: 1,
-        closed: 0,
-    },
+        (2, 2, Some(0b1100), 0, 1, 0),
+    ),
     // Two come under one id, the second of which is counted among the others.
-    Row {
-        setup: Setup {
+    (
+        Setup {
             turns: &[Piece::Requests(2, 3), Piece::Requests(2, 4)],
             plan: Plan {
-                prompt: NO_ID,
                 held: 3,
                 awaited: 2,
-                most_turns: 1_000_000,
-                least: 0,
                 quota: 2,
-                delay: 0,
+                ..PLAN
             },
-            workers: 2,
-            threads: 1,
-            pace: Pace::Free,
-            is_held_back: false,
+            ..SETUP
         },
-        received: 3,
-        replied: 2,
-        first: 0b1100,
-        known: u64::MAX,
-        other: 1,
-        sent: 2,
-        closed: 0,
-    },
+        (3, 2, Some(0b1100), 1, 2, 0),
+    ),
     // Many come later from four threads. The last message is answered once half of the others were, and only then the run
     // ends.
-    Row {
-        setup: Setup {
+    (
+        Setup {
             turns: &[Piece::Requests(0, MANY + 1)],
             plan: Plan {
-                prompt: NO_ID,
                 held: MANY,
                 awaited: HALF,
-                most_turns: MOST_TURNS,
-                least: 0,
                 quota: HALF,
-                delay: 0,
+                ..PLAN
             },
-            workers: 2,
             threads: 4,
-            pace: Pace::Free,
-            is_held_back: false,
+            ..SETUP
         },
-        received: MANY + 1,
-        replied: HALF + 1,
-        first: 0,
-        known: 0,
-        other: 0,
-        sent: HALF,
-        closed: MANY - HALF,
-    },
+        (MANY + 1, HALF + 1, None, 0, HALF, MANY - HALF),
+    ),
     // A reply after the end is told how many were taken.
-    Row {
-        setup: Setup {
-            turns: &[Piece::Requests(0, 10)],
-            plan: Plan {
-                prompt: 7,
-                held: NO_ID,
-                awaited: 0,
-                most_turns: 0,
-                least: 0,
-                quota: 0,
-                delay: 0,
-            },
-            workers: 2,
-            threads: 1,
-            pace: Pace::Free,
-            is_held_back: false,
+    (
+        Setup {
+            plan: Plan { prompt: 7, ..PLAN },
+            ..SETUP
         },
-        received: 10,
-        replied: 1,
-        first: 0b1000_0000,
-        known: u64::MAX,
-        other: 0,
-        sent: 0,
-        closed: 9,
-    },
+        (10, 1, Some(0b1000_0000), 0, 0, 9),
+    ),
     // A reply that finds the line full is sent again. With no worker the parcels come in order: the first frame, and then
     // 65 marks. Where 65 tokens lie on the shelf, 64 of the marks were pushed behind that frame, which the sender has taken.
-    Row {
-        setup: Setup {
+    (
+        Setup {
             turns: &[Piece::Requests(0, 67)],
             plan: Plan {
                 prompt: 0,
                 held: 66,
                 awaited: 1,
-                most_turns: MOST_TURNS,
                 least: 65,
                 quota: 1,
-                delay: 0,
+                ..PLAN
             },
             workers: 0,
-            threads: 1,
-            pace: Pace::Free,
             is_held_back: true,
+            ..SETUP
         },
-        received: 67,
-        replied: 3,
-        first: 0,
-        known: 0,
-        other: 0,
-        sent: 1,
-        closed: 64,
-    },
+        (67, 3, None, 0, 1, 64),
+    ),
     // A late frame wakes whoever sends: each message comes once the one frame of the one before it was sent, which comes some
     // turns after its mark.
-    Row {
-        setup: Setup {
-            turns: &[Piece::Requests(0, 10)],
+    (
+        Setup {
             plan: Plan {
-                prompt: NO_ID,
-                held: NO_ID,
-                awaited: 0,
-                most_turns: 0,
-                least: 0,
                 quota: u64::MAX,
                 delay: 200,
+                ..PLAN
             },
-            workers: 2,
-            threads: 1,
             pace: Pace::ByFrame,
-            is_held_back: false,
+            ..SETUP
         },
-        received: 10,
-        replied: 10,
-        first: 0x3ff,
-        known: u64::MAX,
-        other: 0,
-        sent: 10,
-        closed: 0,
-    },
+        (10, 10, Some(0x3ff), 0, 10, 0),
+    ),
 ];
 
 /// What becomes of a run, with its line of frames, and whether nobody else has a share of that of jobs.
@@ -281,62 +213,55 @@ fn run_later<R: Threads + Wait + AllocGlobal + Abort + Sync>(
     (became, tally, full.load(Ordering::SeqCst) > 0)
 }
 
-/// What becomes of the run of a row.
-fn expected(row: &Row) -> (Became, Tally) {
-    let became = Became {
+/// This becomes of the run. Where the sink was held back, the line was full.
+fn expect_outcome<R: Threads + Wait + AllocGlobal + Abort + Sync>(
+    rt: &R,
+    setup: Setup,
+    outcome: &Outcome,
+) {
+    let (received, replied, first, other, sent, closed) = *outcome;
+    let (mut became, tally, is_full) = run_later(rt, setup);
+    if first.is_none() {
+        became.said.first = 0;
+    }
+    let expected = Became {
         end: b'g',
-        transcript: counts(row.received, row.replied.saturating_add(row.other), 0),
+        transcript: counts(received, replied.saturating_add(other), 0),
         said: Said {
-            replied: row.replied,
-            first: row.first,
-            other: row.other,
+            replied,
+            first: first.unwrap_or(0),
+            other,
         },
     };
-    let tally = Tally {
-        sent: row.sent,
-        closed: row.closed,
-        is_told: true,
+    let is_told = true;
+    let counted = Tally {
+        sent,
+        closed,
+        is_told,
     };
-    (became, tally)
-}
-
-/// The run of a row becomes what it says. Where the sink was held back, the line was full.
-fn expect_row<R: Threads + Wait + AllocGlobal + Abort + Sync>(rt: &R, row: &Row) {
-    let (mut became, tally, is_full) = run_later(rt, row.setup);
-    became.said.first &= row.known;
-    let is_as_held = is_full || !row.setup.is_held_back;
-    expect_same(rt, &((became, tally), is_as_held), &(expected(row), true));
+    let is_as_held = is_full || !setup.is_held_back;
+    expect_same(rt, &(became, tally, is_as_held), &(expected, counted, true));
 }
 
 #[test]
 fn replies_come_later(rt: HostRuntime) {
-    for row in ROWS {
-        expect_row(&rt, row);
+    for (setup, outcome) in ROWS {
+        expect_outcome(&rt, *setup, outcome);
     }
 }
 
 #[test]
 fn replies_come_while_the_run_ends(rt: HostRuntime) {
-    let plan = Plan {
-        prompt: NO_ID,
-        held: NO_ID,
-        awaited: 0,
-        most_turns: 0,
-        least: 0,
-        quota: u64::MAX,
-        delay: 0,
-    };
-    let (became, tally, _) = run_later(
-        &rt,
-        Setup {
-            turns: &[Piece::Requests(0, SOME)],
-            plan,
-            workers: 2,
-            threads: 4,
-            pace: Pace::Free,
-            is_held_back: false,
+    let setup = Setup {
+        turns: &[Piece::Requests(0, SOME)],
+        plan: Plan {
+            quota: u64::MAX,
+            ..PLAN
         },
-    );
+        threads: 4,
+        ..SETUP
+    };
+    let (became, tally, _) = run_later(&rt, setup);
     let Said { replied, other, .. } = became.said;
     let answered = tally.sent.saturating_add(tally.closed);
     // Each of the four threads may have looked for the end before it came, and pushed when none took any more.
@@ -347,5 +272,5 @@ fn replies_come_while_the_run_ends(rt: HostRuntime) {
         &(became.transcript, other, tally.is_told),
         &(counts(SOME, replied, 0), 0, true),
     );
-    expect_same(&rt, &(unsent, answered, is_sent), &(unsent, SOME, true));
+    expect_same(&rt, &(answered, is_sent), &(SOME, true));
 }

@@ -4,7 +4,7 @@ ghost use Rattle.std.proofs.Common.{inl};
 ghost use Rattle.fuse_reply.specs.Late.{IsFrameFor};
 ghost use Rattle.fuse_workers_tests.specs.NowOrLater.{NowOrLater, NowOrLater-destroy};
 
-use crate::devices::{Counter, pass_turns};
+use crate::devices::{Counter, await_count, pass_turns};
 use crate::works::id_of;
 use fuse_notify::Notifier;
 use fuse_reply::{Door, LateRefusal, Later, NoDoor, Out, Replied, ReplyEmpty};
@@ -130,8 +130,6 @@ pub(crate) struct Plan {
     pub(crate) held: u64,
     /// How many that are.
     pub(crate) awaited: u64,
-    /// How often is looked, at most, whether they were.
-    pub(crate) most_turns: u64,
     /// How many tokens have to lie on the shelf before the first is taken.
     pub(crate) least: usize,
     /// How many may be taken while the run goes on.
@@ -177,30 +175,13 @@ impl Deferring {
         }
     }
 
-    /// Waits until as many late frames were queued as are awaited, or it has taken too long.
-    fn await_frames(&self) {
-        for _turn in 0..self.plan.most_turns {
-            if self.counts.sent.load(Ordering::SeqCst) >= self.plan.awaited {
-                return;
-            }
-            thread::yield_now();
-        }
-    }
-
     /// Whether the request of this id is not put off. Where it is the one that is held, that is known once the frames
-    /// that are awaited were queued.
+    /// that are awaited were queued; where they are not in time, it is put off too.
     fn is_prompt(&self, id: u64) -> bool {
         if id == self.plan.held {
-            self.await_frames();
-            return true;
+            return await_count(&self.counts.sent, self.plan.awaited);
         }
         id == self.plan.prompt
-    }
-
-    /// Holds a token for some turns, and answers it.
-    fn spend_held<R: Wait>(&self, rt: &R, later: Token) {
-        pass_turns(self.plan.delay);
-        self.counts.spend(rt, later);
     }
 
     /// Answers tokens in an order that the seed gives, until none is left once the run has ended.
@@ -211,7 +192,10 @@ impl Deferring {
             state = state.wrapping_mul(MULTIPLIER).wrapping_add(1);
             let token = self.shelf.lock(rt).take((state >> 32) as usize, is_over);
             match token {
-                Some(later) => self.spend_held(rt, later),
+                Some(later) => {
+                    pass_turns(self.plan.delay);
+                    self.counts.spend(rt, later);
+                }
                 None if is_over => return,
                 None => thread::yield_now(),
             }

@@ -11,7 +11,7 @@ use std::sync::atomic::{AtomicU64, Ordering};
 use std::thread;
 
 /// How often in a row a device waits at most.
-pub(crate) const MOST_TURNS: u64 = 10_000_000;
+const MOST_TURNS: u64 = 10_000_000;
 
 /// A counter that several share.
 pub(crate) type Counter = Arc<AtomicU64, Global>;

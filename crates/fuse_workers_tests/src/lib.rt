@@ -1,6 +1,6 @@
-//! The tests of `fuse_workers`: runs over memory on any number of threads, with works that count what they answer, hold an
-//! answer, put it off, or tell polls, and with devices that fail.
-//! They stand apart from the code that they test, since the gate proves a crate once more for the tests in it.
+//! The tests of `fuse_core`, `fuse_loop` and `fuse_workers`: which events may happen, marks and late frames in every order,
+//! and runs over memory on any number of threads, with works that count what they answer, hold an answer, put it off, or
+//! tell polls, and with devices that fail or wait.
 #![tactic(auto)]
 
 #[cfg(test)]
@@ -18,11 +18,7 @@ mod devices;
 #[cfg(test)]
 mod frames;
 #[cfg(test)]
-mod full_tests;
-#[cfg(test)]
 mod notice_tests;
-#[cfg(test)]
-mod paced_tests;
 #[cfg(test)]
 mod run_tests;
 #[cfg(test)]
@@ -31,5 +27,7 @@ mod runs;
 mod telling;
 #[cfg(test)]
 mod turns;
+#[cfg(test)]
+mod waiting_tests;
 #[cfg(test)]
 mod works;

@@ -1,6 +1,5 @@
 // The turns that the source of a run gives.
 use fuse_request::opcode::{FUSE_DESTROY, FUSE_STATFS};
-use fuse_wire::consts::BUFFER_SIZE;
 use fuse_wire::{Items, MemorySource, Turn};
 use std::process::Abort;
 
@@ -11,8 +10,6 @@ pub(crate) enum Piece {
     Requests(u64, u64),
     /// The same, each of so many bytes, at least those of a header.
     Long(u64, u64, u32),
-    /// The same, each as long as the buffer that messages are received in.
-    Longest(u64, u64),
     /// A STATFS of each id below the first number, and before each as many turns that give nothing as the second says.
     Apart(u64, u64),
     /// A DESTROY of this id.
@@ -24,7 +21,7 @@ pub(crate) enum Piece {
 }
 
 /// A message of so many bytes, at least those of a header.
-fn message_of<R: AllocGlobal + Abort>(rt: &R, opcode: u32, id: u64, length: u32) -> Turn {
+fn message<R: AllocGlobal + Abort>(rt: &R, opcode: u32, id: u64, length: u32) -> Turn {
     let mut bytes = Vec::new(rt.alloc());
     bytes
         .extend_from_slice(&length.to_le_bytes())
@@ -41,11 +38,6 @@ fn message_of<R: AllocGlobal + Abort>(rt: &R, opcode: u32, id: u64, length: u32)
     Turn::Message(Items::from_vec(bytes))
 }
 
-/// A message with no arguments.
-fn message<R: AllocGlobal + Abort>(rt: &R, opcode: u32, id: u64) -> Turn {
-    message_of(rt, opcode, id, 40)
-}
-
 /// A message of twenty bytes.
 fn short<R: AllocGlobal + Abort>(rt: &R) -> Turn {
     let bytes = vec![in rt.alloc(); 0; 20].expect(rt, "there is memory");
@@ -57,48 +49,29 @@ fn put<R: Abort>(rt: &R, turns: &mut Vec<Turn>, turn: Turn) {
     turns.push(turn).expect(rt, "there is memory");
 }
 
-/// Puts so many turns that give nothing at the end.
-fn put_nothing<R: Abort>(rt: &R, turns: &mut Vec<Turn>, count: u64) {
-    for _turn in 0..count {
-        put(rt, turns, Turn::Retry);
-    }
-}
-
-/// Puts a STATFS of each of these ids at the end, and before each so many turns that give nothing.
+/// Puts a STATFS of so many bytes of each of these ids at the end, and before each so many turns that give nothing.
 fn put_requests<R: AllocGlobal + Abort>(
     rt: &R,
     turns: &mut Vec<Turn>,
-    first: u64,
-    end: u64,
+    ids: (u64, u64),
+    length: u32,
     nothing: u64,
 ) {
-    for id in first..end {
-        put_nothing(rt, turns, nothing);
-        put(rt, turns, message(rt, FUSE_STATFS, id));
-    }
-}
-
-/// Puts a STATFS of so many bytes of each of these ids at the end.
-fn put_long<R: AllocGlobal + Abort>(
-    rt: &R,
-    turns: &mut Vec<Turn>,
-    first: u64,
-    end: u64,
-    length: u32,
-) {
-    for id in first..end {
-        put(rt, turns, message_of(rt, FUSE_STATFS, id, length));
+    for id in ids.0..ids.1 {
+        for _turn in 0..nothing {
+            put(rt, turns, Turn::Retry);
+        }
+        put(rt, turns, message(rt, FUSE_STATFS, id, length));
     }
 }
 
 /// Puts the turns of a piece at the end.
 fn put_piece<R: AllocGlobal + Abort>(rt: &R, turns: &mut Vec<Turn>, piece: Piece) {
     match piece {
-        Piece::Requests(first, end) => put_requests(rt, turns, first, end, 0),
-        Piece::Long(first, end, length) => put_long(rt, turns, first, end, length),
-        Piece::Longest(first, end) => put_long(rt, turns, first, end, BUFFER_SIZE as u32),
-        Piece::Apart(count, nothing) => put_requests(rt, turns, 0, count, nothing),
-        Piece::Destroy(id) => put(rt, turns, message(rt, FUSE_DESTROY, id)),
+        Piece::Requests(first, end) => put_requests(rt, turns, (first, end), 40, 0),
+        Piece::Long(first, end, length) => put_requests(rt, turns, (first, end), length, 0),
+        Piece::Apart(count, nothing) => put_requests(rt, turns, (0, count), 40, nothing),
+        Piece::Destroy(id) => put(rt, turns, message(rt, FUSE_DESTROY, id, 40)),
         Piece::Short => put(rt, turns, short(rt)),
         Piece::Fault => put(rt, turns, Turn::Fail),
     }

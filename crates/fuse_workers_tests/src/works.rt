@@ -14,7 +14,7 @@ use fuse_wire::RequestId;
 use fuse_workers::Work;
 use std::alloc::AllocGlobal;
 use std::sync::Wait;
-use std::sync::atomic::{AtomicU64, Ordering};
+use std::sync::atomic::Ordering;
 use std::thread;
 
 /// How often an answer is held at most.
@@ -45,8 +45,6 @@ pub(crate) enum Hold {
     /// Until the other of its pair was called, of the first two calls, the next two, and so on. It is the same where that
     /// one is not in time.
     InPairs,
-    /// For so many turns.
-    Turns(u64),
 }
 
 /// Answers each message by an empty reply, and counts its calls.
@@ -54,24 +52,12 @@ pub(crate) enum Hold {
 pub(crate) struct Answering {
     hold: Hold,
     calls: Counter,
-    under_way: AtomicU64,
-    most: AtomicU64,
 }
 
 impl Answering {
     /// Holds each answer so, and counts the calls by this counter.
     pub(crate) fn new(hold: Hold, calls: Counter) -> Answering {
-        Answering {
-            hold,
-            calls,
-            under_way: AtomicU64::new(0),
-            most: AtomicU64::new(0),
-        }
-    }
-
-    /// How many calls were under way at once, at most.
-    pub(crate) fn most_at_once(&self) -> u64 {
-        self.most.load(Ordering::SeqCst)
+        Answering { hold, calls }
     }
 
     /// How often it was called.
@@ -98,17 +84,7 @@ impl Answering {
             Hold::ById => pass_turns(id % 8 * 100),
             Hold::UntilCalled(count) => self.await_calls(count),
             Hold::InPairs => self.await_calls((before | 1).saturating_add(1)),
-            Hold::Turns(count) => self.stay(count),
         }
-    }
-
-    /// Stays for so many turns, and notes how many are here at once.
-    fn stay(&self, turns: u64) {
-        let others = self.under_way.fetch_add(1, Ordering::SeqCst);
-        self.most
-            .fetch_max(others.saturating_add(1), Ordering::SeqCst);
-        pass_turns(turns);
-        self.under_way.fetch_sub(1, Ordering::SeqCst);
     }
 }
 
