@@ -426,15 +426,20 @@ const RESULTS: &[(i32, [u8; 4])] = &[
     (i32::MIN, [0, 0, 0, 0x80]),
 ];
 
+/// An ioctl of this result, which gives one byte back.
+fn carries_result(rt: &impl Abort, alloc: Global, code: i32, result: &[u8; 4]) {
+    let replied = ReplyIoctl::new(alloc, ID).ioctl(code, &[7]);
+    let rest = [0, 0, 0, 0, 1, 0, 0, 0, 1, 0, 0, 0, 7];
+    carries(rt, alloc, replied, &[result, &rest]);
+}
+
 #[test]
 fn ioctls_and_extended_attributes_are_sent(rt: HostRuntime) {
     let alloc = rt.alloc();
     for (code, result) in RESULTS {
-        let replied = ReplyIoctl::new(alloc, ID).ioctl(*code, within(&rt, &[7]));
-        let rest = [0, 0, 0, 0, 1, 0, 0, 0, 1, 0, 0, 0, 7];
-        carries(&rt, alloc, replied, &[result, &rest]);
+        carries_result(&rt, alloc, *code, result);
     }
     let attribute = [0x11, 0x22, 0x33, 0x44];
-    let replied = ReplyXattr::new(alloc, ID).data(within(&rt, &attribute));
+    let replied = ReplyXattr::new(alloc, ID).data(&attribute);
     carries(&rt, alloc, replied, &[&attribute]);
 }

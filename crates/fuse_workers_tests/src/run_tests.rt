@@ -165,15 +165,24 @@ fn each_message_is_answered_and_the_last_turn_ends_the_run(rt: HostRuntime) {
 /// How many messages DESTROY comes after, and on how many workers.
 const BEFORE_DESTROY: &[(u64, usize)] = &[(8, 1), (8, 4), (8, 8), (100, 4), (100, 8)];
 
+/// The reply to DESTROY is the last of so many and its own, on so many workers.
+fn expect_destroyed<R: Threads + Wait + AllocGlobal + Abort + Sync>(
+    rt: &R,
+    count: u64,
+    workers: usize,
+) {
+    let turns = [Piece::Requests(0, count), Piece::Destroy(count)];
+    let all = count.saturating_add(1);
+    let became = ended(b'd', all, all);
+    let last = expect_answered(rt, &turns, Hold::ById, Some(workers), became, count);
+    expect_same(rt, &last, &Some(count));
+}
+
 #[test]
 fn the_reply_to_destroy_is_the_last(rt: HostRuntime) {
     for (count, workers) in BEFORE_DESTROY {
-        let turns = &[Piece::Requests(0, *count), Piece::Destroy(*count)];
-        let all = count.saturating_add(1);
-        let became = ended(b'd', all, all);
         for _round in 0..20 {
-            let last = expect_answered(&rt, turns, Hold::ById, Some(*workers), became, *count);
-            expect_same(&rt, &last, &Some(*count));
+            expect_destroyed(&rt, *count, *workers);
         }
     }
 }
@@ -206,11 +215,22 @@ const AT_ONCE: &[(Piece, Hold, usize, u64)] = &[
     (Piece::Requests(0, 4000), Hold::InPairs, 2, 4000),
 ];
 
+/// Each of so many messages has one call and one frame.
+fn expect_at_once<R: Threads + Wait + AllocGlobal + Abort + Sync>(
+    rt: &R,
+    turns: Piece,
+    hold: Hold,
+    workers: usize,
+    count: u64,
+) {
+    let became = ended(b'g', count, count);
+    let _ = expect_answered(rt, &[turns], hold, Some(workers), became, count);
+}
+
 #[test]
 fn as_many_answer_at_once_as_workers_are_asked_for(rt: HostRuntime) {
     for (turns, hold, workers, count) in AT_ONCE {
-        let became = ended(b'g', *count, *count);
-        let _ = expect_answered(&rt, &[*turns], *hold, Some(*workers), became, *count);
+        expect_at_once(&rt, *turns, *hold, *workers, *count);
     }
 }
 
