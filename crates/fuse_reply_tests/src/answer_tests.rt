@@ -426,18 +426,18 @@ const RESULTS: &[(i32, [u8; 4])] = &[
     (i32::MIN, [0, 0, 0, 0x80]),
 ];
 
-/// An ioctl of this result, which gives one byte back.
-fn carries_result(rt: &impl Abort, alloc: Global, code: i32, result: &[u8; 4]) {
+/// This is sent of the result of an ioctl that gives one byte back.
+fn carries_result(rt: &impl Abort, alloc: Global, code: i32, sent: &[u8; 4]) {
     let replied = ReplyIoctl::new(alloc, ID).ioctl(code, &[7]);
     let rest = [0, 0, 0, 0, 1, 0, 0, 0, 1, 0, 0, 0, 7];
-    carries(rt, alloc, replied, &[result, &rest]);
+    carries(rt, alloc, replied, &[sent, &rest]);
 }
 
 #[test]
 fn ioctls_and_extended_attributes_are_sent(rt: HostRuntime) {
     let alloc = rt.alloc();
-    for (code, result) in RESULTS {
-        carries_result(&rt, alloc, *code, result);
+    for (code, sent) in RESULTS {
+        carries_result(&rt, alloc, *code, sent);
     }
     let attribute = [0x11, 0x22, 0x33, 0x44];
     let replied = ReplyXattr::new(alloc, ID).data(&attribute);
