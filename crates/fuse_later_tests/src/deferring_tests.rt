@@ -1,12 +1,11 @@
 // Lookups that are answered after their methods have returned, in whole sessions.
 use crate::asserts::expect_same;
 use crate::deferring::{Deferring, HELD, LAST, SOON, Shelf, Tally, close, shared_shelf};
-use crate::messages::{Frame, Message, are_after_init, differ_after_init, source_after_init};
-use crate::serving::{Rest, counts, everybody, rest_of};
+use crate::serving::{Rest, after_init, counts, everybody, rest_of, source_after_init, taking};
 use fuse_config::Config;
 use fuse_session::{Ended, Filesystem, Session, SessionError, Transcript, mount};
 use fuse_testing::Probing;
-use fuse_testing::test_messages::{ENOENT, ENOSYS};
+use fuse_testing::test_messages::{ENOENT, ENOSYS, Frame, GETATTR, Given, first_other};
 use fuse_wire::{Items, MemorySink, MemorySource, u64_at};
 use std::alloc::{AllocGlobal, Global};
 use std::process::Abort;
@@ -21,7 +20,7 @@ enum Way {
     NewAndRun,
 }
 
-/// How a session is served, what it is sent, and when its late frames come.
+/// How a session is served, and when its late frames come.
 #[derive(Clone, Copy)]
 struct Setup {
     way: Way,
@@ -32,105 +31,93 @@ struct Setup {
     least_held: u64,
     /// How many threads of the test's own answer the lookups that are put off.
     threads: u64,
-    /// What comes after INIT.
-    messages: &'static [Message],
 }
 
 /// A session, and what comes of it.
 struct Row {
     setup: Setup,
+    /// What it is sent after INIT.
+    given: &'static [Given],
     /// What is sent after the reply to INIT, in some order, and on one thread in this one.
     frames: &'static [Frame],
     tally: Tally,
 }
 
+const BASE: Setup = Setup {
+    way: Way::Mount,
+    n_threads: 2,
+    awaited: 1,
+    least_held: 0,
+    threads: 1,
+};
+
+const NONE: Tally = Tally {
+    sent: 0,
+    shut: 0,
+    closed: 0,
+    taken: 0,
+};
+
 const ROWS: &[Row] = &[
     // A lookup is answered by another thread.
     Row {
-        setup: Setup {
-            way: Way::Mount,
-            n_threads: 2,
-            awaited: 1,
-            least_held: 0,
-            threads: 1,
-            messages: &[Message::Lookup(2, SOON), Message::Lookup(3, HELD)],
-        },
+        setup: BASE,
+        given: &[Given::Lookup(2, SOON), Given::Lookup(3, HELD)],
         frames: &[Frame::Error(2, ENOENT), Frame::Error(3, ENOENT)],
-        tally: Tally {
-            sent: 1,
-            shut: 0,
-            closed: 0,
-            taken: 0,
-        },
+        tally: Tally { sent: 1, ..NONE },
     },
     // Two lookups under one id are answered later.
     Row {
         setup: Setup {
             way: Way::NewAndRun,
-            n_threads: 2,
             awaited: 2,
-            least_held: 0,
-            threads: 1,
-            messages: &[
-                Message::Lookup(2, SOON),
-                Message::Lookup(2, SOON),
-                Message::Lookup(3, HELD),
-            ],
+            ..BASE
         },
+        given: &[
+            Given::Lookup(2, SOON),
+            Given::Lookup(2, SOON),
+            Given::Lookup(3, HELD),
+        ],
         frames: &[
             Frame::Error(2, ENOENT),
             Frame::Error(2, ENOENT),
             Frame::Error(3, ENOENT),
         ],
-        tally: Tally {
-            sent: 2,
-            shut: 0,
-            closed: 0,
-            taken: 0,
-        },
+        tally: Tally { sent: 2, ..NONE },
     },
     // One thread puts no lookup off.
     Row {
         setup: Setup {
-            way: Way::Mount,
             n_threads: 1,
             awaited: 0,
-            least_held: 0,
-            threads: 1,
-            messages: &[
-                Message::Lookup(2, SOON),
-                Message::Lookup(3, LAST),
-                Message::Lookup(4, HELD),
-            ],
+            ..BASE
         },
+        given: &[
+            Given::Lookup(2, SOON),
+            Given::Lookup(3, LAST),
+            Given::Lookup(4, HELD),
+        ],
         frames: &[
             Frame::Error(2, ENOENT),
             Frame::Error(3, ENOENT),
             Frame::Error(4, ENOENT),
         ],
-        tally: Tally {
-            sent: 0,
-            shut: 2,
-            closed: 0,
-            taken: 0,
-        },
+        tally: Tally { shut: 2, ..NONE },
     },
     // A lookup after the end is told how many were taken. Once both threads hold a lookup, the methods of the others have
     // returned.
     Row {
         setup: Setup {
             way: Way::NewAndRun,
-            n_threads: 2,
-            awaited: 1,
             least_held: 2,
-            threads: 1,
-            messages: &[
-                Message::Lookup(2, SOON),
-                Message::Lookup(3, LAST),
-                Message::Lookup(4, HELD),
-                Message::Lookup(5, HELD),
-            ],
+            ..BASE
         },
+        given: &[
+            Given::Lookup(2, SOON),
+            Given::Lookup(3, LAST),
+            Given::Lookup(4, HELD),
+            Given::Lookup(5, HELD),
+        ],
         frames: &[
             Frame::Error(2, ENOENT),
             Frame::Error(4, ENOENT),
@@ -145,31 +132,20 @@ const ROWS: &[Row] = &[
     },
     // What is answered at once keeps its frame.
     Row {
-        setup: Setup {
-            way: Way::Mount,
-            n_threads: 2,
-            awaited: 2,
-            least_held: 0,
-            threads: 1,
-            messages: &[
-                Message::Lookup(2, SOON),
-                Message::Getattr(3),
-                Message::Lookup(4, SOON),
-                Message::Lookup(5, HELD),
-            ],
-        },
+        setup: Setup { awaited: 2, ..BASE },
+        given: &[
+            Given::Lookup(2, SOON),
+            Given::Asked(3, 0, GETATTR),
+            Given::Lookup(4, SOON),
+            Given::Lookup(5, HELD),
+        ],
         frames: &[
             Frame::Error(2, ENOENT),
             Frame::Error(3, ENOSYS),
             Frame::Error(4, ENOENT),
             Frame::Error(5, ENOENT),
         ],
-        tally: Tally {
-            sent: 2,
-            shut: 0,
-            closed: 0,
-            taken: 0,
-        },
+        tally: Tally { sent: 2, ..NONE },
     },
 ];
 
@@ -198,19 +174,26 @@ type Ran = (Result<(), SessionError>, Transcript, MemorySink);
 fn serve_from<R: Threads + Wait + AllocGlobal + Abort + Send + Sync + Copy>(
     rt: &R,
     setup: Setup,
+    given: &[Given],
     shelf: &Arc<Shelf, Global>,
 ) -> Ran {
     let shelf = Arc::try_clone(shelf).expect(rt, "there is memory");
     let probe = Deferring { rt: *rt, shelf };
-    let source = source_after_init(rt, setup.messages);
-    let sink = MemorySink::new(rt.alloc(), Vec::new(rt.alloc()));
+    let source = source_after_init(rt, given);
     let config = everybody(rt.alloc(), Some(setup.n_threads));
     let Rest {
         filesystem: Probing { probe },
         sink,
         outcome,
         transcript,
-    } = rest_of(serve_by(rt, setup.way, Probing { probe }, source, sink, &config));
+    } = rest_of(serve_by(
+        rt,
+        setup.way,
+        Probing { probe },
+        source,
+        taking(rt),
+        &config,
+    ));
     let Deferring { rt: _, shelf } = probe;
     let _ = close(rt, shelf);
     (outcome, transcript, sink)
@@ -220,13 +203,14 @@ fn serve_from<R: Threads + Wait + AllocGlobal + Abort + Send + Sync + Copy>(
 fn serve_beside<R: Threads + Wait + AllocGlobal + Abort + Send + Sync + Copy>(
     rt: &R,
     setup: Setup,
+    given: &[Given],
     shelf: &Arc<Shelf, Global>,
 ) -> Ran {
     thread::scope(thread::scope_env(), rt, |scope| {
         for seed in 1..=setup.threads {
             let _ = scope.spawn(move || shelf.answer_later(rt, seed));
         }
-        let ran = serve_from(rt, setup, shelf);
+        let ran = serve_from(rt, setup, given, shelf);
         shelf.end();
         ran
     })
@@ -236,33 +220,31 @@ fn serve_beside<R: Threads + Wait + AllocGlobal + Abort + Send + Sync + Copy>(
 fn serve<R: Threads + Wait + AllocGlobal + Abort + Send + Sync + Copy>(
     rt: &R,
     setup: Setup,
+    given: &[Given],
 ) -> (Ran, Option<Tally>) {
     let shelf = shared_shelf(rt, rt.alloc(), setup.awaited, setup.least_held);
     let shelf = shelf.expect(rt, "there is memory");
-    let ran = serve_beside(rt, setup, &shelf);
+    let ran = serve_beside(rt, setup, given, &shelf);
     (ran, close(rt, shelf))
-}
-
-/// Whether the frames of a row were sent.
-fn are_sent(row: &Row, sink: &MemorySink) -> bool {
-    if row.setup.n_threads == 1 {
-        differ_after_init(sink.frames(), row.frames).is_none()
-    } else {
-        are_after_init(sink.frames(), row.frames)
-    }
 }
 
 /// The session of a row ends well, takes its messages, and sends just its frames.
 fn expect_row<R: Threads + Wait + AllocGlobal + Abort + Send + Sync + Copy>(rt: &R, row: &Row) {
-    let ((outcome, transcript, sink), tally) = serve(rt, row.setup);
-    let are_sent = are_sent(row, &sink);
+    let ((outcome, transcript, sink), tally) = serve(rt, row.setup, row.given);
+    let frames = after_init(rt, row.frames);
+    let ordered = if row.setup.n_threads == 1 {
+        frames.len()
+    } else {
+        1
+    };
+    let other = first_other(sink.frames(), &frames, ordered);
     drop(sink);
-    let received = (row.setup.messages.len() as u64).saturating_add(1);
-    let frames = (row.frames.len() as u64).saturating_add(1);
+    let received = (row.given.len() as u64).saturating_add(1);
+    expect_same(rt, &transcript, &counts(received, frames.len() as u64));
     expect_same(
         rt,
-        &(outcome, transcript, are_sent, tally),
-        &(Ok(()), counts(received, frames), true, Some(row.tally)),
+        &(outcome, other, tally),
+        &(Ok(()), None, Some(row.tally)),
     );
 }
 
@@ -278,13 +260,21 @@ const MANY: u64 = 100_000;
 
 /// The long session: lookups that are put off, and one that is held until they are answered.
 const LONG: Setup = Setup {
-    way: Way::Mount,
-    n_threads: 2,
     awaited: MANY,
-    least_held: 0,
     threads: 4,
-    messages: &[Message::Lookups(MANY, SOON), Message::Lookup(MANY, HELD)],
+    ..BASE
 };
+
+/// What it is sent.
+fn many_lookups<R: AllocGlobal + Abort>(rt: &R) -> Vec<Given> {
+    let mut given = Vec::new(rt.alloc());
+    for id in 0..=MANY {
+        let name = if id < MANY { SOON } else { HELD };
+        let lookup = Given::Lookup(id, name);
+        given.push(lookup).expect(rt, "there is memory");
+    }
+    given
+}
 
 /// The id of a request, where the frame answers it by ENOENT.
 fn refused_id(frame: &[u8]) -> Option<u64> {
@@ -323,24 +313,15 @@ fn refusals<R: AllocGlobal + Abort>(rt: &R, frames: &[Items<u8>], ids: u64) -> (
 
 #[test]
 fn many_lookups_are_answered_by_four_threads(rt: HostRuntime) {
-    let ((outcome, transcript, sink), tally) = serve(&rt, LONG);
+    let ((outcome, transcript, sink), tally) = serve(&rt, LONG, &many_lookups(&rt));
     let refused = refusals(&rt, sink.frames(), MANY + 1);
     drop(sink);
-    let queued = Tally {
-        sent: MANY,
-        shut: 0,
-        closed: 0,
-        taken: 0,
-    };
     // All but the handshake's reply.
+    let queued = Tally { sent: MANY, ..NONE };
+    expect_same(&rt, &(refused, tally), &((MANY + 1, 1), Some(queued)));
     expect_same(
         &rt,
-        &(outcome, transcript, refused, tally),
-        &(
-            Ok(()),
-            counts(MANY + 2, MANY + 2),
-            (MANY + 1, 1),
-            Some(queued),
-        ),
+        &(outcome, transcript),
+        &(Ok(()), counts(MANY + 2, MANY + 2)),
     );
 }

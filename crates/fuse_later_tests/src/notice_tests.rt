@@ -1,11 +1,10 @@
 // Notices, which are sent after the frame of the message that was answered last.
 use crate::asserts::expect_same;
-use crate::messages::{Frame, Message, differ_after_init, source_after_init};
-use crate::serving::{counts, serve};
+use crate::serving::{after_init, counts, serve, source_after_init, taking};
 use crate::telling::Telling;
 use fuse_session::{SessionError, Transcript};
 use fuse_testing::Probing;
-use fuse_testing::test_messages::ENOENT;
+use fuse_testing::test_messages::{ENOENT, Frame, GETATTR, Given, first_other};
 use fuse_wire::{MemorySink, Sending};
 use std::process::Abort;
 use std::sync::Wait;
@@ -14,9 +13,12 @@ use std::thread::Threads;
 /// How many notices the line of a session holds.
 const PLACES: u8 = 64;
 
+/// That a file is ready for reading: `struct fuse_poll_out` with `POLLIN` of `poll.h`.
+const READY: &[u8] = &[1, 0, 0, 0, 0, 0, 0, 0];
+
 /// What a session is sent, and what it takes and sends after INIT and its reply.
 struct Row {
-    messages: &'static [Message],
+    given: &'static [Given],
     frames: &'static [Frame],
     received: u64,
     /// How many replies are taken.
@@ -28,14 +30,14 @@ struct Row {
 const ROWS: &[Row] = &[
     // A poll that is told at once is answered before its notice, also one of the root.
     Row {
-        messages: &[
-            Message::Poll(2, [0x21, 0x43], 0),
-            Message::RootPoll(3, [0x65, 0]),
+        given: &[
+            Given::Poll(2, 2, [0x21, 0x43], 0),
+            Given::Poll(3, 1, [0x65, 0], 0),
         ],
         frames: &[
-            Frame::Ready(2),
+            Frame::Payload(2, READY),
             Frame::News([0x21, 0x43]),
-            Frame::Ready(3),
+            Frame::Payload(3, READY),
             Frame::News([0x65, 0]),
         ],
         received: 3,
@@ -44,13 +46,13 @@ const ROWS: &[Row] = &[
     },
     // A poll is told once there is news.
     Row {
-        messages: &[
-            Message::Poll(2, [7, 0], 1),
-            Message::Getattr(3),
-            Message::Getattr(4),
+        given: &[
+            Given::Poll(2, 2, [7, 0], 1),
+            Given::Asked(3, 0, GETATTR),
+            Given::Asked(4, 0, GETATTR),
         ],
         frames: &[
-            Frame::Ready(2),
+            Frame::Payload(2, READY),
             Frame::Error(3, ENOENT),
             Frame::News([7, 0]),
             Frame::Error(4, ENOENT),
@@ -64,12 +66,16 @@ const ROWS: &[Row] = &[
 /// A notice that is not taken is counted nowhere. The sends are the reply to INIT, and then a reply and its notice for each
 /// poll, of which the third, fifth and sixth are not taken.
 const REFUSED: &Row = &Row {
-    messages: &[
-        Message::Poll(2, [7, 0], 0),
-        Message::Poll(3, [8, 0], 0),
-        Message::Poll(4, [9, 0], 0),
+    given: &[
+        Given::Poll(2, 2, [7, 0], 0),
+        Given::Poll(3, 2, [8, 0], 0),
+        Given::Poll(4, 2, [9, 0], 0),
     ],
-    frames: &[Frame::Ready(2), Frame::Ready(3), Frame::News([9, 0])],
+    frames: &[
+        Frame::Payload(2, READY),
+        Frame::Payload(3, READY),
+        Frame::News([9, 0]),
+    ],
     received: 4,
     replies: 3,
     lost: 1,
@@ -81,18 +87,19 @@ type Found = (Result<(), SessionError>, Transcript, usize, Option<usize>);
 /// What comes of a session of these messages, whose frames are to be these.
 fn run_polls<R: Threads + Wait + AllocGlobal + Abort + Send + Sync + Copy>(
     rt: &R,
-    messages: &[Message],
+    given: &[Given],
     frames: &[Frame],
     sink: MemorySink,
 ) -> Found {
+    let frames = after_init(rt, frames);
     let probe = Telling::new(*rt, rt.alloc(), None);
-    let source = source_after_init(rt, messages);
+    let source = source_after_init(rt, given);
     let rest = serve(rt, Probing { probe }, source, sink, None);
     let found = (
         rest.outcome,
         rest.transcript,
         rest.filesystem.probe.waiting(),
-        differ_after_init(rest.sink.frames(), frames),
+        first_other(rest.sink.frames(), &frames, frames.len()),
     );
     drop(rest);
     found
@@ -106,13 +113,8 @@ fn expect_row<R: Threads + Wait + AllocGlobal + Abort + Send + Sync + Copy>(
 ) {
     let mut expected = counts(row.received, row.replies);
     expected.lost = row.lost;
-    let found = run_polls(rt, row.messages, row.frames, sink);
+    let found = run_polls(rt, row.given, row.frames, sink);
     expect_same(rt, &found, &(Ok(()), expected, 0, None));
-}
-
-/// A sink that takes everything.
-fn taking<R: AllocGlobal>(rt: &R) -> MemorySink {
-    MemorySink::new(rt.alloc(), Vec::new(rt.alloc()))
 }
 
 #[test]
@@ -148,7 +150,7 @@ fn put<R: Abort>(rt: &R, frames: &mut Vec<Frame>, frame: Frame) {
 fn many_frames<R: AllocGlobal + Abort>(rt: &R) -> Vec<Frame> {
     let mut frames = Vec::new(rt.alloc());
     for _ in 0..=PLACES {
-        put(rt, &mut frames, Frame::Ready(2));
+        put(rt, &mut frames, Frame::Payload(2, READY));
     }
     put(rt, &mut frames, Frame::Error(3, ENOENT));
     for place in 0..PLACES {
@@ -162,12 +164,16 @@ fn many_frames<R: AllocGlobal + Abort>(rt: &R) -> Vec<Frame> {
 
 #[test]
 fn a_notice_for_which_there_is_no_place_waits(rt: HostRuntime) {
-    let messages = [
-        Message::Polls(PLACES),
-        Message::Getattr(3),
-        Message::Getattr(3),
-    ];
+    let mut given = Vec::new(rt.alloc());
+    for handle in 0..=PLACES {
+        let poll = Given::Poll(2, 2, [handle, 0], 1);
+        given.push(poll).expect(&rt, "there is memory");
+    }
+    for _ in 0..2 {
+        let getattr = Given::Asked(3, 0, GETATTR);
+        given.push(getattr).expect(&rt, "there is memory");
+    }
     let frames = many_frames(&rt);
-    let found = run_polls(&rt, &messages, &frames, taking(&rt));
+    let found = run_polls(&rt, &given, &frames, taking(&rt));
     expect_same(&rt, &found, &(Ok(()), counts(68, 68), 0, None));
 }

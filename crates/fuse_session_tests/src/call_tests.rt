@@ -1,10 +1,9 @@
 // What reaches a filesystem of each message, and what the message gets where the filesystem wants nothing of its own.
 use crate::asserts::expect_same;
-use crate::every_call::{Call, Row, asker};
+use crate::calls::{Call, Row, argument_of, asker, id_at, message_of, sent_for, source_of_rows};
 use crate::file_calls::{files, others};
 use crate::node_calls::{inodes, names};
 use crate::recording::{Recorded, Recording};
-use crate::row_sessions::{frames_of, id_at, notes_of, source_of_rows};
 use fuse_config::{Config, SessionACL};
 use fuse_session::{Ended, mount};
 use fuse_testing::Probing;
@@ -13,39 +12,39 @@ use std::process::Abort;
 use std::sync::Wait;
 use std::thread::Threads;
 
-/// What was recorded is this call of the request with this lowest byte of its id.
-fn is_call(rt: &impl Abort, recorded: &Recorded, id: u8, call: &Call) {
+/// What was recorded is this call of this message, with this lowest byte of its id.
+fn is_call(rt: &impl Abort, recorded: &Recorded, id: u8, message: &[u8], call: &Call) {
     let (method, arguments, texts) = call;
     let found = (recorded.method, recorded.asker, recorded.texts.as_slice());
     expect_same(rt, &found, &(*method, asker(id), *texts));
-    expect_same(rt, &recorded.arguments.as_slice(), arguments);
-}
-
-/// What was recorded from this place on is these calls of the request with this lowest byte of its id. The place behind
-/// them comes back.
-fn are_calls(
-    rt: &impl Abort,
-    recorded: &[Recorded],
-    place: usize,
-    id: u8,
-    calls: &[Call],
-) -> usize {
-    let mut next = place;
-    for call in calls {
-        is_call(rt, recorded.get(next).expect(rt, "a call"), id, call);
-        next = next.saturating_add(1);
+    expect_same(rt, &recorded.arguments.len(), &arguments.len());
+    for (found, wanted) in recorded.arguments.iter().zip(arguments.iter()) {
+        expect_same(
+            rt,
+            &(*method, *found),
+            &(*method, argument_of(message, *wanted)),
+        );
     }
-    next
 }
 
 /// What reached the filesystem is INIT, then what the rows say, in order, and then that the session is over.
-fn reached(rt: &impl Abort, recorded: &[Recorded], rows: &[Row]) {
+fn reached<R: AllocGlobal + Abort>(rt: &R, recorded: &[Recorded], rows: &[Row]) {
     let asker = (0xdead_beef_baad_f00d, 0xc001_d00d, 0xc001_cafe, 0xc0de_ba5e);
     let init = recorded.first().expect(rt, "INIT");
     expect_same(rt, &(init.method, init.asker), &("init", asker));
-    let mut next = 1;
+    let mut next = 1usize;
     for (place, row) in rows.iter().enumerate() {
-        next = are_calls(rt, recorded, next, id_at(place), row.calls);
+        let message = message_of(rt, row, id_at(place));
+        for call in row.calls {
+            is_call(
+                rt,
+                recorded.get(next).expect(rt, "a call"),
+                id_at(place),
+                &message,
+                call,
+            );
+            next = next.saturating_add(1);
+        }
     }
     let last = recorded.last().expect(rt, "the end");
     let found = (last.method, recorded.len());
@@ -54,8 +53,7 @@ fn reached(rt: &impl Abort, recorded: &[Recorded], rows: &[Row]) {
 
 /// The sink took the frames and the notes of INIT and these rows, and no other.
 fn replied<R: AllocGlobal + Abort>(rt: &R, sink: &MemorySink, rows: &[Row]) {
-    let frames = frames_of(rt, rows, None);
-    let notes = notes_of(rt, rows);
+    let (frames, notes) = sent_for(rt, rows);
     expect_same(rt, &sink.frames(), &frames.as_slice());
     expect_same(rt, &sink.notes(), &notes.as_slice());
 }

@@ -65,6 +65,17 @@ pub(crate) struct Course {
     pub(crate) destroyed: u64,
 }
 
+/// So many messages were taken, and so many frames sent but for notices. Nothing was lost.
+pub(crate) fn counts(received: u64, frames: u64) -> Transcript {
+    Transcript {
+        received,
+        frames,
+        notes: 0,
+        lost: 0,
+        unrecorded: 0,
+    }
+}
+
 /// Serves a filesystem that counts, in a session of root with pages of 4096 bytes. The source and the sink come back.
 pub(crate) fn run<R: Threads + Wait + AllocGlobal + Sync, S: Source, K: Sink + Send>(
     rt: &R,
@@ -131,26 +142,18 @@ impl Counting {
         }
     }
 
-    /// It was not called yet. It counts its calls here too, and its lookups wait until this count is so high.
+    /// It counts its calls here too, and its lookups wait until this count is so high.
     pub(crate) fn waiting(count: Arc<AtomicU64, Global>, awaited: u64) -> Counting {
-        Counting {
-            contents: None,
-            gate: Some(Gate { count, awaited }),
-            refusal: None,
-            calls: AtomicU64::new(0),
-            destroyed: 0,
-        }
+        let mut counting = Counting::new(None);
+        counting.gate = Some(Gate { count, awaited });
+        counting
     }
 
     /// It refuses every kernel by this error.
     pub(crate) fn refusing(error: Errno) -> Counting {
-        Counting {
-            contents: None,
-            gate: None,
-            refusal: Some(error),
-            calls: AtomicU64::new(0),
-            destroyed: 0,
-        }
+        let mut counting = Counting::new(None);
+        counting.refusal = Some(error);
+        counting
     }
 
     /// What a lookup fails by, once it goes on.

@@ -1,12 +1,12 @@
 // Sessions whose sink refuses a note, and sessions that want memory.
 ghost use Rattle.std.specs.Prelude.{None};
 
-use crate::asserts::expect_same;
-use crate::counting::{Counting, Course, run, went};
-use crate::messages::{Given, Request, source_of};
+use crate::asserts::{expect_same, source_of};
+use crate::counting::{Counting, run};
 use crate::rows::serve;
-use fuse_config::Config;
+use fuse_config::{Config, SessionACL};
 use fuse_session::{SessionError, Transcript};
+use fuse_testing::test_messages::{FORGET, Given};
 use fuse_wire::{MemorySink, Noting, RequestId, Sending, Sink};
 use std::process::Abort;
 use std::sync::Wait;
@@ -49,41 +49,29 @@ impl Sink for RefusingOnce {
     }
 }
 
-/// How a session goes that loses the first of two notes.
-const LOST: Course = Course {
-    outcome: Ok(()),
-    transcript: Transcript {
-        received: 3,
-        frames: 1,
-        notes: 1,
-        lost: 1,
-        unrecorded: 0,
-    },
-    calls: 2,
-    destroyed: 1,
-};
-
-/// Serves an INIT and two FORGETs over a sink that refuses its first note. How the session went, and the sink.
-fn forgets<R: Threads + Wait + AllocGlobal + Abort + Sync>(rt: &R) -> (Course, RefusingOnce) {
+#[test]
+fn a_note_that_is_refused_is_lost(rt: HostRuntime) {
     let alloc = rt.alloc();
     let given = [
         Given::Opening,
-        Given::Asked(Request::Forget(2, 0)),
-        Given::Asked(Request::Forget(3, 0)),
+        Given::Asked(2, 0, FORGET),
+        Given::Asked(3, 0, FORGET),
     ];
     let sink = RefusingOnce {
         inner: MemorySink::new(alloc, Vec::new(alloc)),
         faults: 0,
     };
-    let (course, source, sink) = run(rt, source_of(rt, &given), sink, &Config::new(alloc));
+    let (course, source, sink) = run(&rt, source_of(&rt, &given), sink, &Config::new(alloc));
     drop(source);
-    (course, sink)
-}
-
-#[test]
-fn a_note_that_is_refused_is_lost(rt: HostRuntime) {
-    let (course, sink) = forgets(&rt);
-    went(&rt, "a note that is refused is lost", &course, &LOST);
+    let expected = Transcript {
+        received: 3,
+        frames: 1,
+        notes: 1,
+        lost: 1,
+        unrecorded: 0,
+    };
+    let found = (course.outcome, course.transcript, course.calls);
+    expect_same(&rt, &found, &(Ok(()), expected, 2));
     expect_same(&rt, &sink.inner.notes(), &[(RequestId(3), 3)].as_slice());
     drop(sink);
 }
@@ -92,8 +80,8 @@ fn a_note_that_is_refused_is_lost(rt: HostRuntime) {
 fn serves_nothing<R: Threads + Wait + AllocGlobal + Abort + Sync>(
     rt: &R,
 ) -> (Result<(), SessionError>, u64) {
-    let config = Config::new(rt.alloc());
-    let (course, sink) = serve(rt, Counting::new(None), &[], 0, 4096, &config);
+    let served = (SessionACL::Owner, None);
+    let (course, sink) = serve(rt, Counting::new(None), &[], 0, 4096, served);
     drop(sink);
     (course.outcome, course.destroyed)
 }

@@ -1,12 +1,12 @@
-// Options that are refused before anything is taken, and options that are not.
-use crate::asserts::expect_same;
-use crate::counting::{Course, run, went};
+// Options that are refused before anything is taken, options that are not, and sessions over a device.
+use crate::asserts::{expect_same, frames_of, source_of};
+use crate::counting::{Counting, Course, counts, run, went};
 use crate::ends::{End, outcome_of};
-use crate::messages::{Given, source_of};
-use crate::session_tests::config_of;
-use fuse_config::{Config, SessionACL};
-use fuse_session::Transcript;
-use fuse_wire::MemorySink;
+use fuse_config::{Config, MountOption, SessionACL};
+use fuse_session::Session;
+use fuse_testing::Probing;
+use fuse_testing::test_messages::{EACCES, ENOENT, Frame, Given, LOOKUP, first_other};
+use fuse_wire::{Items, MemorySink};
 use std::process::Abort;
 use std::sync::Wait;
 use std::thread::Threads;
@@ -24,51 +24,7 @@ struct Row {
     end: End,
 }
 
-/// How a session of this row goes.
-fn course_of(row: &Row) -> Course {
-    Course {
-        outcome: outcome_of(row.end),
-        transcript: Transcript {
-            received: row.taken,
-            frames: row.taken,
-            notes: 0,
-            lost: 0,
-            unrecorded: 0,
-        },
-        calls: 0,
-        destroyed: row.taken,
-    }
-}
-
-/// Serves a session of an INIT, and then one without options over the same devices: what the first did, how many frames
-/// the sink had then, and how many messages the second took.
-fn serves_twice<R: Threads + Wait + AllocGlobal + Abort + Sync>(
-    rt: &R,
-    config: &Config,
-) -> (Course, u64, u64) {
-    let alloc = rt.alloc();
-    let source = source_of(rt, &[Given::Opening]);
-    let sink = MemorySink::new(alloc, Vec::new(alloc));
-    let (course, source, sink) = run(rt, source, sink, config);
-    let frames = sink.frames().len() as u64;
-    let (later, source, sink) = run(rt, source, sink, &Config::new(alloc));
-    drop(source);
-    drop(sink);
-    (course, frames, later.transcript.received)
-}
-
-/// Serves a session of this row. Where its message was not taken, it is there for a session without options.
-fn goes<R: Threads + Wait + AllocGlobal + Abort + Sync>(rt: &R, row: &Row) {
-    let config = config_of(rt, row.options, row.acl, row.n_threads, row.clone_fd);
-    let (course, frames, later) = serves_twice(rt, &config);
-    drop(config);
-    went(rt, row.what, &course, &course_of(row));
-    let left = 1u64.saturating_sub(row.taken);
-    expect_same(rt, &(row.what, frames, later), &(row.what, row.taken, left));
-}
-
-/// Options that are refused.
-const REFUSED: &[Row] = &[
+const ROWS: &[Row] = &[
     Row {
         what: "two options conflict",
         options: &["ro", "dev", "nodev", "rw"],
@@ -88,17 +44,8 @@ const REFUSED: &[Row] = &[
         end: End::Conflict(0, 3),
     },
     Row {
-        what: "the unmount is not for an owner",
+        what: "the unmount is not for an owner, also where a device is asked for",
         options: &["sync", "auto_unmount"],
-        acl: SessionACL::Owner,
-        n_threads: None,
-        clone_fd: false,
-        taken: 0,
-        end: End::AutoUnmount,
-    },
-    Row {
-        what: "nor where a device is asked for",
-        options: &["auto_unmount"],
         acl: SessionACL::Owner,
         n_threads: Some(2),
         clone_fd: true,
@@ -107,34 +54,12 @@ const REFUSED: &[Row] = &[
     },
     Row {
         what: "no device is opened here",
-        options: &[],
-        acl: SessionACL::Owner,
-        n_threads: Some(2),
-        clone_fd: true,
-        taken: 0,
-        end: End::CloneFd,
-    },
-    Row {
-        what: "nor where all are served",
         options: &["auto_unmount"],
         acl: SessionACL::All,
         n_threads: Some(usize::MAX),
         clone_fd: true,
         taken: 0,
         end: End::CloneFd,
-    },
-];
-
-/// Options that are fine.
-const FINE: &[Row] = &[
-    Row {
-        what: "options of files",
-        options: &["suid", "noexec"],
-        acl: SessionACL::Owner,
-        n_threads: None,
-        clone_fd: false,
-        taken: 1,
-        end: End::Fine,
     },
     Row {
         what: "an option of each kind, which agree",
@@ -143,7 +68,7 @@ const FINE: &[Row] = &[
         ],
         acl: SessionACL::Owner,
         n_threads: None,
-        clone_fd: false,
+        clone_fd: true,
         taken: 1,
         end: End::Fine,
     },
@@ -157,15 +82,6 @@ const FINE: &[Row] = &[
         end: End::Fine,
     },
     Row {
-        what: "the unmount and a name",
-        options: &["auto_unmount", "fsname=x"],
-        acl: SessionACL::All,
-        n_threads: None,
-        clone_fd: false,
-        taken: 1,
-        end: End::Fine,
-    },
-    Row {
         what: "one thread may have a device",
         options: &["dirsync"],
         acl: SessionACL::Owner,
@@ -174,35 +90,79 @@ const FINE: &[Row] = &[
         taken: 1,
         end: End::Fine,
     },
-    Row {
-        what: "one thread as by default may too",
-        options: &[],
-        acl: SessionACL::Owner,
-        n_threads: None,
-        clone_fd: true,
-        taken: 1,
-        end: End::Fine,
-    },
-    Row {
-        what: "no thread is to serve",
-        options: &["ro"],
-        acl: SessionACL::Owner,
-        n_threads: Some(0),
-        clone_fd: true,
-        taken: 1,
-        end: End::Threads,
-    },
 ];
 
-/// Serves the sessions of these rows.
-fn go<R: Threads + Wait + AllocGlobal + Abort + Sync>(rt: &R, rows: &[Row]) {
-    for row in rows {
-        goes(rt, row);
+/// A configuration of these options and threads, of which each has a device of its own or not.
+fn config_of<R: AllocGlobal + Abort>(
+    rt: &R,
+    texts: &[&str],
+    acl: SessionACL,
+    n_threads: Option<usize>,
+    clone_fd: bool,
+) -> Config {
+    let mut options = Vec::new(rt.alloc());
+    for text in texts {
+        let option = MountOption::from_str(rt.alloc(), text).expect(rt, "there is memory");
+        options.push(option).expect(rt, "there is memory");
     }
+    Config {
+        mount_options: Items::from_vec(options),
+        acl,
+        n_threads,
+        clone_fd,
+    }
+}
+
+/// Serves a session of this row.
+fn goes<R: Threads + Wait + AllocGlobal + Abort + Sync>(rt: &R, row: &Row) {
+    let config = config_of(rt, row.options, row.acl, row.n_threads, row.clone_fd);
+    let sink = MemorySink::new(rt.alloc(), Vec::new(rt.alloc()));
+    let (course, source, sink) = run(rt, source_of(rt, &[Given::Opening]), sink, &config);
+    drop(source);
+    drop(sink);
+    let expected = Course {
+        outcome: outcome_of(row.end),
+        transcript: counts(row.taken, row.taken),
+        calls: 0,
+        destroyed: row.taken,
+    };
+    went(rt, row.what, &course, &expected);
 }
 
 #[test]
 fn takes_nothing_with_options_that_are_refused_and_serves_with_others(rt: HostRuntime) {
-    go(&rt, REFUSED);
-    go(&rt, FINE);
+    for row in ROWS {
+        goes(&rt, row);
+    }
+}
+
+/// Serves a LOOKUP of user 6 over a device of user 5 that serves these users, whatever the options, which conflict. It gets
+/// this error.
+fn serves_over_a_device<R: Threads + Wait + AllocGlobal + Abort + Sync>(
+    rt: &R,
+    acl: SessionACL,
+    other: SessionACL,
+    errno: u8,
+) {
+    let source = source_of(rt, &[Given::Opening, Given::Asked(2, 6, LOOKUP)]);
+    let sink = MemorySink::new(rt.alloc(), Vec::new(rt.alloc()));
+    let filesystem = Probing {
+        probe: Counting::new(None),
+    };
+    let config = config_of(rt, &["ro", "rw", "auto_unmount"], other, None, true);
+    let over = match Session::from_device(rt, filesystem, source, sink, acl, 5, 4096, config) {
+        Ok(session) => session.run(rt),
+        Err(over) => over,
+    };
+    let frames = frames_of(rt, &[Frame::Accepted, Frame::Error(2, errno)]);
+    let other = first_other(over.sink.frames(), &frames, 2);
+    let found = (over.outcome, over.transcript, other);
+    drop(over);
+    expect_same(rt, &found, &(Ok(()), counts(2, 2), None));
+}
+
+#[test]
+fn a_device_serves_whom_its_own_rule_admits(rt: HostRuntime) {
+    serves_over_a_device(&rt, SessionACL::Owner, SessionACL::All, EACCES);
+    serves_over_a_device(&rt, SessionACL::All, SessionACL::Owner, ENOENT);
 }

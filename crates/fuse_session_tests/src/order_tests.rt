@@ -1,17 +1,13 @@
 // When a message is answered.
 ghost use Rattle.std.specs.Prelude.{None};
 
-use crate::asserts::expect_same;
+use crate::asserts::{expect_same, source_of};
 use crate::counting::run;
-use crate::messages::{Given, Request, source_of};
 use fuse_config::Config;
 use fuse_request::opcode::{FUSE_DESTROY, FUSE_STATFS};
-use fuse_testing::test_messages::NO_OPCODE;
+use fuse_testing::test_messages::{Asks, FORGET, Given, LOOKUP, NO_OPCODE};
 use fuse_wire::{MemorySource, Noting, Received, RequestId, Sending, Sink, Source};
-use std::process::Abort;
-use std::sync::Wait;
 use std::sync::atomic::{AtomicU64, Ordering};
-use std::thread::Threads;
 
 /// A source that fails where a message before was not answered, and tells nothing.
 #[derive(Drop)]
@@ -68,11 +64,22 @@ impl Sink for Answering<'_> {
     }
 }
 
-/// Serves these messages, so many, of which each is answered before the next is taken.
-fn serves<R: Threads + Wait + AllocGlobal + Abort + Sync>(rt: &R, given: &[Given], count: u64) {
+const MESSAGES: &[Given] = &[
+    // INIT of version 8.8, which is asked for again
+    Given::Changed(40, 8),
+    Given::Opening,
+    Given::Asked(2, 0, LOOKUP),
+    Given::Asked(3, 0, FORGET),
+    Given::Asked(4, 0, Asks(NO_OPCODE, 0, &[], b"")),
+    Given::Asked(5, 0, Asks(FUSE_STATFS, 0, &[], b"")),
+    Given::Asked(6, 0, Asks(FUSE_DESTROY, 0, &[], b"")),
+];
+
+#[test]
+fn each_message_is_answered_before_the_next_is_taken(rt: HostRuntime) {
     let answered = AtomicU64::new(0);
     let source = Awaiting {
-        inner: source_of(rt, given),
+        inner: source_of(&rt, MESSAGES),
         answered: &answered,
         given: 0,
         faults: 0,
@@ -80,26 +87,10 @@ fn serves<R: Threads + Wait + AllocGlobal + Abort + Sync>(rt: &R, given: &[Given
     let sink = Answering {
         answered: &answered,
     };
-    let (course, source, sink) = run(rt, source, sink, &Config::new(rt.alloc()));
+    let (course, source, sink) = run(&rt, source, sink, &Config::new(rt.alloc()));
     drop(sink);
-    expect_same(rt, &(course.outcome, source.faults), &(Ok(()), 0));
+    expect_same(&rt, &(course.outcome, source.faults), &(Ok(()), 0));
     drop(source);
     let found = (course.transcript.received, answered.load(Ordering::SeqCst));
-    expect_same(rt, &found, &(count, count));
-}
-
-const MESSAGES: &[Given] = &[
-    // INIT of version 8.8, which is asked for again
-    Given::Changed(40, 8),
-    Given::Opening,
-    Given::Asked(Request::Lookup(2, 0)),
-    Given::Asked(Request::Forget(3, 0)),
-    Given::Asked(Request::Bare(NO_OPCODE, 4, 1, 0)),
-    Given::Asked(Request::Bare(FUSE_STATFS, 5, 1, 0)),
-    Given::Asked(Request::Bare(FUSE_DESTROY, 6, 1, 0)),
-];
-
-#[test]
-fn each_message_is_answered_before_the_next_is_taken(rt: HostRuntime) {
-    serves(&rt, MESSAGES, 7);
+    expect_same(&rt, &found, &(7, 7));
 }

@@ -2,14 +2,12 @@
 ghost use Rattle.std.specs.Prelude.{◌≡◌, ◌<◌, ◌⊎◌};
 ghost use Rattle.fuse_wire.specs.declared.sink.Sending.TheVariants.{Failed, Absent};
 
-use crate::asserts::expect_same;
-use crate::counting::{Counting, Course, run, run_with, went};
+use crate::asserts::{expect_same, frames_of, source_of};
+use crate::counting::{Counting, Course, counts, run, run_with, went};
 use crate::ends::{End, outcome_of};
-use crate::messages::{Frame, Given, frames_of, source_of};
 use fuse_config::{Config, SessionACL};
-use fuse_session::Transcript;
+use fuse_testing::test_messages::{Frame, Given, first_other};
 use fuse_wire::{MemorySink, MemorySource, Received, RequestId, Sending, Source, receive_buffer};
-use std::fmt::Debug;
 use std::process::Abort;
 use std::sync::Wait;
 use std::thread::Threads;
@@ -48,8 +46,20 @@ pub(crate) struct Row {
     pub(crate) end: End,
 }
 
-/// On one thread as by default, and then on two.
-pub(crate) const ONE_AND_TWO: &[Option<usize>] = &[None, Some(2)];
+/// A session of its owner alone that is given nothing, on one thread as by default, and then on two.
+pub(crate) const BASE: Row = Row {
+    what: "",
+    acl: SessionACL::Owner,
+    threads: &[None, Some(2)],
+    devices: Devices::Plain,
+    given: &[],
+    frames: &[],
+    notes: &[],
+    received: 0,
+    lost: 0,
+    calls: 0,
+    end: End::Fine,
+};
 
 /// On one thread as by default.
 pub(crate) const ONE: &[Option<usize>] = &[None];
@@ -59,15 +69,12 @@ pub(crate) const TWO: &[Option<usize>] = &[Some(2)];
 
 /// How a session of this row goes.
 fn course_of(row: &Row) -> Course {
+    let mut transcript = counts(row.received, row.frames.len() as u64);
+    transcript.notes = row.notes.len() as u64;
+    transcript.lost = row.lost;
     Course {
         outcome: outcome_of(row.end),
-        transcript: Transcript {
-            received: row.received,
-            frames: row.frames.len() as u64,
-            notes: row.notes.len() as u64,
-            lost: row.lost,
-            unrecorded: 0,
-        },
+        transcript,
         calls: row.calls,
         destroyed: 1,
     }
@@ -85,37 +92,15 @@ fn ordered(frames: &[Frame], is_alone: bool) -> usize {
     frames.len()
 }
 
-/// How many of these are this one.
-fn times<T: PartialEq>(all: &[T], one: &T) -> usize {
-    let mut times = 0usize;
-    for other in all {
-        if other == one {
-            times = times.saturating_add(1);
-        }
-    }
-    times
-}
-
-/// These were sent, and no other: so many of them in this order, and the others in any.
-pub(crate) fn are_sent<T: PartialEq + Debug>(
-    rt: &impl Abort,
-    sent: &[T],
-    expected: &[T],
-    ordered: usize,
-) {
-    let found = (sent.len(), sent.get(..ordered));
-    expect_same(rt, &found, &(expected.len(), expected.get(..ordered)));
-    for one in expected.iter().skip(ordered) {
-        expect_same(rt, &times(sent, one), &times(expected, one));
-    }
-}
-
 /// The sink took the frames and the notes of this row, and no other.
 fn took<R: AllocGlobal + Abort>(rt: &R, row: &Row, sink: &MemorySink, is_alone: bool) {
     let frames = frames_of(rt, row.frames);
-    are_sent(rt, sink.frames(), &frames, ordered(row.frames, is_alone));
-    let ordered = if is_alone { row.notes.len() } else { 0 };
-    are_sent(rt, sink.notes(), row.notes, ordered);
+    let first_notes = if is_alone { row.notes.len() } else { 0 };
+    let found = (
+        first_other(sink.frames(), &frames, ordered(row.frames, is_alone)),
+        first_other(sink.notes(), row.notes, first_notes),
+    );
+    expect_same(rt, &(row.what, found), &(row.what, (None, None)));
 }
 
 /// A sink that answers its second frame so.
@@ -176,21 +161,24 @@ pub(crate) fn serve_all<R: Threads + Wait + AllocGlobal + Abort + Sync>(rt: &R, 
     }
 }
 
-/// Serves this filesystem in a session of this owner, with pages of this size: how it went, and the sink.
+/// Serves this filesystem in a session of this owner, with pages of this size, that serves these users on so many
+/// threads: how it went, and the sink.
 pub(crate) fn serve<R: Threads + Wait + AllocGlobal + Abort + Sync>(
     rt: &R,
     counting: Counting,
     given: &[Given],
     owner: u32,
     page_size: u32,
-    config: &Config,
+    served: (SessionACL, Option<usize>),
 ) -> (Course, MemorySink)
     requires { 0 < page_size }
 {
     let alloc = rt.alloc();
+    let mut config = Config::new(alloc);
+    (config.acl, config.n_threads) = served;
     let source = source_of(rt, given);
     let sink = MemorySink::new(alloc, Vec::new(alloc));
-    let (course, source, sink) = run_with(rt, counting, source, sink, owner, page_size, config);
+    let (course, source, sink) = run_with(rt, counting, source, sink, owner, page_size, &config);
     drop(source);
     (course, sink)
 }

@@ -1,18 +1,14 @@
 // Sessions in the background.
-use crate::asserts::expect_same;
-use crate::counting::Counting;
-use crate::ends::End;
-use crate::messages::{Frame, Given, Request, copied, frames_of, source_of};
-use crate::rows::are_sent;
-use crate::session_tests::{Left, Over, is_left};
+use crate::asserts::{expect_same, frames_of, source_of};
+use crate::counting::{Counting, counts};
 use fuse_config::{Config, SessionACL};
 use fuse_notify::Notifier;
 use fuse_session::{
-    BackgroundSession, InlineSpawner, Session, SessionError, SpawnError, Spawner, ThreadSpawner,
-    Transcript, spawn_mount,
+    BackgroundSession, Ended, InlineSpawner, Session, SessionError, SpawnError, Spawner,
+    ThreadSpawner, Transcript, spawn_mount,
 };
 use fuse_testing::Probing;
-use fuse_testing::test_messages::{ACCEPTED, EIO, ENOENT, INIT_7_8, error_reply, lookup};
+use fuse_testing::test_messages::{EIO, ENOENT, Frame, Given, LOOKUP, first_other, message_of};
 use fuse_wire::{
     MemoryBytes, MemoryOut, MemorySink, MemorySource, NoMemory, PollHandle, StreamSink,
     StreamSource,
@@ -34,26 +30,15 @@ type Background = BackgroundSession<Probing<Counting>, MemorySource, MemorySink>
 
 type Opened = Session<Probing<Counting>, MemorySource, MemorySink>;
 
+type Over = Ended<Probing<Counting>, MemorySource, MemorySink>;
+
 type Refusal = SpawnError<Probing<Counting>, MemorySource, MemorySink>;
 
 /// INIT and a LOOKUP.
-const MESSAGES: &[Given] = &[Given::Opening, Given::Asked(Request::Lookup(2, 0))];
+const MESSAGES: &[Given] = &[Given::Opening, Given::Asked(2, 0, LOOKUP)];
 
-/// What a session of them leaves, which has answered both.
-const ANSWERED: Left = Left {
-    end: End::Fine,
-    received: 2,
-    frames: &[Frame::Accepted, Frame::Error(2, ENOENT)],
-    destroyed: 1,
-};
-
-/// What a session of no message leaves.
-const NOT_CONNECTED: Left = Left {
-    end: End::NotConnected,
-    received: 0,
-    frames: &[],
-    destroyed: 1,
-};
+/// What is sent for them.
+const REPLIES: &[Frame] = &[Frame::Accepted, Frame::Error(2, ENOENT)];
 
 /// Mounts this filesystem over these messages, in the background.
 fn spawn<R: Threads + Wait + AllocGlobal + Abort + Send + Sync + Copy + 'static>(
@@ -135,25 +120,6 @@ fn joined<R: Threads + Wait + AllocGlobal + Sync>(
     (background.join(rt), is_seen)
 }
 
-/// What came of a session that a spawner was to start.
-#[derive(Clone, Copy, Debug, PartialEq, Eq)]
-enum Way {
-    /// It was started.
-    Started,
-    /// It was opened, but not started.
-    Refused,
-    /// It was not opened.
-    Unopened,
-}
-
-fn way_of(spawned: &Result<Background, Refusal>) -> Way {
-    match spawned {
-        Ok(_) => Way::Started,
-        Err(SpawnError::Refused(_)) => Way::Refused,
-        Err(SpawnError::Ended(_)) => Way::Unopened,
-    }
-}
-
 /// The end of a session that a spawner was to start, and whether it did and this was seen of it then. Where the spawner
 /// refused, the session is run here.
 fn over<R: Threads + Wait + AllocGlobal + Sync>(
@@ -168,20 +134,6 @@ fn over<R: Threads + Wait + AllocGlobal + Sync>(
     }
 }
 
-/// Sessions that a spawner is to start.
-struct Trial {
-    /// Which starts are refused, where it is one that runs a session as it starts it; or else it starts threads.
-    refusals: Option<&'static [u64]>,
-    n_threads: Option<usize>,
-    given: &'static [Given],
-    /// Whether a notifier is made of each that is started.
-    is_notified: bool,
-    /// What each session leaves, wherever it is run.
-    left: Left,
-    /// What comes of each.
-    ways: &'static [Way],
-}
-
 /// A spawner that refuses these starts, or that starts threads.
 fn spawner_of<R: AllocGlobal + Abort>(rt: &R, refusals: Option<&[u64]>) -> Spawner {
     match refusals {
@@ -190,99 +142,6 @@ fn spawner_of<R: AllocGlobal + Abort>(rt: &R, refusals: Option<&[u64]>) -> Spawn
             Spawner::Inline(InlineSpawner::new(places))
         }
         None => Spawner::Thread(ThreadSpawner::new()),
-    }
-}
-
-/// A session of this trial comes to this by this spawner.
-fn goes<R: Threads + Wait + AllocGlobal + Abort + Send + Sync + Copy + 'static>(
-    rt: &R,
-    spawner: &mut Spawner,
-    trial: &Trial,
-    way: Way,
-) {
-    let counting = Counting::new(None);
-    let spawned = spawn(rt, spawner, trial.n_threads, counting, trial.given);
-    let look = if trial.is_notified {
-        Look::Notifier
-    } else {
-        Look::Nothing
-    };
-    let found = way_of(&spawned);
-    let (over, is_seen) = over(rt, spawned, look);
-    is_left(rt, "spawned", over, &trial.left);
-    expect_same(rt, &(found, is_seen), &(way, way == Way::Started));
-}
-
-/// The sessions of this trial go as it says.
-fn go<R: Threads + Wait + AllocGlobal + Abort + Send + Sync + Copy + 'static>(
-    rt: &R,
-    trial: &Trial,
-) {
-    let mut spawner = spawner_of(rt, trial.refusals);
-    for way in trial.ways {
-        goes(rt, &mut spawner, trial, *way);
-    }
-    drop(spawner);
-}
-
-const TRIALS: &[Trial] = &[
-    Trial {
-        refusals: None,
-        n_threads: None,
-        given: MESSAGES,
-        is_notified: false,
-        left: ANSWERED,
-        ways: &[Way::Started],
-    },
-    Trial {
-        refusals: Some(&[]),
-        n_threads: None,
-        given: MESSAGES,
-        is_notified: false,
-        left: ANSWERED,
-        ways: &[Way::Started],
-    },
-    Trial {
-        refusals: Some(&[]),
-        n_threads: Some(2),
-        given: MESSAGES,
-        is_notified: false,
-        left: ANSWERED,
-        ways: &[Way::Started],
-    },
-    // one of which a notifier is made
-    Trial {
-        refusals: None,
-        n_threads: None,
-        given: MESSAGES,
-        is_notified: true,
-        left: ANSWERED,
-        ways: &[Way::Started],
-    },
-    // one that is not started can still be run
-    Trial {
-        refusals: Some(&[1, 3]),
-        n_threads: None,
-        given: MESSAGES,
-        is_notified: false,
-        left: ANSWERED,
-        ways: &[Way::Refused, Way::Started, Way::Refused, Way::Started],
-    },
-    // one that is not opened is not started
-    Trial {
-        refusals: None,
-        n_threads: None,
-        given: &[],
-        is_notified: false,
-        left: NOT_CONNECTED,
-        ways: &[Way::Unopened],
-    },
-];
-
-#[test]
-fn sessions_run_in_the_background_and_have_notifiers(rt: HostRuntime) {
-    for trial in TRIALS {
-        go(&rt, trial);
     }
 }
 
@@ -310,9 +169,18 @@ fn is_answered_or_wants_memory<R: Abort>(rt: &R, over: Over) {
 
 /// A session of those messages is over, which has answered both, and the LOOKUP by one call.
 fn is_answered<R: AllocGlobal + Abort>(rt: &R, what: &str, over: Over) {
-    let calls = over.filesystem.probe.calls();
-    is_left(rt, what, over, &ANSWERED);
-    expect_same(rt, &calls, &1);
+    let probe = &over.filesystem.probe;
+    let found = (
+        (over.outcome, over.transcript),
+        (probe.destroyed(), probe.calls()),
+        first_other(over.sink.frames(), &frames_of(rt, REPLIES), 2),
+    );
+    drop(over);
+    expect_same(
+        rt,
+        &(what, found),
+        &(what, ((Ok(()), counts(2, 2)), (1, 1), None)),
+    );
 }
 
 /// A session on two threads that this spawner is to start, and which is run here where it does not; and whether it was
@@ -330,6 +198,17 @@ fn on_a_thread<R: Threads + Wait + AllocGlobal + Abort + Send + Sync + Copy + 's
     rt: &R,
 ) -> (Over, bool) {
     started_by(rt, &mut spawner_of(rt, None))
+}
+
+#[test]
+fn sessions_run_in_the_background_and_have_notifiers(rt: HostRuntime) {
+    for refusals in [None, Some([].as_slice())] {
+        let mut spawner = spawner_of(&rt, refusals);
+        let spawned = spawn(&rt, &mut spawner, None, Counting::new(None), MESSAGES);
+        let (over, is_notified) = over(&rt, spawned, Look::Notifier);
+        is_answered(&rt, "with a notifier", over);
+        expect_same(&rt, &is_notified, &true);
+    }
 }
 
 #[test]
@@ -405,20 +284,16 @@ fn a_session_runs_while_its_caller_goes_on(rt: HostRuntime) {
     let waiting = Counting::waiting(share, SEEN);
     let spawned = spawn(&rt, &mut spawner, None, waiting, MESSAGES);
     let (over, called) = over(&rt, spawned, Look::Calls(&calls));
-    is_left(&rt, "called", over, &ANSWERED);
+    is_answered(&rt, "called", over);
     expect_same(&rt, &called, &true);
 }
 
-/// The reply to INIT and to a LOOKUP, and two notices of polls.
+/// The same, and two notices of polls.
 const NOTIFIED: &[Frame] = &[
     Frame::Accepted,
     Frame::Error(2, ENOENT),
-    Frame::Bytes(&[
-        24, 0, 0, 0, 1, 0, 0, 0, 0, 0, 0, 0, 0, 0, 0, 0, 7, 0, 0, 0, 0, 0, 0, 0,
-    ]),
-    Frame::Bytes(&[
-        24, 0, 0, 0, 1, 0, 0, 0, 0, 0, 0, 0, 0, 0, 0, 0, 8, 0, 0, 0, 0, 0, 0, 0,
-    ]),
+    Frame::News([7, 0]),
+    Frame::News([8, 0]),
 ];
 
 /// A session on so many threads sends the notices that are queued while its lookup waits for them.
@@ -431,27 +306,16 @@ fn sends_notices<R: Threads + Wait + AllocGlobal + Abort + Send + Sync + Copy + 
     let waiting = Counting::waiting(share, SEEN);
     let spawned = spawn(rt, &mut spawner, n_threads, waiting, MESSAGES);
     let (over, are_queued) = over(rt, spawned, Look::Notices(&calls));
-    are_sent(rt, over.sink.frames(), &frames_of(rt, NOTIFIED), 1);
-    let found = (n_threads, over.outcome, are_queued);
+    let other = first_other(over.sink.frames(), &frames_of(rt, NOTIFIED), 1);
+    let found = (over.outcome, are_queued, other);
     drop(over);
-    expect_same(rt, &found, &(n_threads, Ok(()), true));
+    expect_same(rt, &(n_threads, found), &(n_threads, (Ok(()), true, None)));
 }
 
 #[test]
 fn what_is_queued_while_a_session_runs_is_sent(rt: HostRuntime) {
     sends_notices(&rt, None);
     sends_notices(&rt, Some(2));
-}
-
-/// INIT and so many LOOKUPs under the id 2.
-fn lookups<R: AllocGlobal + Abort>(rt: &R, count: u64) -> Vec<Given> {
-    let mut given = Vec::new(rt.alloc());
-    given.push(Given::Opening).expect(rt, "there is memory");
-    for _ in 0..count {
-        let lookup = Given::Asked(Request::Lookup(2, 0));
-        given.push(lookup).expect(rt, "there is memory");
-    }
-    given
 }
 
 /// What comes of a session on so many threads of so many LOOKUPs, each of which waits until all are called.
@@ -464,17 +328,20 @@ fn over_waiting<R: Threads + Wait + AllocGlobal + Abort + Send + Sync + Copy + '
     drop(calls);
     let mut spawner = spawner_of(rt, Some(&[]));
     let waiting = Counting::waiting(share, count);
-    let given = lookups(rt, count);
+    let lookups = vec![in rt.alloc(); Given::Asked(2, 0, LOOKUP); count as usize];
+    let mut given = lookups.expect(rt, "there is memory");
+    given
+        .insert(0, Given::Opening)
+        .expect(rt, "there is memory");
     let spawned = spawn(rt, &mut spawner, Some(n_threads), waiting, &given);
     over(rt, spawned, Look::Nothing).0
 }
 
 /// How often this error was sent to the id 2.
-fn times_sent(over: &Over, errno: u8) -> usize {
-    let reply = error_reply(2, errno);
+fn times_sent<R: AllocGlobal + Abort>(rt: &R, over: &Over, errno: u8) -> usize {
+    let wanted = frames_of(rt, &[Frame::Error(2, errno)]);
     let sent = over.sink.frames().iter();
-    sent.filter(|frame| frame.as_slice() == reply.as_slice())
-        .count()
+    sent.filter(|frame| wanted.contains(frame)).count()
 }
 
 /// As many threads serve as there can be at most.
@@ -482,7 +349,7 @@ fn times_sent(over: &Over, errno: u8) -> usize {
 fn as_many_calls_run_at_once_as_threads_serve(rt: HostRuntime) {
     let over = over_waiting(&rt, 64, 64);
     let received = over.transcript.received;
-    let found = (over.outcome, received, times_sent(&over, ENOENT));
+    let found = (over.outcome, received, times_sent(&rt, &over, ENOENT));
     drop(over);
     expect_same(&rt, &found, &(Ok(()), 65, 64));
 }
@@ -491,7 +358,7 @@ fn as_many_calls_run_at_once_as_threads_serve(rt: HostRuntime) {
 #[test]
 fn no_more_calls_run_at_once_than_threads_serve(rt: HostRuntime) {
     let over = over_waiting(&rt, 2, 3);
-    let found = (over.sink.frames().len(), times_sent(&over, EIO) > 0);
+    let found = (over.sink.frames().len(), times_sent(&rt, &over, EIO) > 0);
     drop(over);
     expect_same(&rt, &found, &(4, true));
 }
@@ -521,7 +388,7 @@ fn a_session_that_is_refused_can_be_started_later(rt: HostRuntime) {
     let mut spawner = spawner_of(&rt, Some(&[1]));
     let spawned = spawn(&rt, &mut spawner, None, Counting::new(None), MESSAGES);
     let (over, notified) = over_later(&rt, &mut spawner, refused(&rt, spawned));
-    is_left(&rt, "started later", over, &ANSWERED);
+    is_answered(&rt, "started later", over);
     expect_same(&rt, &notified, &true);
 }
 
@@ -560,14 +427,25 @@ fn over_streams<R: Threads + Wait + AllocGlobal + Abort + Send + Sync + Copy + '
     (ended.outcome, written.expect(rt, "there is memory"))
 }
 
+/// The bytes of these frames, one behind the other.
+fn joined_frames<R: AllocGlobal + Abort>(rt: &R, frames: &[Frame]) -> Vec<u8> {
+    let mut all = Vec::new(rt.alloc());
+    for frame in frames_of(rt, frames).iter() {
+        all.extend_from_slice(frame.as_slice())
+            .expect(rt, "there is memory");
+    }
+    all
+}
+
 #[test]
 fn a_session_over_streams_runs_in_the_background(rt: HostRuntime) {
-    let mut messages = copied(&rt, &INIT_7_8);
-    let added = messages.extend_from_slice(&lookup(2, 0));
-    added.expect(&rt, "there is memory");
-    let mut replies = copied(&rt, &ACCEPTED);
-    let added = replies.extend_from_slice(&error_reply(2, ENOENT));
-    added.expect(&rt, "there is memory");
+    let mut messages = Vec::new(rt.alloc());
+    for given in MESSAGES {
+        let message = message_of(rt.alloc(), given).expect(&rt, "there is memory");
+        messages
+            .extend_from_slice(&message)
+            .expect(&rt, "there is memory");
+    }
     let found = over_streams(&rt, messages);
-    expect_same(&rt, &found, &(Ok(()), replies));
+    expect_same(&rt, &found, &(Ok(()), joined_frames(&rt, REPLIES)));
 }

@@ -1,220 +1,145 @@
-// The verdicts on messages, in the order of the rules.
-
-use crate::asserts::expect_same_in;
-use crate::every_call::{Reply, Row, message_of};
+// What the library itself fixes about a message, before any filesystem is asked.
+use crate::asserts::{expect_same, frames_of};
+use crate::calls::{Reply, Row, message_of};
+use crate::counting::{Counting, Course, counts, went};
 use crate::file_calls::{files, others};
 use crate::node_calls::{inodes, names};
+use crate::rows::serve;
 use fuse_config::SessionACL;
 use fuse_request::opcode::{
     FUSE_BATCH_FORGET, FUSE_COPY_FILE_RANGE, FUSE_DESTROY, FUSE_FALLOCATE, FUSE_FORGET, FUSE_FSYNC,
-    FUSE_FSYNCDIR, FUSE_INIT, FUSE_INTERRUPT, FUSE_IOCTL, FUSE_NOTIFY_REPLY, FUSE_READ,
-    FUSE_READDIR, FUSE_READDIRPLUS, FUSE_READLINK, FUSE_RELEASE, FUSE_RELEASEDIR, FUSE_STATFS,
-    FUSE_WRITE,
+    FUSE_FSYNCDIR, FUSE_INIT, FUSE_INTERRUPT, FUSE_IOCTL, FUSE_LSEEK, FUSE_NOTIFY_REPLY, FUSE_READ,
+    FUSE_READDIR, FUSE_READDIRPLUS, FUSE_RELEASE, FUSE_RELEASEDIR, FUSE_STATFS, FUSE_WRITE,
 };
-use fuse_request::{Operation, RequestError};
 use fuse_session::{Verdict, verdict};
+use fuse_testing::test_messages;
 use fuse_testing::test_messages::{
-    EACCES, EINVAL, EIO, ENOSYS, INIT_7_8, NO_OPCODE, endless_lookup, forget, getattr, init,
-    lookup, message, read, short_forget, with_argument,
+    EACCES, EINVAL, EIO, ENOSYS, Frame, Given, LOOKUP, NO_OPCODE, first_other,
 };
 use std::process::Abort;
+use std::sync::Wait;
+use std::thread::Threads;
 
-/// A message with the id 2, or an INIT.
-#[derive(Clone, Copy)]
-enum Message {
-    /// INIT of version 7.8, of which only so many bytes come.
-    Cut(usize),
-    /// The same, whose header counts so many bytes.
-    Counted(u8),
-    /// INIT of this version.
-    Init(u8, u8),
-    /// One of user 6 with no arguments, of this opcode and node.
-    Bare(u32, u8),
-    /// A LOOKUP of this user.
-    Lookup(u8),
-    /// A LOOKUP of user 6 whose name has no end.
-    EndlessLookup,
-    /// A GETATTR of this user.
-    GetAttr(u8),
-    /// A READ of this user, with this highest byte of its offset.
-    Read(u8, u8),
-    /// A FORGET of this user.
-    Forget(u8),
-    /// A FORGET of user 5 that is cut short.
-    ShortForget,
-    /// One of user 5 and this opcode, with this byte at this place.
-    Argument(u32, usize, u8),
-    /// One of this opcode and user, with 56 zero bytes after its header.
-    Zeros(u32, u8),
-}
+/// A message of user 5: its opcode, this byte at this place, and the error that it gets.
+type Refusal = (u32, usize, u8, u8);
 
-/// A verdict as plain data: what it is, or what the filesystem is asked, and its number. That of an error is its own, that
-/// of a forget its lookups, of a batch of them its rows, of a read its offset. Or else the header is broken.
-type Ruling = Result<(&'static str, u64), RequestError>;
-
-const ENDS: Ruling = Ok(("ends", 0));
-
-const OTHER: Ruling = Ok(("other", 0));
-
-/// What is refused by this error.
-const DENIED: Ruling = Ok(("error", EACCES as u64));
-
-const INVALID: Ruling = Ok(("error", EINVAL as u64));
-
-const FAULT: Ruling = Ok(("error", EIO as u64));
-
-const UNKNOWN: Ruling = Ok(("error", ENOSYS as u64));
-
-/// What the filesystem is asked, as plain data.
-fn asked_by(operation: &Operation<'_>) -> (&'static str, u64) {
-    match operation {
-        Operation::Forget(forget) => ("forget", forget.nlookup()),
-        Operation::BatchForget(batch) => ("batch_forget", batch.nodes().len() as u64),
-        Operation::Lookup(_) => ("lookup", 0),
-        Operation::GetAttr(_) => ("getattr", 0),
-        Operation::Read(read) => match read.offset() {
-            Ok(offset) => ("read", offset),
-            Err(_) => ("other", 0),
-        },
-        _ => ("other", 0),
-    }
-}
-
-/// A verdict as plain data.
-fn ruling_of(verdict: &Verdict<'_>) -> Ruling {
-    match verdict {
-        Verdict::Broken(error) => Err(*error),
-        Verdict::Ends => ENDS,
-        Verdict::Fixed(error) => Ok(("error", error.code().to_le_bytes()[0] as u64)),
-        Verdict::Forget(operation) => Ok(asked_by(operation)),
-        Verdict::Call(operation) => Ok(asked_by(operation)),
-    }
-}
-
-/// The verdict on these bytes, in a session of user 5 that serves these users.
-fn ruling_on(acl: SessionACL, message: &[u8]) -> Ruling {
-    ruling_of(&verdict(acl, 5, message))
-}
-
-/// INIT of version 7.8, whose header counts so many bytes.
-fn counted(length: u8) -> [u8; 104] {
-    let mut bytes = INIT_7_8;
-    bytes[0] = length;
-    bytes
-}
-
-/// A message of this opcode and user, with 56 zero bytes after its header.
-fn with_user(opcode: u32, uid: u8) -> [u8; 96] {
-    let mut bytes = with_argument(opcode, 2, 56, 0);
-    bytes[24] = uid;
-    bytes
-}
-
-/// The verdict on a message, in a session of user 5 that serves these users.
-fn rule(acl: SessionACL, asked: &Message) -> Ruling {
-    match asked {
-        Message::Cut(length) => ruling_on(acl, INIT_7_8.get(..*length).unwrap_or(&[])),
-        Message::Counted(length) => ruling_on(acl, &counted(*length)),
-        Message::Init(major, minor) => ruling_on(acl, &init(*major, *minor)),
-        Message::Bare(opcode, node) => ruling_on(acl, &message(*opcode, 2, *node, 6)),
-        Message::Lookup(uid) => ruling_on(acl, &lookup(2, *uid)),
-        Message::EndlessLookup => ruling_on(acl, &endless_lookup(2, 6)),
-        Message::GetAttr(uid) => ruling_on(acl, &getattr(2, *uid)),
-        Message::Read(uid, highest) => ruling_on(acl, &read(2, *uid, *highest, 1)),
-        Message::Forget(uid) => ruling_on(acl, &forget(2, *uid)),
-        Message::ShortForget => ruling_on(acl, &short_forget(2, 5)),
-        Message::Argument(opcode, place, byte) => {
-            ruling_on(acl, &with_argument(*opcode, 2, *place, *byte))
-        }
-        Message::Zeros(opcode, uid) => ruling_on(acl, &with_user(*opcode, *uid)),
-    }
-}
-
-/// The verdicts on these messages, in a session of user 5 that serves these users.
-fn rules(rt: &impl Abort, acl: SessionACL, rows: &[(Message, Ruling)]) {
-    for (place, (message, expected)) in rows.iter().enumerate() {
-        expect_same_in(rt, &place, &rule(acl, message), expected);
-    }
-}
-
-const BEFORE_USERS: &[(Message, Ruling)] = &[
-    (Message::Cut(20), Err(RequestError::ShortReadHeader(20))),
-    (Message::Cut(48), Err(RequestError::ShortRead(48, 104))),
-    (Message::Counted(39), Err(RequestError::InsufficientData)),
-    (Message::Bare(FUSE_DESTROY, 0), ENDS),
-    (Message::Bare(NO_OPCODE, 1), UNKNOWN),
-    (Message::EndlessLookup, UNKNOWN),
+/// What is refused by what is asked.
+const REFUSED: &[Refusal] = &[
+    // an offset or a length in no file
+    (FUSE_READ, 55, 0x80, EINVAL),
+    (FUSE_WRITE, 55, 0x80, EINVAL),
+    (FUSE_FALLOCATE, 55, 0x80, EINVAL),
+    (FUSE_FALLOCATE, 63, 0x80, EINVAL),
+    (FUSE_COPY_FILE_RANGE, 55, 0x80, EINVAL),
+    (FUSE_COPY_FILE_RANGE, 79, 0x80, EINVAL),
+    // INTERRUPT, NOTIFY_REPLY, and an IOCTL that is not restricted
+    (FUSE_INTERRUPT, 40, 0, ENOSYS),
+    (FUSE_NOTIFY_REPLY, 40, 0, ENOSYS),
+    (FUSE_IOCTL, 48, 2, ENOSYS),
+    // another INIT
+    (FUSE_INIT, 40, 7, EIO),
 ];
+
+/// What the filesystem is asked, which answers it by default: what is in a file, or not looked at.
+const ASKED: &[Refusal] = &[
+    (FUSE_WRITE, 55, 0x7f, ENOSYS),
+    (FUSE_FALLOCATE, 55, 0x7f, ENOSYS),
+    (FUSE_FALLOCATE, 63, 0x7f, ENOSYS),
+    (FUSE_COPY_FILE_RANGE, 55, 0x7f, ENOSYS),
+    (FUSE_COPY_FILE_RANGE, 79, 0x7f, ENOSYS),
+    // offsets that are not looked at, and how much a COPY_FILE_RANGE copies
+    (FUSE_READDIR, 55, 0x80, ENOSYS),
+    (FUSE_READDIRPLUS, 55, 0x80, ENOSYS),
+    (FUSE_LSEEK, 55, 0x80, ENOSYS),
+    (FUSE_COPY_FILE_RANGE, 87, 0x80, ENOSYS),
+];
+
+/// What a user gets who is not served.
+const UNSERVED: &[Refusal] = &[
+    // READ, WRITE and INIT pass
+    (FUSE_READ, 55, 0x80, EINVAL),
+    (FUSE_WRITE, 55, 0x80, EINVAL),
+    (FUSE_INIT, 40, 7, EIO),
+    (FUSE_FALLOCATE, 55, 0x80, EACCES),
+    (FUSE_COPY_FILE_RANGE, 55, 0x80, EACCES),
+    (FUSE_INTERRUPT, 40, 0, EACCES),
+    (FUSE_NOTIFY_REPLY, 40, 0, EACCES),
+    (FUSE_IOCTL, 48, 2, EACCES),
+    (FUSE_STATFS, 40, 0, EACCES),
+    (FUSE_LSEEK, 40, 0, EACCES),
+    // an opcode that names no operation
+    (NO_OPCODE, 40, 0, ENOSYS),
+];
+
+/// Serves these messages in a session of root for these users: each gets its error, and so many calls are made.
+fn refuses<R: Threads + Wait + AllocGlobal + Abort + Sync>(
+    rt: &R,
+    acl: SessionACL,
+    rows: &[Refusal],
+    calls: u64,
+) {
+    let mut given = vec![in rt.alloc(); Given::Opening].expect(rt, "there is memory");
+    let mut frames = vec![in rt.alloc(); Frame::Accepted].expect(rt, "there is memory");
+    let mut id = 1u8;
+    for (opcode, place, byte, errno) in rows {
+        id = id.saturating_add(1);
+        let asked = Given::Argument(*opcode, id, *place, *byte);
+        given.push(asked).expect(rt, "there is memory");
+        frames
+            .push(Frame::Error(id, *errno))
+            .expect(rt, "there is memory");
+    }
+    let (course, sink) = serve(rt, Counting::new(None), &given, 0, 4096, (acl, None));
+    let count = given.len() as u64;
+    let expected = Course {
+        outcome: Ok(()),
+        transcript: counts(count, count),
+        calls,
+        destroyed: 1,
+    };
+    went(rt, "refusals", &course, &expected);
+    let other = first_other(sink.frames(), &frames_of(rt, &frames), given.len());
+    expect_same(rt, &other, &None);
+    drop(sink);
+}
 
 #[test]
-fn rules_on_the_message_before_its_user(rt: HostRuntime) {
-    rules(&rt, SessionACL::Owner, BEFORE_USERS);
+fn the_filesystem_is_not_asked_of_what_is_refused(rt: HostRuntime) {
+    refuses(&rt, SessionACL::All, REFUSED, 0);
+    refuses(&rt, SessionACL::All, ASKED, 9);
+    refuses(&rt, SessionACL::Owner, UNSERVED, 0);
 }
 
-/// Of a user who is neither root nor the owner.
-const UNSERVED: &[(Message, Ruling)] = &[
-    (Message::Lookup(6), DENIED),
-    (Message::GetAttr(6), DENIED),
-    (Message::Zeros(FUSE_INTERRUPT, 6), DENIED),
-    (Message::Zeros(FUSE_STATFS, 6), DENIED),
-    // INIT, reads and forgets pass
-    (Message::Init(7, 8), FAULT),
-    (Message::Read(6, 0x80), INVALID),
-    (Message::Read(6, 0), Ok(("read", 0))),
-    (Message::Forget(6), Ok(("forget", 1))),
+/// What a verdict is, and the number of an error, which is 0 for a header that is not good.
+type Ruling = (&'static str, u8);
+
+/// What the verdict on a message is, in a session of this owner that serves these users.
+fn ruling_on(acl: SessionACL, owner: u32, message: &[u8]) -> Ruling {
+    match verdict(acl, owner, message) {
+        Verdict::Broken(_) => ("error", 0),
+        Verdict::Ends => ("ends", 0),
+        Verdict::Fixed(error) => ("error", error.code().to_le_bytes()[0]),
+        Verdict::Forget(_) => ("forget", 0),
+        Verdict::Call(_) => ("call", 0),
+    }
+}
+
+/// The verdict on a LOOKUP of this user, in a session of user 5.
+const USERS: &[(SessionACL, u8, Ruling)] = &[
+    (SessionACL::Owner, 0, ("error", EACCES)),
+    (SessionACL::Owner, 5, ("call", 0)),
+    (SessionACL::RootAndOwner, 0, ("call", 0)),
+    (SessionACL::RootAndOwner, 5, ("call", 0)),
+    (SessionACL::RootAndOwner, 6, ("error", EACCES)),
 ];
-
-/// Of root, where the owner alone is served.
-const ROOT: &[(Message, Ruling)] = &[(Message::Lookup(0), DENIED)];
-
-/// Of root and the owner, where both are served.
-const SERVED: &[(Message, Ruling)] = &[
-    (Message::Lookup(0), Ok(("lookup", 0))),
-    (Message::Lookup(5), Ok(("lookup", 0))),
-];
-
-/// Of another user, where everybody is served.
-const ANYONE: &[(Message, Ruling)] = &[(Message::Lookup(6), Ok(("lookup", 0)))];
 
 #[test]
 fn rules_on_users(rt: HostRuntime) {
-    rules(&rt, SessionACL::Owner, UNSERVED);
-    rules(&rt, SessionACL::RootAndOwner, UNSERVED);
-    rules(&rt, SessionACL::Owner, ROOT);
-    rules(&rt, SessionACL::RootAndOwner, SERVED);
-    rules(&rt, SessionACL::All, ANYONE);
-}
-
-const ASKED: &[(Message, Ruling)] = &[
-    (Message::Init(7, 40), FAULT),
-    (Message::Argument(FUSE_INTERRUPT, 40, 1), UNKNOWN),
-    (Message::Argument(FUSE_NOTIFY_REPLY, 40, 1), UNKNOWN),
-    (Message::Argument(FUSE_IOCTL, 48, 2), UNKNOWN),
-    // an offset or a length of 2^63
-    (Message::Read(5, 0x80), INVALID),
-    (Message::Argument(FUSE_WRITE, 55, 0x80), INVALID),
-    (Message::Argument(FUSE_FALLOCATE, 55, 0x80), INVALID),
-    (Message::Argument(FUSE_FALLOCATE, 63, 0x80), INVALID),
-    (Message::Argument(FUSE_COPY_FILE_RANGE, 55, 0x80), INVALID),
-    (Message::Argument(FUSE_COPY_FILE_RANGE, 79, 0x80), INVALID),
-    // of 127 * 2^56
-    (Message::Read(5, 0x7f), Ok(("read", 0x7f00_0000_0000_0000))),
-    (Message::Argument(FUSE_WRITE, 55, 0x7f), OTHER),
-    (Message::Argument(FUSE_FALLOCATE, 63, 0x7f), OTHER),
-    (Message::Argument(FUSE_COPY_FILE_RANGE, 79, 0x7f), OTHER),
-    (
-        Message::Argument(FUSE_BATCH_FORGET, 40, 3),
-        Ok(("batch_forget", 3)),
-    ),
-    (Message::Argument(FUSE_READLINK, 40, 0), OTHER),
-    (Message::ShortForget, UNKNOWN),
-    (Message::Forget(5), Ok(("forget", 1))),
-    (Message::GetAttr(5), Ok(("getattr", 0))),
-];
-
-#[test]
-fn rules_on_what_is_asked(rt: HostRuntime) {
-    rules(&rt, SessionACL::Owner, ASKED);
+    for (acl, user, expected) in USERS {
+        let message = test_messages::message_of(rt.alloc(), &Given::Asked(2, *user, LOOKUP));
+        let found = ruling_on(*acl, 5, &message.expect(&rt, "there is memory"));
+        expect_same(&rt, &(*user, found), &(*user, *expected));
+    }
 }
 
 /// The opcodes whose requests pass whoever sends them.
@@ -233,28 +158,9 @@ const PASSING: &[u32] = &[
     FUSE_RELEASEDIR,
 ];
 
-/// What a verdict is, and the number of an error, which is 0 for a header that is not good.
-type Course = (&'static str, u8);
-
-/// What a verdict is.
-fn course_of(verdict: &Verdict<'_>) -> Course {
-    match verdict {
-        Verdict::Broken(_) => ("error", 0),
-        Verdict::Ends => ("ends", 0),
-        Verdict::Fixed(error) => ("error", error.code().to_le_bytes()[0]),
-        Verdict::Forget(_) => ("forget", 0),
-        Verdict::Call(_) => ("call", 0),
-    }
-}
-
-/// What the verdict on a message is, in a session of this owner that serves these users.
-fn course_on(acl: SessionACL, owner: u32, message: &[u8]) -> Course {
-    course_of(&verdict(acl, owner, message))
-}
-
 /// What the verdict on the message of a row is, where its user is served.
-fn served(row: &Row) -> Course {
-    if row.opcode == FUSE_DESTROY {
+fn served(row: &Row) -> Ruling {
+    if row.asks.0 == FUSE_DESTROY {
         return ("ends", 0);
     }
     match row.reply {
@@ -264,39 +170,33 @@ fn served(row: &Row) -> Course {
     }
 }
 
-/// What it is where its user is not served.
-fn refused(row: &Row) -> Course {
-    if PASSING.contains(&row.opcode) {
-        served(row)
-    } else {
-        ("error", EACCES)
-    }
-}
-
 /// What the verdicts on a message are, whose user is neither root nor the user 5: in a session of user 5 that serves all,
 /// or root and the owner, or the owner alone; and in a session of that user, who alone is served.
-fn courses_on(message: &[u8]) -> [Course; 4] {
+fn rulings_on(message: &[u8]) -> [Ruling; 4] {
     [
-        course_on(SessionACL::All, 5, message),
-        course_on(SessionACL::RootAndOwner, 5, message),
-        course_on(SessionACL::Owner, 5, message),
-        course_on(SessionACL::Owner, 0xb4b3_b2b1, message),
+        ruling_on(SessionACL::All, 5, message),
+        ruling_on(SessionACL::RootAndOwner, 5, message),
+        ruling_on(SessionACL::Owner, 5, message),
+        ruling_on(SessionACL::Owner, 0xb4b3_b2b1, message),
     ]
-}
-
-/// The verdicts on the messages of these rows.
-fn rules_on_rows<R: AllocGlobal + Abort>(rt: &R, rows: &[Row]) {
-    for (place, row) in rows.iter().enumerate() {
-        let found = courses_on(&message_of(rt, row, 2));
-        let (served, refused) = (served(row), refused(row));
-        expect_same_in(rt, &place, &found, &[served, refused, refused, served]);
-    }
 }
 
 #[test]
 fn rules_on_every_opcode(rt: HostRuntime) {
-    rules_on_rows(&rt, inodes());
-    rules_on_rows(&rt, names());
-    rules_on_rows(&rt, files());
-    rules_on_rows(&rt, others())
+    for rows in [inodes(), names(), files(), others()] {
+        for (place, row) in rows.iter().enumerate() {
+            let found = rulings_on(&message_of(&rt, row, 2));
+            let served = served(row);
+            let other = if PASSING.contains(&row.asks.0) {
+                served
+            } else {
+                ("error", EACCES)
+            };
+            expect_same(
+                &rt,
+                &(place, found),
+                &(place, [served, other, other, served]),
+            );
+        }
+    }
 }

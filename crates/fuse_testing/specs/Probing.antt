@@ -1,7 +1,7 @@
 -- What filesystems of tests promise.
 use Rattle.std.specs.Prelude.{◌≡◌, ℕ, Result}
 use Rattle.fuse_request.specs.Call.{Call}
-use Rattle.fuse_request.specs.Call.Call.{Lookup, GetAttr, Link, Read, Poll}
+use Rattle.fuse_request.specs.Call.Call.{Lookup, GetAttr, Read, Poll}
 use Rattle.fuse_header.specs.declared.request.Request.{Request}
 use Rattle.fuse_reply.specs.Answer.{Answer}
 use Rattle.fuse_reply.specs.Door.{DoorSeen}
@@ -18,7 +18,6 @@ Allows = Call → Answer → Type 0
 abbrev pub own_or_default : (own : Allows) → Allows
 own_or_default own (Lookup parent name) a = own (Lookup parent name) a
 own_or_default own (GetAttr ino fh) a = own (GetAttr ino fh) a
-own_or_default own (Link ino newparent newname) a = own (Link ino newparent newname) a
 own_or_default own (Read ino fh offset size flags lock_owner) a = own (Read ino fh offset size flags lock_owner) a
 own_or_default own (Poll ino fh kh events flags) a = own (Poll ino fh kh events flags) a
 own_or_default own c a = default_answer c ≡ a

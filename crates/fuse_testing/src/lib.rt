@@ -1,5 +1,5 @@
-//! What the tests of sessions share: messages and frames, byte by byte, and a filesystem over the few methods that one of
-//! a test has of its own, which is told of each call.
+//! What tests of several crates share: messages and frames, byte by byte, and the plain data that stands for them; and a
+//! filesystem over the few methods that one of a test has of its own, which is told of each call.
 #![tactic(auto)]
 
 mod argument;

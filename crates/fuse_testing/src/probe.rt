@@ -59,20 +59,6 @@ pub trait Probe {
         defaults::getattr(reply)
     }
 
-    /// What `link` of the filesystem answers.
-    fn link(
-        &self,
-        request: &Request,
-        ino: INodeNo,
-        newparent: INodeNo,
-        newname: &[u8],
-        reply: ReplyEntry,
-    ) -> Replied
-        ensures { IsAnswered own request.now (Call.Link ino.0 newparent.0 newname.now) reply.id reply.door result }
-    {
-        defaults::link(reply)
-    }
-
     /// What `read` of the filesystem answers.
     fn read(
         &self,

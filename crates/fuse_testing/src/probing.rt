@@ -235,7 +235,7 @@ impl<P: Probe + Send + Sync> Filesystem for Probing<P> {
             &[number(ino.0), number(newparent.0)],
             &[newname],
         );
-        self.probe.link(request, ino, newparent, newname, reply)
+        defaults::link(reply)
     }
 
     fn open(&self, request: &Request, ino: INodeNo, flags: OpenFlags, reply: ReplyOpen) -> Replied {

@@ -1,9 +1,8 @@
-//! Messages and frames for tests, byte by byte, and sources of them. The numbers of errors are those of Linux, in
-//! `errno-base.h` and `errno.h`.
+//! What sessions of tests are given and what they send, as plain data and byte by byte. The numbers of errors are those of
+//! Linux, in `errno-base.h` and `errno.h`.
 
 use fuse_request::opcode::{
-    FUSE_BATCH_FORGET, FUSE_FORGET, FUSE_GETATTR, FUSE_INIT, FUSE_LINK, FUSE_LOOKUP, FUSE_POLL,
-    FUSE_READ,
+    FUSE_BATCH_FORGET, FUSE_FORGET, FUSE_GETATTR, FUSE_INIT, FUSE_LOOKUP, FUSE_POLL, FUSE_READ,
 };
 use fuse_wire::{Items, MemorySource, Turn};
 use std::alloc::{AllocError, Global};
@@ -47,163 +46,294 @@ pub const ACCEPTED: [u8; 40] = [
     0, 0, 0, 0x10, 0, 0, 0, 0, 0, 0, 0x10, 0, 0x0c, 0, 0, 0, 0, 1,
 ];
 
-/// A message with no arguments.
-pub fn message(opcode: u32, id: u8, node: u8, uid: u8) -> [u8; 40] {
-    let mut bytes = [0; 40];
-    bytes[0] = 40;
-    bytes[4..8].copy_from_slice(&opcode.to_le_bytes());
-    bytes[8] = id;
-    bytes[16] = node;
-    bytes[24] = uid;
-    bytes
-}
+/// What a message asks: its opcode, how many bytes of arguments it has, those of them that are not what they would be, by
+/// their places, and the names and data behind them.
+#[derive(Clone, Copy)]
+pub struct Asks(
+    pub u32,
+    pub u8,
+    pub &'static [(usize, u8)],
+    pub &'static [u8],
+);
 
-/// Puts a header, of which the length is made right, and a body into a message.
-fn fill(message: &mut [u8], head: &[u8], body: &[u8]) {
-    let length = message.len().min(255) as u8;
-    for (place, byte) in message.iter_mut().zip(head.iter().chain(body)) {
-        *place = *byte;
-    }
-    if let Some(first) = message.first_mut() {
-        *first = length;
-    }
-}
+/// A LOOKUP of the name `none`, and one whose name has no end.
+pub const LOOKUP: Asks = Asks(FUSE_LOOKUP, 0, &[], b"none\0");
 
-/// INIT of this version, of user 0, with the id 1.
-pub fn init(major: u8, minor: u8) -> [u8; 104] {
-    let mut bytes = [0; 104];
-    fill(&mut bytes, &message(FUSE_INIT, 1, 0, 0), &[]);
-    bytes[40] = major;
-    bytes[44] = minor;
-    bytes[49] = 0x10;
-    bytes
-}
-
-/// A LOOKUP of the name `none` in the root.
-pub fn lookup(id: u8, uid: u8) -> [u8; 45] {
-    let mut bytes = [0; 45];
-    fill(&mut bytes, &message(FUSE_LOOKUP, id, 1, uid), b"none\0");
-    bytes
-}
-
-/// A LOOKUP of a name of one byte in the root, of user 0.
-pub fn lookup_of(id: u8, name: u8) -> [u8; 42] {
-    let mut bytes = [0; 42];
-    fill(&mut bytes, &message(FUSE_LOOKUP, id, 1, 0), &[name, 0]);
-    bytes
-}
-
-/// The same with an id of any size.
-pub fn lookup_by(id: u64, name: u8) -> [u8; 42] {
-    let mut bytes = lookup_of(0, name);
-    for (place, byte) in bytes.iter_mut().skip(8).zip(&id.to_le_bytes()) {
-        *place = *byte;
-    }
-    bytes
-}
-
-/// A LOOKUP whose name has no end.
-pub fn endless_lookup(id: u8, uid: u8) -> [u8; 44] {
-    let mut bytes = [0; 44];
-    fill(&mut bytes, &message(FUSE_LOOKUP, id, 1, uid), b"none");
-    bytes
-}
+pub const ENDLESS_LOOKUP: Asks = Asks(FUSE_LOOKUP, 0, &[], b"none");
 
 /// A GETATTR of no open file.
-pub fn getattr(id: u8, uid: u8) -> [u8; 56] {
-    let mut bytes = [0; 56];
-    fill(&mut bytes, &message(FUSE_GETATTR, id, 2, uid), &[]);
-    bytes
+pub const GETATTR: Asks = Asks(FUSE_GETATTR, 16, &[], b"");
+
+/// A FORGET of one lookup, and one that is cut short.
+pub const FORGET: Asks = Asks(FUSE_FORGET, 8, &[(0, 1)], b"");
+
+pub const SHORT_FORGET: Asks = Asks(FUSE_FORGET, 7, &[(0, 1)], b"");
+
+/// A BATCH_FORGET of one lookup of the inode 2 and four of the inode 3, and one of nothing.
+pub const BATCH_FORGET: Asks = Asks(
+    FUSE_BATCH_FORGET,
+    40,
+    &[(0, 2), (8, 2), (16, 1), (24, 3), (32, 4)],
+    b"",
+);
+
+pub const EMPTY_BATCH_FORGET: Asks = Asks(FUSE_BATCH_FORGET, 8, &[], b"");
+
+/// What a source gives next.
+#[derive(Clone, Copy)]
+pub enum Given {
+    /// INIT of version 7.8.
+    Opening,
+    /// The same, of which only so many bytes come.
+    Cut(usize),
+    /// The same with this byte at this place.
+    Changed(usize, u8),
+    /// INIT of this version, of user 0, with the id 1.
+    Init(u8, u8),
+    /// A message with this id about the node 2, of this user.
+    Asked(u8, u8, Asks),
+    /// A LOOKUP with this id, of a name of this one byte in the root, of user 0.
+    Lookup(u64, u8),
+    /// A READ with this id, of this user, with this highest byte of its offset, of so many bytes.
+    Read(u8, u8, u8, u32),
+    /// A POLL with this id about this node, with this handle, whose flags have this lowest byte.
+    Poll(u8, u8, [u8; 2], u8),
+    /// A message of this opcode, of user 5, with this id. It has 56 bytes of arguments, which are zeros, but for this byte
+    /// at this place of the message, and for the byte 56, which says that a WRITE has 16 bytes.
+    Argument(u32, u8, usize, u8),
+    /// Another message.
+    Bytes(&'static [u8]),
+    /// Nothing.
+    Nothing,
+    /// A fault.
+    Fault,
 }
 
-/// A READ of so many bytes, with this highest byte of its offset.
-pub fn read(id: u8, uid: u8, highest: u8, size: u32) -> [u8; 80] {
-    let mut bytes = [0; 80];
-    fill(&mut bytes, &message(FUSE_READ, id, 2, uid), &[]);
-    bytes[55] = highest;
-    bytes[56..60].copy_from_slice(&size.to_le_bytes());
-    bytes
+/// A frame that a session sends.
+#[derive(Clone, Copy)]
+pub enum Frame {
+    /// The reply that accepts INIT of version 7.8.
+    Accepted,
+    /// The reply to this id is this error.
+    Error(u8, u8),
+    /// The reply to this id is this payload.
+    Payload(u8, &'static [u8]),
+    /// The notice of a poll with this handle, `struct fuse_notify_poll_wakeup_out`, whose code is 1.
+    News([u8; 2]),
+    /// Another frame.
+    Bytes(&'static [u8]),
 }
 
-/// A POLL of node 2 with this handle, whose flags have this lowest byte.
-pub fn poll(id: u8, handle: [u8; 2], flags: u8) -> [u8; 64] {
-    let mut bytes = [0; 64];
-    fill(&mut bytes, &message(FUSE_POLL, id, 2, 0), &[]);
-    bytes[48..50].copy_from_slice(&handle);
-    bytes[56] = flags;
-    bytes
+/// The header of a message, without its length and opcode.
+pub fn head(id: u64, node: u8, uid: u8) -> [u8; 40] {
+    let mut header = [0; 40];
+    header[8..16].copy_from_slice(&id.to_le_bytes());
+    header[16] = node;
+    header[24] = uid;
+    header
 }
 
-/// A FORGET of one lookup.
-pub fn forget(id: u8, uid: u8) -> [u8; 48] {
-    let mut bytes = [0; 48];
-    fill(&mut bytes, &message(FUSE_FORGET, id, 2, uid), &[1]);
-    bytes
-}
-
-/// A FORGET that is cut short.
-pub fn short_forget(id: u8, uid: u8) -> [u8; 47] {
-    let mut bytes = [0; 47];
-    fill(&mut bytes, &message(FUSE_FORGET, id, 2, uid), &[1]);
-    bytes
-}
-
-/// A LINK of this inode under the name `x` in this directory.
-pub fn link(id: u8, ino: u8, newparent: u8) -> [u8; 50] {
-    let mut bytes = [0; 50];
-    fill(&mut bytes, &message(FUSE_LINK, id, newparent, 0), &[ino]);
-    bytes[48] = b'x';
-    bytes
-}
-
-/// A BATCH_FORGET of one lookup of the inode 2 and four of the inode 3.
-pub fn batch_forget(id: u8) -> [u8; 80] {
-    let mut bytes = [0; 80];
-    fill(&mut bytes, &message(FUSE_BATCH_FORGET, id, 0, 0), &[2]);
-    bytes[48] = 2;
-    bytes[56] = 1;
-    bytes[64] = 3;
-    bytes[72] = 4;
-    bytes
-}
-
-/// A BATCH_FORGET of nothing.
-pub fn empty_batch_forget(id: u8) -> [u8; 48] {
-    let mut bytes = [0; 48];
-    fill(&mut bytes, &message(FUSE_BATCH_FORGET, id, 0, 0), &[]);
-    bytes
-}
-
-/// A message of 96 bytes about node 2, of user 5. Its arguments are zeros, but for this byte at this place, and for the
-/// byte 56, which says that a WRITE has 16 bytes.
-pub fn with_argument(opcode: u32, id: u8, place: usize, byte: u8) -> [u8; 96] {
-    let mut bytes = [0; 96];
-    fill(&mut bytes, &message(opcode, id, 2, 5), &[]);
-    bytes[56] = 16;
-    if let Some(argument) = bytes.get_mut(place) {
-        *argument = byte;
+/// The message of this header that asks this. Its arguments are zeros, or count up from 1, but for the changes.
+pub fn request(
+    alloc: Global,
+    mut header: [u8; 40],
+    is_counted: bool,
+    asks: &Asks,
+) -> Result<Vec<u8>, AllocError> {
+    let Asks(opcode, count, changes, tail) = *asks;
+    let length = (tail.len().min(0xffff) as u32).saturating_add(count as u32);
+    header[..4].copy_from_slice(&length.saturating_add(40).to_le_bytes());
+    header[4..8].copy_from_slice(&opcode.to_le_bytes());
+    let mut message = Vec::from_slice(alloc, &header)?;
+    for place in 0..count {
+        let byte = if is_counted { place.wrapping_add(1) } else { 0 };
+        message.push(byte)?;
     }
+    for (place, byte) in changes {
+        change(&mut message, place.saturating_add(40), *byte);
+    }
+    message.extend_from_slice(tail)?;
+    Ok(message)
+}
+
+/// Puts this byte at this place, where there is one.
+fn change(message: &mut [u8], place: usize, byte: u8) {
+    if let Some(slot) = message.get_mut(place) {
+        *slot = byte;
+    }
+}
+
+/// INIT of version 7.8 with this byte at this place.
+fn changed(place: usize, byte: u8) -> [u8; 104] {
+    let mut bytes = INIT_7_8;
+    change(&mut bytes, place, byte);
     bytes
 }
 
-/// The reply of this error to this id.
-pub fn error_reply(id: u8, errno: u8) -> [u8; 16] {
-    let status = 0u8.wrapping_sub(errno);
-    [
-        16, 0, 0, 0, status, 0xff, 0xff, 0xff, id, 0, 0, 0, 0, 0, 0, 0,
-    ]
+/// INIT of this version.
+fn init_of(alloc: Global, major: u8, minor: u8) -> Result<Vec<u8>, AllocError> {
+    let mut message = request(alloc, head(1, 0, 0), false, &Asks(FUSE_INIT, 64, &[], b""))?;
+    for (place, byte) in [(40, major), (44, minor), (49, 0x10)] {
+        change(&mut message, place, byte);
+    }
+    Ok(message)
 }
 
-/// The turn that gives this message.
-pub fn turn(alloc: Global, message: &[u8]) -> Result<Turn, AllocError> {
-    Ok(Turn::Message(Items::from_vec(message.to_vec(alloc)?)))
+/// A LOOKUP of a name of this one byte.
+fn lookup_of(alloc: Global, id: u64, name: u8) -> Result<Vec<u8>, AllocError> {
+    let mut message = request(
+        alloc,
+        head(id, 1, 0),
+        false,
+        &Asks(FUSE_LOOKUP, 0, &[], b"x\0"),
+    )?;
+    change(&mut message, 40, name);
+    Ok(message)
 }
 
-/// A source of these messages.
-pub fn source_of(alloc: Global, messages: &[&[u8]]) -> Result<MemorySource, AllocError> {
+/// A READ of the node 2.
+fn read_of(alloc: Global, id: u8, uid: u8, highest: u8, size: u32) -> Result<Vec<u8>, AllocError> {
+    let header = head(id as u64, 2, uid);
+    let mut message = request(alloc, header, false, &Asks(FUSE_READ, 40, &[], b""))?;
+    change(&mut message, 55, highest);
+    for (place, byte) in size.to_le_bytes().iter().enumerate() {
+        change(&mut message, place.saturating_add(56), *byte);
+    }
+    Ok(message)
+}
+
+/// A POLL of this node.
+fn poll_of(
+    alloc: Global,
+    id: u8,
+    node: u8,
+    handle: [u8; 2],
+    flags: u8,
+) -> Result<Vec<u8>, AllocError> {
+    let header = head(id as u64, node, 0);
+    let mut message = request(alloc, header, false, &Asks(FUSE_POLL, 24, &[], b""))?;
+    for (place, byte) in [(48, handle[0]), (49, handle[1]), (56, flags)] {
+        change(&mut message, place, byte);
+    }
+    Ok(message)
+}
+
+/// A message of 56 bytes of arguments, of user 5.
+fn with_argument(
+    alloc: Global,
+    opcode: u32,
+    id: u8,
+    place: usize,
+    byte: u8,
+) -> Result<Vec<u8>, AllocError> {
+    let header = head(id as u64, 2, 5);
+    let mut message = request(alloc, header, false, &Asks(opcode, 56, &[(16, 16)], b""))?;
+    change(&mut message, place, byte);
+    Ok(message)
+}
+
+/// The bytes of what is given. Nothing and a fault have none.
+pub fn message_of(alloc: Global, given: &Given) -> Result<Vec<u8>, AllocError> {
+    match *given {
+        Given::Opening => INIT_7_8.to_vec(alloc),
+        Given::Cut(length) => INIT_7_8.get(..length).unwrap_or(&[]).to_vec(alloc),
+        Given::Changed(place, byte) => changed(place, byte).to_vec(alloc),
+        Given::Init(major, minor) => init_of(alloc, major, minor),
+        Given::Asked(id, uid, asks) => request(alloc, head(id as u64, 2, uid), false, &asks),
+        Given::Lookup(id, name) => lookup_of(alloc, id, name),
+        Given::Read(id, uid, highest, size) => read_of(alloc, id, uid, highest, size),
+        Given::Poll(id, node, handle, flags) => poll_of(alloc, id, node, handle, flags),
+        Given::Argument(opcode, id, place, byte) => with_argument(alloc, opcode, id, place, byte),
+        Given::Bytes(bytes) => bytes.to_vec(alloc),
+        Given::Nothing | Given::Fault => Ok(Vec::new(alloc)),
+    }
+}
+
+/// The turn that gives this.
+fn turn(alloc: Global, given: &Given) -> Result<Turn, AllocError> {
+    match given {
+        Given::Nothing => Ok(Turn::Retry),
+        Given::Fault => Ok(Turn::Fail),
+        message => Ok(Turn::Message(Items::from_vec(message_of(alloc, message)?))),
+    }
+}
+
+/// A source that gives this.
+pub fn source_of(alloc: Global, given: &[Given]) -> Result<MemorySource, AllocError> {
     let mut turns = Vec::new(alloc);
-    for message in messages {
-        turns.push(turn(alloc, message)?)?;
+    for next in given {
+        turns.push(turn(alloc, next)?)?;
     }
     Ok(MemorySource::new(turns))
+}
+
+/// The reply to this request: this error, or 0, and this payload.
+pub fn reply(alloc: Global, id: u64, errno: u8, payload: &[u8]) -> Result<Vec<u8>, AllocError> {
+    let mut header = [0; 16];
+    header[0] = payload.len().min(239) as u8 + 16;
+    if errno > 0 {
+        header[4..8].copy_from_slice(&[0u8.wrapping_sub(errno), 0xff, 0xff, 0xff]);
+    }
+    header[8..].copy_from_slice(&id.to_le_bytes());
+    let mut frame = Vec::from_slice(alloc, &header)?;
+    frame.extend_from_slice(payload)?;
+    Ok(frame)
+}
+
+fn news(handle: [u8; 2]) -> [u8; 24] {
+    let mut frame = [0; 24];
+    frame[0] = 24;
+    frame[4] = 1;
+    frame[16] = handle[0];
+    frame[17] = handle[1];
+    frame
+}
+
+/// The bytes of a frame.
+fn bytes_of(alloc: Global, frame: &Frame) -> Result<Vec<u8>, AllocError> {
+    match *frame {
+        Frame::Accepted => ACCEPTED.to_vec(alloc),
+        Frame::Error(id, errno) => reply(alloc, id as u64, errno, &[]),
+        Frame::Payload(id, payload) => reply(alloc, id as u64, 0, payload),
+        Frame::News(handle) => news(handle).to_vec(alloc),
+        Frame::Bytes(bytes) => bytes.to_vec(alloc),
+    }
+}
+
+/// The bytes of these frames.
+pub fn frames_of(alloc: Global, frames: &[Frame]) -> Result<Vec<Items<u8>>, AllocError> {
+    let mut all = Vec::new(alloc);
+    for frame in frames {
+        all.push(Items::from_vec(bytes_of(alloc, frame)?))?;
+    }
+    Ok(all)
+}
+
+/// How many of these are this one.
+fn times<T: PartialEq>(all: &[T], one: &T) -> usize {
+    let mut times = 0usize;
+    for other in all {
+        times = times.saturating_add(usize::from(other == one));
+    }
+    times
+}
+
+/// The first place at which these are not what is expected: so many in this order, and then the others in any. None: they
+/// are just these.
+pub fn first_other<T: PartialEq>(found: &[T], expected: &[T], ordered: usize) -> Option<usize> {
+    for (place, one) in expected.iter().enumerate() {
+        let is_same = if place < ordered {
+            found.get(place) == Some(one)
+        } else {
+            times(found, one) == times(expected, one)
+        };
+        if !is_same {
+            return Some(place);
+        }
+    }
+    if found.len() == expected.len() {
+        None
+    } else {
+        Some(expected.len())
+    }
 }

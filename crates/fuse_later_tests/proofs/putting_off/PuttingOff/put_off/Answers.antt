@@ -5,7 +5,7 @@ use Rattle.fuse_reply.specs.Frame.{reply}
 use Rattle.fuse_reply.specs.declared.out.Out.TheVariants.{Frame}
 use Rattle.fuse_reply.proofs.LateReplies.{frame_for}
 use Rattle.fuse_wire.specs.ErrorNumbers.{ENOENT}
-use Rattle.fuse_session_tests.proofs.putting_off.PuttingOff.put_off.Goals as goal
+use Rattle.fuse_later_tests.proofs.putting_off.PuttingOff.put_off.Goals as goal
 
 pub send_or_retire-ended-requires : goal.send_or_retire-ended-requires
 send_or_retire-ended-requires g c =

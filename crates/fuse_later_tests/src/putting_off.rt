@@ -3,7 +3,7 @@ ghost use Rattle.std.specs.Prelude.{true, refl};
 ghost use Rattle.fuse_request.specs.Call.{Call};
 ghost use Rattle.fuse_header.specs.declared.request.Request.{Request as Asks};
 ghost use Rattle.fuse_dispatch.specs.OwedMessage.{Answers};
-ghost use Rattle.fuse_session_tests.specs.PuttingOff.{any_answer};
+ghost use Rattle.fuse_later_tests.specs.PuttingOff.{any_answer};
 
 use fuse_config::KernelConfig;
 use fuse_notify::PollNotifier;

@@ -11,7 +11,7 @@ use Rattle.fuse_reply.specs.declared.out.Out.TheVariants.{Frame}
 use Rattle.fuse_dispatch.specs.OwedMessage.{Answers}
 use Rattle.fuse_dispatch.proofs.Answering.{Answered-error}
 use Rattle.fuse_wire.specs.ErrorNumbers.{EIO}
-use Rattle.fuse_session_tests.specs.PuttingOff.{any_answer}
+use Rattle.fuse_later_tests.specs.PuttingOff.{any_answer}
 
 pub fault_answers : {F : Type 0} {fs : F} {request : Request} {c : Call} {id : ℕ} {door : Result DoorSeen NoDoor} {out : Out}
     → out ≡ Frame (reply id (Error EIO)) → Answers {F = F} any_answer fs request c id door out
