@@ -256,25 +256,13 @@ impl<R: Wait> Probe for Deferring<R> {
 
     ghost DEFERS = { true };
 
-    fn started(&mut self, _request: &Request) -> Result<(), Errno> {
+    fn started(&mut self, _: &Request) -> Result<(), Errno> {
         Ok(())
     }
 
-    fn called(
-        &self,
-        _request: &Request,
-        _method: &'static str,
-        _arguments: &[Argument],
-        _texts: &[&[u8]],
-    ) {}
+    fn called(&self, _: &Request, _: &'static str, _: &[Argument], _: &[&[u8]]) {}
 
-    fn lookup(
-        &self,
-        _request: &Request,
-        _parent: INodeNo,
-        name: &[u8],
-        reply: ReplyEntry,
-    ) -> Replied {
+    fn lookup(&self, _: &Request, _: INodeNo, name: &[u8], reply: ReplyEntry) -> Replied {
         self.shelf.look_up(&self.rt, name, reply)
     }
 

@@ -72,78 +72,59 @@ impl<R: Wait + Send + Sync> Filesystem for PuttingOff<R> {
 
     ghost DEFERS = { true };
 
-    fn init(&mut self, _request: &Request, _config: &mut KernelConfig) -> Result<(), Errno> {
+    fn init(&mut self, _: &Request, _: &mut KernelConfig) -> Result<(), Errno> {
         defaults::init()
     }
 
-    fn lookup(
-        &self,
-        _request: &Request,
-        _parent: INodeNo,
-        _name: &[u8],
-        reply: ReplyEntry,
-    ) -> Replied {
+    fn lookup(&self, _: &Request, _: INodeNo, _: &[u8], reply: ReplyEntry) -> Replied {
         self.put_off(reply)
     }
 
-    fn forget(&self, _request: &Request, _ino: INodeNo, _nlookup: u64) -> u64 {
+    fn forget(&self, _: &Request, _: INodeNo, _: u64) -> u64 {
         defaults::forget()
     }
 
-    fn getattr(
-        &self,
-        _request: &Request,
-        _ino: INodeNo,
-        _fh: Option<FileHandle>,
-        reply: ReplyAttr,
-    ) -> Replied {
+    fn getattr(&self, _: &Request, _: INodeNo, _: Option<FileHandle>, reply: ReplyAttr) -> Replied {
         self.put_off(reply)
     }
 
     fn setattr(
         &self,
-        _request: &Request,
-        _ino: INodeNo,
-        _mode: Option<u32>,
-        _uid: Option<u32>,
-        _gid: Option<u32>,
-        _size: Option<u64>,
-        _atime: Option<TimeOrNow>,
-        _mtime: Option<TimeOrNow>,
-        _ctime: Option<SystemTime>,
-        _fh: Option<FileHandle>,
-        _crtime: Option<SystemTime>,
-        _chgtime: Option<SystemTime>,
-        _bkuptime: Option<SystemTime>,
-        _flags: Option<BsdFileFlags>,
+        _: &Request,
+        _: INodeNo,
+        _: Option<u32>,
+        _: Option<u32>,
+        _: Option<u32>,
+        _: Option<u64>,
+        _: Option<TimeOrNow>,
+        _: Option<TimeOrNow>,
+        _: Option<SystemTime>,
+        _: Option<FileHandle>,
+        _: Option<SystemTime>,
+        _: Option<SystemTime>,
+        _: Option<SystemTime>,
+        _: Option<BsdFileFlags>,
         reply: ReplyAttr,
     ) -> Replied {
         self.put_off(reply)
     }
 
-    fn readlink(&self, _request: &Request, _ino: INodeNo, reply: ReplyData) -> Replied {
+    fn readlink(&self, _: &Request, _: INodeNo, reply: ReplyData) -> Replied {
         self.put_off(reply)
     }
 
-    fn symlink(
-        &self,
-        _request: &Request,
-        _parent: INodeNo,
-        _link_name: &[u8],
-        _target: &[u8],
-        reply: ReplyEntry,
-    ) -> Replied {
+    fn symlink(&self, _: &Request, _: INodeNo, _: &[u8], _: &[u8], reply: ReplyEntry) -> Replied {
         self.put_off(reply)
     }
 
     fn mknod(
         &self,
-        _request: &Request,
-        _parent: INodeNo,
-        _name: &[u8],
-        _mode: u32,
-        _umask: u32,
-        _rdev: u32,
+        _: &Request,
+        _: INodeNo,
+        _: &[u8],
+        _: u32,
+        _: u32,
+        _: u32,
         reply: ReplyEntry,
     ) -> Replied {
         self.put_off(reply)
@@ -151,79 +132,54 @@ impl<R: Wait + Send + Sync> Filesystem for PuttingOff<R> {
 
     fn mkdir(
         &self,
-        _request: &Request,
-        _parent: INodeNo,
-        _name: &[u8],
-        _mode: u32,
-        _umask: u32,
+        _: &Request,
+        _: INodeNo,
+        _: &[u8],
+        _: u32,
+        _: u32,
         reply: ReplyEntry,
     ) -> Replied {
         self.put_off(reply)
     }
 
-    fn unlink(
-        &self,
-        _request: &Request,
-        _parent: INodeNo,
-        _name: &[u8],
-        reply: ReplyEmpty,
-    ) -> Replied {
+    fn unlink(&self, _: &Request, _: INodeNo, _: &[u8], reply: ReplyEmpty) -> Replied {
         self.put_off(reply)
     }
 
-    fn rmdir(
-        &self,
-        _request: &Request,
-        _parent: INodeNo,
-        _name: &[u8],
-        reply: ReplyEmpty,
-    ) -> Replied {
+    fn rmdir(&self, _: &Request, _: INodeNo, _: &[u8], reply: ReplyEmpty) -> Replied {
         self.put_off(reply)
     }
 
     fn rename(
         &self,
-        _request: &Request,
-        _parent: INodeNo,
-        _name: &[u8],
-        _newparent: INodeNo,
-        _newname: &[u8],
-        _flags: RenameFlags,
+        _: &Request,
+        _: INodeNo,
+        _: &[u8],
+        _: INodeNo,
+        _: &[u8],
+        _: RenameFlags,
         reply: ReplyEmpty,
     ) -> Replied {
         self.put_off(reply)
     }
 
-    fn link(
-        &self,
-        _request: &Request,
-        _ino: INodeNo,
-        _newparent: INodeNo,
-        _newname: &[u8],
-        reply: ReplyEntry,
-    ) -> Replied {
+    fn link(&self, _: &Request, _: INodeNo, _: INodeNo, _: &[u8], reply: ReplyEntry) -> Replied {
         self.put_off(reply)
     }
 
-    fn open(
-        &self,
-        _request: &Request,
-        _ino: INodeNo,
-        _flags: OpenFlags,
-        reply: ReplyOpen,
-    ) -> Replied {
+    fn open(&self, _: &Request, _: INodeNo, _: OpenFlags, reply: ReplyOpen) -> Replied {
         self.put_off(reply)
     }
 
     fn read(
         &self,
-        _request: &Request,
-        _ino: INodeNo,
-        _fh: FileHandle,
-        _offset: u64,
-        _size: u32,
-        _flags: OpenFlags,
-        _lock_owner: Option<LockOwner>,
+        _: &Request,
+        _: INodeNo,
+        _: FileHandle,
+        _: u64,
+        _: u32,
+        _: OpenFlags,
+        _: Option<LockOwner>,
         reply: ReplyData,
     ) -> Replied {
         self.put_off(reply)
@@ -231,118 +187,86 @@ impl<R: Wait + Send + Sync> Filesystem for PuttingOff<R> {
 
     fn write(
         &self,
-        _request: &Request,
-        _ino: INodeNo,
-        _fh: FileHandle,
-        _offset: u64,
-        _written: &[u8],
-        _write_flags: WriteFlags,
-        _flags: OpenFlags,
-        _lock_owner: Option<LockOwner>,
+        _: &Request,
+        _: INodeNo,
+        _: FileHandle,
+        _: u64,
+        _: &[u8],
+        _: WriteFlags,
+        _: OpenFlags,
+        _: Option<LockOwner>,
         reply: ReplyWrite,
     ) -> Replied {
         self.put_off(reply)
     }
 
-    fn statfs(&self, _request: &Request, _ino: INodeNo, reply: ReplyStatfs) -> Replied {
+    fn statfs(&self, _: &Request, _: INodeNo, reply: ReplyStatfs) -> Replied {
         self.put_off(reply)
     }
 
     fn release(
         &self,
-        _request: &Request,
-        _ino: INodeNo,
-        _fh: FileHandle,
-        _flags: OpenFlags,
-        _lock_owner: Option<LockOwner>,
-        _flush: bool,
+        _: &Request,
+        _: INodeNo,
+        _: FileHandle,
+        _: OpenFlags,
+        _: Option<LockOwner>,
+        _: bool,
         reply: ReplyEmpty,
     ) -> Replied {
         self.put_off(reply)
     }
 
-    fn fsync(
-        &self,
-        _request: &Request,
-        _ino: INodeNo,
-        _fh: FileHandle,
-        _datasync: bool,
-        reply: ReplyEmpty,
-    ) -> Replied {
+    fn fsync(&self, _: &Request, _: INodeNo, _: FileHandle, _: bool, reply: ReplyEmpty) -> Replied {
         self.put_off(reply)
     }
 
     fn setxattr(
         &self,
-        _request: &Request,
-        _ino: INodeNo,
-        _name: &[u8],
-        _value: &[u8],
-        _flags: i32,
-        _position: u32,
+        _: &Request,
+        _: INodeNo,
+        _: &[u8],
+        _: &[u8],
+        _: i32,
+        _: u32,
         reply: ReplyEmpty,
     ) -> Replied {
         self.put_off(reply)
     }
 
-    fn getxattr(
-        &self,
-        _request: &Request,
-        _ino: INodeNo,
-        _name: &[u8],
-        _size: u32,
-        reply: ReplyXattr,
-    ) -> Replied {
+    fn getxattr(&self, _: &Request, _: INodeNo, _: &[u8], _: u32, reply: ReplyXattr) -> Replied {
         self.put_off(reply)
     }
 
-    fn listxattr(
-        &self,
-        _request: &Request,
-        _ino: INodeNo,
-        _size: u32,
-        reply: ReplyXattr,
-    ) -> Replied {
+    fn listxattr(&self, _: &Request, _: INodeNo, _: u32, reply: ReplyXattr) -> Replied {
         self.put_off(reply)
     }
 
-    fn removexattr(
-        &self,
-        _request: &Request,
-        _ino: INodeNo,
-        _name: &[u8],
-        reply: ReplyEmpty,
-    ) -> Replied {
+    fn removexattr(&self, _: &Request, _: INodeNo, _: &[u8], reply: ReplyEmpty) -> Replied {
         self.put_off(reply)
     }
 
     fn flush(
         &self,
-        _request: &Request,
-        _ino: INodeNo,
-        _fh: FileHandle,
-        _lock_owner: LockOwner,
+        _: &Request,
+        _: INodeNo,
+        _: FileHandle,
+        _: LockOwner,
         reply: ReplyEmpty,
     ) -> Replied {
         self.put_off(reply)
     }
 
-    fn opendir(
-        &self,
-        _request: &Request,
-        _ino: INodeNo,
-        _flags: OpenFlags,
-        reply: ReplyOpen,
-    ) -> Replied {
+    fn opendir(&self, _: &Request, _: INodeNo, _: OpenFlags, reply: ReplyOpen) -> Replied {
         self.put_off(reply)
     }
 
     fn readdir(
         &self,
-        _request: &Request,
-        _ino: INodeNo,
-        _fh: FileHandle,
-        _offset: u64,
+        _: &Request,
+        _: INodeNo,
+        _: FileHandle,
+        _: u64,
         reply: ReplyDirectory,
     ) -> Replied {
         self.put_off_listing(reply)
@@ -350,10 +274,10 @@ impl<R: Wait + Send + Sync> Filesystem for PuttingOff<R> {
 
     fn releasedir(
         &self,
-        _request: &Request,
-        _ino: INodeNo,
-        _fh: FileHandle,
-        _flags: OpenFlags,
+        _: &Request,
+        _: INodeNo,
+        _: FileHandle,
+        _: OpenFlags,
         reply: ReplyEmpty,
     ) -> Replied {
         self.put_off(reply)
@@ -361,10 +285,10 @@ impl<R: Wait + Send + Sync> Filesystem for PuttingOff<R> {
 
     fn fsyncdir(
         &self,
-        _request: &Request,
-        _ino: INodeNo,
-        _fh: FileHandle,
-        _datasync: bool,
+        _: &Request,
+        _: INodeNo,
+        _: FileHandle,
+        _: bool,
         reply: ReplyEmpty,
     ) -> Replied {
         self.put_off(reply)
@@ -372,14 +296,14 @@ impl<R: Wait + Send + Sync> Filesystem for PuttingOff<R> {
 
     fn getlk(
         &self,
-        _request: &Request,
-        _ino: INodeNo,
-        _fh: FileHandle,
-        _lock_owner: LockOwner,
-        _start: u64,
-        _end: u64,
-        _typ: i32,
-        _pid: u32,
+        _: &Request,
+        _: INodeNo,
+        _: FileHandle,
+        _: LockOwner,
+        _: u64,
+        _: u64,
+        _: i32,
+        _: u32,
         reply: ReplyLock,
     ) -> Replied {
         self.put_off(reply)
@@ -387,63 +311,50 @@ impl<R: Wait + Send + Sync> Filesystem for PuttingOff<R> {
 
     fn setlk(
         &self,
-        _request: &Request,
-        _ino: INodeNo,
-        _fh: FileHandle,
-        _lock_owner: LockOwner,
-        _start: u64,
-        _end: u64,
-        _typ: i32,
-        _pid: u32,
-        _sleep: bool,
+        _: &Request,
+        _: INodeNo,
+        _: FileHandle,
+        _: LockOwner,
+        _: u64,
+        _: u64,
+        _: i32,
+        _: u32,
+        _: bool,
         reply: ReplyEmpty,
     ) -> Replied {
         self.put_off(reply)
     }
 
-    fn access(
-        &self,
-        _request: &Request,
-        _ino: INodeNo,
-        _mask: AccessFlags,
-        reply: ReplyEmpty,
-    ) -> Replied {
+    fn access(&self, _: &Request, _: INodeNo, _: AccessFlags, reply: ReplyEmpty) -> Replied {
         self.put_off(reply)
     }
 
     fn create(
         &self,
-        _request: &Request,
-        _parent: INodeNo,
-        _name: &[u8],
-        _mode: u32,
-        _umask: u32,
-        _flags: i32,
+        _: &Request,
+        _: INodeNo,
+        _: &[u8],
+        _: u32,
+        _: u32,
+        _: i32,
         reply: ReplyCreate,
     ) -> Replied {
         self.put_off(reply)
     }
 
-    fn bmap(
-        &self,
-        _request: &Request,
-        _ino: INodeNo,
-        _blocksize: u32,
-        _idx: u64,
-        reply: ReplyBmap,
-    ) -> Replied {
+    fn bmap(&self, _: &Request, _: INodeNo, _: u32, _: u64, reply: ReplyBmap) -> Replied {
         self.put_off(reply)
     }
 
     fn ioctl(
         &self,
-        _request: &Request,
-        _ino: INodeNo,
-        _fh: FileHandle,
-        _flags: IoctlFlags,
-        _cmd: u32,
-        _in_data: &[u8],
-        _out_size: u32,
+        _: &Request,
+        _: INodeNo,
+        _: FileHandle,
+        _: IoctlFlags,
+        _: u32,
+        _: &[u8],
+        _: u32,
         reply: ReplyIoctl,
     ) -> Replied {
         self.put_off(reply)
@@ -451,29 +362,29 @@ impl<R: Wait + Send + Sync> Filesystem for PuttingOff<R> {
 
     fn poll(
         &self,
-        _request: &Request,
-        _ino: INodeNo,
-        _fh: FileHandle,
-        _ph: PollNotifier,
-        _events: PollEvents,
-        _flags: PollFlags,
+        _: &Request,
+        _: INodeNo,
+        _: FileHandle,
+        _: PollNotifier,
+        _: PollEvents,
+        _: PollFlags,
         reply: ReplyPoll,
     ) -> Replied {
         self.put_off(reply)
     }
 
-    fn batch_forget(&self, _request: &Request, nodes: ForgetList<'_>) -> u64 {
+    fn batch_forget(&self, _: &Request, nodes: ForgetList<'_>) -> u64 {
         defaults::batch_forget(nodes, |_ino, _nlookup| defaults::forget())
     }
 
     fn fallocate(
         &self,
-        _request: &Request,
-        _ino: INodeNo,
-        _fh: FileHandle,
-        _offset: u64,
-        _length: u64,
-        _mode: i32,
+        _: &Request,
+        _: INodeNo,
+        _: FileHandle,
+        _: u64,
+        _: u64,
+        _: i32,
         reply: ReplyEmpty,
     ) -> Replied {
         self.put_off(reply)
@@ -481,10 +392,10 @@ impl<R: Wait + Send + Sync> Filesystem for PuttingOff<R> {
 
     fn readdirplus(
         &self,
-        _request: &Request,
-        _ino: INodeNo,
-        _fh: FileHandle,
-        _offset: u64,
+        _: &Request,
+        _: INodeNo,
+        _: FileHandle,
+        _: u64,
         reply: ReplyDirectoryPlus,
     ) -> Replied {
         self.put_off_listing(reply)
@@ -492,11 +403,11 @@ impl<R: Wait + Send + Sync> Filesystem for PuttingOff<R> {
 
     fn lseek(
         &self,
-        _request: &Request,
-        _ino: INodeNo,
-        _fh: FileHandle,
-        _offset: i64,
-        _whence: i32,
+        _: &Request,
+        _: INodeNo,
+        _: FileHandle,
+        _: i64,
+        _: i32,
         reply: ReplyLseek,
     ) -> Replied {
         self.put_off(reply)
@@ -504,15 +415,15 @@ impl<R: Wait + Send + Sync> Filesystem for PuttingOff<R> {
 
     fn copy_file_range(
         &self,
-        _request: &Request,
-        _ino_in: INodeNo,
-        _fh_in: FileHandle,
-        _offset_in: u64,
-        _ino_out: INodeNo,
-        _fh_out: FileHandle,
-        _offset_out: u64,
-        _len: u64,
-        _flags: CopyFileRangeFlags,
+        _: &Request,
+        _: INodeNo,
+        _: FileHandle,
+        _: u64,
+        _: INodeNo,
+        _: FileHandle,
+        _: u64,
+        _: u64,
+        _: CopyFileRangeFlags,
         reply: ReplyWrite,
     ) -> Replied {
         self.put_off(reply)

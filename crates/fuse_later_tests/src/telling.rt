@@ -135,46 +135,28 @@ impl<R: Wait + AllocGlobal> Probe for Telling<R> {
 
     ghost DEFERS = { false };
 
-    fn started(&mut self, _request: &Request) -> Result<(), Errno> {
+    fn started(&mut self, _: &Request) -> Result<(), Errno> {
         Ok(())
     }
 
-    fn called(
-        &self,
-        _request: &Request,
-        _method: &'static str,
-        _arguments: &[Argument],
-        _texts: &[&[u8]],
-    ) {}
+    fn called(&self, _: &Request, _: &'static str, _: &[Argument], _: &[&[u8]]) {}
 
-    fn lookup(
-        &self,
-        _request: &Request,
-        _parent: INodeNo,
-        name: &[u8],
-        reply: ReplyEntry,
-    ) -> Replied {
+    fn lookup(&self, _: &Request, _: INodeNo, name: &[u8], reply: ReplyEntry) -> Replied {
         reply.error(self.answer_to(name))
     }
 
-    fn getattr(
-        &self,
-        _request: &Request,
-        _ino: INodeNo,
-        _fh: Option<FileHandle>,
-        reply: ReplyAttr,
-    ) -> Replied {
+    fn getattr(&self, _: &Request, _: INodeNo, _: Option<FileHandle>, reply: ReplyAttr) -> Replied {
         self.tell();
         reply.error(Errno::ENOENT)
     }
 
     fn poll(
         &self,
-        _request: &Request,
-        _ino: INodeNo,
-        _fh: FileHandle,
+        _: &Request,
+        _: INodeNo,
+        _: FileHandle,
         ph: PollNotifier,
-        _events: PollEvents,
+        _: PollEvents,
         flags: PollFlags,
         reply: ReplyPoll,
     ) -> Replied {

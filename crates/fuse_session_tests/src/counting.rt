@@ -182,33 +182,21 @@ impl Probe for Counting {
 
     ghost DEFERS = { false };
 
-    fn started(&mut self, _request: &Request) -> Result<(), Errno> {
+    fn started(&mut self, _: &Request) -> Result<(), Errno> {
         match self.refusal {
             Some(error) => Err(error),
             None => Ok(()),
         }
     }
 
-    fn called(
-        &self,
-        _request: &Request,
-        _method: &'static str,
-        _arguments: &[Argument],
-        _texts: &[&[u8]],
-    ) {
+    fn called(&self, _: &Request, _: &'static str, _: &[Argument], _: &[&[u8]]) {
         self.calls.fetch_add(1, Ordering::SeqCst);
         if let Some(gate) = &self.gate {
             gate.count.fetch_add(1, Ordering::SeqCst);
         }
     }
 
-    fn lookup(
-        &self,
-        _request: &Request,
-        _parent: INodeNo,
-        _name: &[u8],
-        reply: ReplyEntry,
-    ) -> Replied {
+    fn lookup(&self, _: &Request, _: INodeNo, _: &[u8], reply: ReplyEntry) -> Replied {
         reply.error(self.lookup_error())
     }
 
@@ -216,25 +204,19 @@ impl Probe for Counting {
         ino.0.saturating_add(nlookup)
     }
 
-    fn getattr(
-        &self,
-        _request: &Request,
-        _ino: INodeNo,
-        _fh: Option<FileHandle>,
-        reply: ReplyAttr,
-    ) -> Replied {
+    fn getattr(&self, _: &Request, _: INodeNo, _: Option<FileHandle>, reply: ReplyAttr) -> Replied {
         reply.unanswered()
     }
 
     fn read(
         &self,
-        _request: &Request,
-        _ino: INodeNo,
-        _fh: FileHandle,
-        _offset: u64,
+        _: &Request,
+        _: INodeNo,
+        _: FileHandle,
+        _: u64,
         size: u32,
-        _flags: OpenFlags,
-        _lock_owner: Option<LockOwner>,
+        _: OpenFlags,
+        _: Option<LockOwner>,
         reply: ReplyData,
     ) -> Replied {
         let contents = match &self.contents {

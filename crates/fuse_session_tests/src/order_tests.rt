@@ -53,12 +53,12 @@ impl Sink for Answering<'_> {
       origin = record { bytes = None; faults = 0 };
     } };
 
-    fn send(&mut self, _header: &[u8; 16], _payload: &[u8]) -> Sending {
+    fn send(&mut self, _: &[u8; 16], _: &[u8]) -> Sending {
         self.answered.fetch_add(1, Ordering::SeqCst);
         Sending::Sent
     }
 
-    fn note(&mut self, _id: RequestId, _mark: u64) -> Noting {
+    fn note(&mut self, _: RequestId, _: u64) -> Noting {
         self.answered.fetch_add(1, Ordering::SeqCst);
         Noting::Sent
     }
