@@ -1,6 +1,7 @@
-//! The tests of `fuse_program`: its words, and runs over memory that serve, write and load messages, some of them with
-//! inputs, outputs and sessions that fail.
-//! They stand apart from the code that they test, since the gate proves a crate once more for the tests in it.
+//! The tests of `fuse_program` and of the tree that it serves, where bytes in and bytes out of the built program do not show
+//! it: inputs and outputs that fail at a read or a write, what is handed back, devices of std, words, and notes of the tree.
+//! What the built program shows is in `checks/statuses`. They stand apart from the code that they test, since the gate proves
+//! a crate once more for the tests in it.
 #![tactic(auto)]
 
 #[cfg(test)]
@@ -10,16 +11,14 @@ mod asserts;
 #[cfg(test)]
 mod fault_tests;
 #[cfg(test)]
-mod generator_tests;
-#[cfg(test)]
 mod load_tests;
 #[cfg(test)]
 mod runs;
 #[cfg(test)]
-mod sessions;
+mod stream;
 #[cfg(test)]
 mod sweep_tests;
 #[cfg(test)]
-mod tests;
-#[cfg(test)]
 mod tree_tests;
+#[cfg(test)]
+mod untold_tests;

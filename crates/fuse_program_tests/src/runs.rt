@@ -1,27 +1,24 @@
-// Runs of the program and of its tree over memory, and what they come to.
-use fuse_config::{Config, SessionACL};
-use fuse_hello::Hello;
-use fuse_program::{Served, run, serve};
-use fuse_session::{Ended, mount};
-use fuse_wire::{ByteRead, ByteSink, ByteSource, MemoryBytes, MemoryOut, Sink, Source};
+// Runs of the program over memory, and what they come to.
+use crate::asserts::expect_same;
+use fuse_program::{Served, serve};
+use fuse_wire::{ByteRead, ByteSource, MemoryBytes, MemoryOut};
 use std::process::Abort;
 use std::sync::Wait;
 use std::thread::Threads;
 
-/// The words of a form with one thread.
-pub(crate) const FORM: &[&[u8]] = &[b"serve", b"1", b"all", b"0", b"4096"];
+/// Bytes in parts.
+pub(crate) type Parts = &'static [&'static [u8]];
 
-/// The same, written once: a constant stands anew in each function that names it.
-pub(crate) fn form() -> &'static [&'static [u8]] {
-    FORM
-}
+/// Words of the program.
+pub(crate) type Words = &'static [&'static [u8]];
 
-/// The words of a form with two threads.
-const ON_TWO: &[&[u8]] = &[b"serve", b"2", b"all", b"0", b"4096"];
+const ALONE: Words = &[b"serve", b"1", b"all", b"0", b"4096"];
 
-/// The same, written once.
-pub(crate) fn form_on_two() -> &'static [&'static [u8]] {
-    ON_TWO
+const ON_TWO: Words = &[b"serve", b"2", b"all", b"0", b"4096"];
+
+/// The words that serve everybody on one thread, or on two.
+pub(crate) fn words_for(is_alone: bool) -> Words {
+    if is_alone { ALONE } else { ON_TWO }
 }
 
 /// These parts joined.
@@ -53,7 +50,7 @@ fn rest_of<R: AllocGlobal + Abort>(rt: &R, input: &mut MemoryBytes) -> Vec<u8> {
     rest
 }
 
-/// What is left of a run over memory.
+/// What was handed back.
 fn left_of<R: AllocGlobal + Abort>(rt: &R, mut served: Served<MemoryBytes, MemoryOut>) -> Run {
     let written = served.output.bytes().to_vec(rt.alloc());
     let run = Run {
@@ -65,65 +62,36 @@ fn left_of<R: AllocGlobal + Abort>(rt: &R, mut served: Served<MemoryBytes, Memor
     run
 }
 
-/// Runs the program over these devices. Nothing is said of what comes of it: a test is to see that.
-pub(crate) fn served<R: Threads + Wait + AllocGlobal + Sync, I: ByteSource, O: ByteSink + Send>(
-    rt: &R,
-    words: &[&[u8]],
-    input: I,
-    output: O,
-) -> Served<I, O> {
-    serve(rt, words, input, output)
-}
-
-/// The same over devices in memory.
+/// Runs the program by these words over these bytes, so many of which are read or written at a time, where these reads and
+/// these writes fail.
 pub(crate) fn run_over<R: Threads + Wait + AllocGlobal + Abort + Sync>(
     rt: &R,
     words: &[&[u8]],
-    input: MemoryBytes,
-    output: MemoryOut,
-) -> Run {
-    left_of(rt, served(rt, words, input, output))
-}
-
-/// The same over these bytes, so many of which are read or written at a time.
-pub(crate) fn run_in_steps<R: Threads + Wait + AllocGlobal + Abort + Sync>(
-    rt: &R,
-    words: &[&[u8]],
-    parts: &[&[u8]],
+    input: Vec<u8>,
     step: usize,
+    reads: &[u64],
+    writes: &[u64],
 ) -> Run {
     let alloc = rt.alloc();
     let step = step.max(1);
-    let input = MemoryBytes::new(joined(rt, parts), step, Vec::new(alloc));
-    run_over(
+    let reads = reads.to_vec(alloc).expect(rt, "there is memory");
+    let writes = writes.to_vec(alloc).expect(rt, "there is memory");
+    let input = MemoryBytes::new(input, step, reads);
+    left_of(
         rt,
-        words,
-        input,
-        MemoryOut::new(alloc, step, Vec::new(alloc)),
+        serve(rt, words, input, MemoryOut::new(alloc, step, writes)),
     )
 }
 
-/// The status of a run over devices that tell nothing.
-pub(crate) fn status_over<R: Threads + Wait + AllocGlobal + Sync>(
-    rt: &R,
-    words: &[&[u8]],
-    input: &[u8],
-    output: &mut Vec<u8>,
-) -> u8 {
-    run(rt, words, input, output)
-}
-
-/// A session of the tree over these devices, for this user, on so many threads. Nothing is said of what comes of it.
-pub(crate) fn mount_tree<R: Threads + Wait + AllocGlobal + Sync, S: Source, K: Sink + Send>(
-    rt: &R,
-    n_threads: Option<usize>,
-    acl: SessionACL,
-    owner: u32,
-    source: S,
-    sink: K,
-) -> Ended<Hello, S, K> {
-    let mut config = Config::new(rt.alloc());
-    config.acl = acl;
-    config.n_threads = n_threads;
-    mount(rt, Hello, source, sink, owner, 4096, &config)
+/// A run came to this status, wrote these bytes, and left those unread.
+pub(crate) fn ends_so(
+    rt: &impl Abort,
+    what: (&str, usize),
+    run: &Run,
+    status: u8,
+    written: &[u8],
+    unread: &[u8],
+) {
+    let found = (run.status, run.written.as_slice(), run.unread.as_slice());
+    expect_same(rt, &(what, found), &(what, (status, written, unread)));
 }
