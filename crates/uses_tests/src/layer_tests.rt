@@ -2,8 +2,11 @@
 ghost use Rattle.std.specs.Prelude.{false};
 
 use crate::asserts::expect_same;
-use crate::rows::{Bytes, ENOENT, EROFS, LOOKUP, MKDIR, NOTHING, OPENING, Row};
-use crate::serving::{ended_well, expect_served, serve};
+use crate::rows::{
+    BATCH_FORGET, Bytes, EACCES, ENOENT, ENOSYS, EROFS, FORGET, LOOKUP, MKDIR, NOTHING, OPENING,
+    Row,
+};
+use crate::serving::{ended_well, expect_noted, expect_served, serve};
 use fuse_read_only::ReadOnly;
 use fuse_request::Request;
 use fuse_testing::{Argument, Probe, Probing};
@@ -13,44 +16,29 @@ use std::sync::atomic::{AtomicU64, Ordering};
 use templates::KeeperOnly;
 use uses::OneFile;
 
-// Linux's numbers: `include/uapi/linux/fuse.h` and `errno-base.h`.
-const FORGET: u8 = 2;
-
-const BATCH_FORGET: u8 = 42;
-
+// Linux's numbers: `include/uapi/linux/fuse.h`.
 const UNLINK: u8 = 10;
 
 const RMDIR: u8 = 11;
 
 const RENAME: u8 = 12;
 
-const EACCES: u8 = 13;
-
-const ENOSYS: u8 = 38;
-
 /// What root gets where somebody else is the keeper. `struct fuse_rename_in` has the new directory.
 const OTHERS: &[Row] = &[
     OPENING,
-    (LOOKUP, 2, 1, (0, &[], b"none\0"), ENOENT, NOTHING),
-    (UNLINK, 3, 1, (0, &[], b"note\0"), EACCES, NOTHING),
-    (RMDIR, 4, 1, (0, &[], b"note\0"), EACCES, NOTHING),
-    (
-        RENAME,
-        5,
-        1,
-        (8, &[(0, 1)], b"note\0new\0"),
-        EACCES,
-        NOTHING,
-    ),
-    (MKDIR, 6, 1, (8, &[], b"new\0"), EROFS, NOTHING),
+    (LOOKUP, 1, (&[], b"none\0"), ENOENT, NOTHING),
+    (UNLINK, 1, (&[], b"note\0"), EACCES, NOTHING),
+    (RMDIR, 1, (&[], b"note\0"), EACCES, NOTHING),
+    (RENAME, 1, (&[1], b"note\0new\0"), EACCES, NOTHING),
+    (MKDIR, 1, (&[0], b"new\0"), EROFS, NOTHING),
 ];
 
 /// What it gets as the keeper: all from the filesystem below, which is only read.
 const KEEPERS: &[Row] = &[
     OPENING,
-    (UNLINK, 3, 1, (0, &[], b"note\0"), EROFS, NOTHING),
-    (RMDIR, 4, 1, (0, &[], b"note\0"), EROFS, NOTHING),
-    (RENAME, 5, 1, (8, &[(0, 1)], b"note\0new\0"), EROFS, NOTHING),
+    (UNLINK, 1, (&[], b"note\0"), EROFS, NOTHING),
+    (RMDIR, 1, (&[], b"note\0"), EROFS, NOTHING),
+    (RENAME, 1, (&[1], b"note\0new\0"), EROFS, NOTHING),
 ];
 
 #[test]
@@ -97,17 +85,10 @@ impl Probe for Calls {
 /// A forget, a batch of one forget, and two calls, of which the first is denied.
 const COUNTED: &[Row] = &[
     OPENING,
-    (FORGET, 2, 2, (8, &[(0, 1)], b""), 0, NOTHING),
-    (
-        BATCH_FORGET,
-        3,
-        0,
-        (24, &[(0, 1), (8, 2), (16, 1)], b""),
-        0,
-        NOTHING,
-    ),
-    (UNLINK, 4, 1, (0, &[], b"note\0"), EACCES, NOTHING),
-    (LOOKUP, 5, 1, (0, &[], b"none\0"), ENOSYS, NOTHING),
+    (FORGET, 2, (&[1], b""), 0, NOTHING),
+    (BATCH_FORGET, 0, (&[1, 2, 1], b""), 0, NOTHING),
+    (UNLINK, 1, (&[], b"note\0"), EACCES, NOTHING),
+    (LOOKUP, 1, (&[], b"none\0"), ENOSYS, NOTHING),
 ];
 
 /// The layer with this keeper, over a filesystem that counts its calls.
@@ -121,15 +102,19 @@ fn over_counted(keeper: u32) -> KeeperOnly<Probing<Calls>> {
     }
 }
 
+/// The filesystem below was asked so often.
+fn was_asked(rt: &impl Abort, layer: KeeperOnly<Probing<Calls>>, count: u64) {
+    let asked = layer.below.probe.count.load(Ordering::SeqCst);
+    expect_same(rt, &asked, &count);
+    drop(layer);
+}
+
 /// The filesystem below is asked once for what is handed on, and not at all for what is denied.
 #[test]
 fn what_is_handed_on_is_asked_once(rt: HostRuntime) {
     let (layer, rest) = serve(&rt, over_counted(5), None, COUNTED);
-    ended_well(&rt, &rest, 5, 3, &[(RequestId(2), 0), (RequestId(3), 0)]);
-    let asked = layer.below.probe.count.load(Ordering::SeqCst);
-    expect_same(&rt, &asked, &4);
-    drop(rest);
-    drop(layer);
+    expect_noted(&rt, &rest, COUNTED, &[(RequestId(2), 0), (RequestId(3), 0)]);
+    was_asked(&rt, layer, 4);
 }
 
 /// Every request that has a reply and may come to a filesystem, by its opcode.
@@ -140,34 +125,23 @@ const OPCODES: &[u8] = &[
 
 /// A body that such a request decodes: numbers that are 0, and names that are empty. WRITE and SETXATTR say that they have no
 /// data, and have none.
-fn body_of(opcode: u8) -> Bytes {
+fn body_of(opcode: u8) -> Bytes<'static> {
     match opcode {
-        16 => (40, &[], b""),
-        21 => (9, &[], b""),
-        _ => (88, &[], b""),
+        16 => (&[0, 0, 0, 0, 0], b""),
+        21 => (&[0], b"\0"),
+        _ => (&[0, 0, 0, 0, 0, 0, 0, 0, 0, 0, 0], b""),
     }
-}
-
-/// An INIT, and one of each such request.
-fn one_of_each<R: AllocGlobal + Abort>(rt: &R) -> Vec<Row> {
-    let mut rows = Vec::new(rt.alloc());
-    rows.push(OPENING).expect(rt, "there is memory");
-    for (place, opcode) in OPCODES.iter().enumerate() {
-        let id = (place as u64).saturating_add(2);
-        let row = (*opcode, id, 1, body_of(*opcode), 0, NOTHING);
-        rows.push(row).expect(rt, "there is memory");
-    }
-    rows
 }
 
 /// The keeper's are all handed on, each by one call.
 #[test]
 fn each_request_is_handed_on_by_one_call(rt: HostRuntime) {
-    let rows = one_of_each(&rt);
+    let mut rows = vec![in rt.alloc(); OPENING].expect(&rt, "there is memory");
+    for opcode in OPCODES {
+        let row = (*opcode, 1, body_of(*opcode), 0, NOTHING);
+        rows.push(row).expect(&rt, "there is memory");
+    }
     let (layer, rest) = serve(&rt, over_counted(0), None, &rows);
     ended_well(&rt, &rest, 40, 40, &[]);
-    let asked = layer.below.probe.count.load(Ordering::SeqCst);
-    expect_same(&rt, &asked, &39);
-    drop(rest);
-    drop(layer);
+    was_asked(&rt, layer, 39);
 }

@@ -1,7 +1,7 @@
 // Sessions of the one lock.
 use crate::asserts::expect_same;
 use crate::rows::{Bytes, INIT, NOTHING, OPENING, Row, frame};
-use crate::serving::{Rest, ended_well, expect_frames, expect_served, serve};
+use crate::serving::{Rest, ended_well, expect_served, serve};
 use fuse_wire::Items;
 use locks::OneLock;
 use std::process::Abort;
@@ -15,195 +15,99 @@ const SETLK: u8 = 32;
 
 const SETLKW: u8 = 33;
 
-const F_RDLCK: u8 = 0;
+const READS: u64 = 0;
 
-const F_WRLCK: u8 = 1;
+const WRITES: u64 = 1;
 
-const F_UNLCK: u8 = 2;
+const UNLOCKS: u64 = 2;
 
 const EAGAIN: u8 = 11;
 
 const EDEADLK: u8 = 35;
 
-// Calls for the lock: `struct fuse_lk_in`, with the first and the last of the eight bytes of its owner, and the type. The
-// other owner differs from the one in the upper half alone, the third in the lower half alone.
-const ONE_WRITES: Bytes = (48, &[(8, 0x71), (15, 0x11), (32, F_WRLCK)], b"");
+/// Owners: the other differs from the one in the upper half alone, the third in the lower half alone.
+const ONE: u64 = 0x1100_0000_0000_0071;
 
-const ONE_READS: Bytes = (48, &[(8, 0x71), (15, 0x11), (32, F_RDLCK)], b"");
+const OTHER: u64 = 0x1200_0000_0000_0071;
 
-const ONE_UNLOCKS: Bytes = (48, &[(8, 0x71), (15, 0x11), (32, F_UNLCK)], b"");
+const THIRD: u64 = 0x1100_0000_0000_0072;
 
-const OTHER_WRITES: Bytes = (48, &[(8, 0x71), (15, 0x12), (32, F_WRLCK)], b"");
+// Calls for the lock: `struct fuse_lk_in`, with the file handle, the owner, the range, and the type and the process.
+const ONE_WRITES: Bytes = (&[0, ONE, 0, 0, WRITES, 0], b"");
 
-const OTHER_UNLOCKS: Bytes = (48, &[(8, 0x71), (15, 0x12), (32, F_UNLCK)], b"");
+const ONE_READS: Bytes = (&[0, ONE, 0, 0, READS, 0], b"");
 
-const THIRD_WRITES: Bytes = (48, &[(8, 0x72), (15, 0x11), (32, F_WRLCK)], b"");
+const ONE_UNLOCKS: Bytes = (&[0, ONE, 0, 0, UNLOCKS, 0], b"");
 
-const THIRD_READS: Bytes = (48, &[(8, 0x72), (15, 0x11), (32, F_RDLCK)], b"");
+const OTHER_WRITES: Bytes = (&[0, OTHER, 0, 0, WRITES, 0], b"");
+
+const OTHER_UNLOCKS: Bytes = (&[0, OTHER, 0, 0, UNLOCKS, 0], b"");
+
+const THIRD_WRITES: Bytes = (&[0, THIRD, 0, 0, WRITES, 0], b"");
+
+const THIRD_READS: Bytes = (&[0, THIRD, 0, 0, READS, 0], b"");
 
 // The same with a file handle, a range and a process, and of another file: it is the one lock.
-const OTHER_WRITES_ELSEWHERE: Bytes = (
-    48,
-    &[
-        (0, 0x71),
-        (8, 0x71),
-        (15, 0x12),
-        (16, 5),
-        (24, 9),
-        (32, F_WRLCK),
-        (36, 7),
-    ],
-    b"",
-);
+const OTHER_ELSEWHERE: Bytes = (&[0x71, OTHER, 5, 9, 7 << 32 | WRITES, 0], b"");
 
-const ONE_UNLOCKS_ELSEWHERE: Bytes = (
-    48,
-    &[
-        (0, 0x72),
-        (8, 0x71),
-        (15, 0x11),
-        (16, 5),
-        (24, 9),
-        (32, F_UNLCK),
-        (36, 7),
-    ],
-    b"",
-);
+const ONE_UNLOCKS_ELSEWHERE: Bytes = (&[0x72, ONE, 5, 9, 7 << 32 | UNLOCKS, 0], b"");
 
 // `struct fuse_flush_in` of the one and of the other.
-const ONE_CLOSES: Bytes = (24, &[(16, 0x71), (23, 0x11)], b"");
+const ONE_CLOSES: Bytes = (&[0, 0, ONE], b"");
 
-const OTHER_CLOSES: Bytes = (24, &[(16, 0x71), (23, 0x12)], b"");
+const OTHER_CLOSES: Bytes = (&[0, 0, OTHER], b"");
 
-/// Its holder need not wait for it. F_UNLCK gives the lock up by SETLKW too, and a lock to read is the one lock. INIT offers
-/// `FUSE_POSIX_LOCKS`, the bit 1 of `flags` in `struct fuse_init_in`, and its reply grants it, in `flags` of
+/// INIT offers `FUSE_POSIX_LOCKS`, the bit 1 of `flags` in `struct fuse_init_in`, and its reply grants it, in `flags` of
 /// `struct fuse_init_out`.
-const NOBODY_WAITS: &[Row] = &[
+const OFFERS_LOCKS: Row = (
+    INIT,
+    0,
+    (&[], b"\x07\0\0\0\x08\0\0\0\0\x10\0\0\x02\0\0\0"),
+    0,
     (
-        INIT,
-        0xdead_beef_baad_f00d,
-        0,
-        (16, &[(0, 7), (4, 8), (9, 0x10), (12, 2)], b""),
-        0,
-        (
-            24,
-            &[
-                (0, 7),
-                (4, 40),
-                (9, 0x10),
-                (12, 2),
-                (16, 16),
-                (18, 12),
-                (23, 1),
-            ],
-            b"",
-        ),
+        &[],
+        b"\x07\0\0\0\x28\0\0\0\0\x10\0\0\x02\0\0\0\x10\0\x0c\0\0\0\0\x01",
     ),
-    (SETLK, 2, 1, ONE_WRITES, 0, NOTHING),
-    (SETLK, 3, 1, OTHER_WRITES, EAGAIN, NOTHING),
-    (SETLKW, 4, 1, OTHER_WRITES, EDEADLK, NOTHING),
-    (SETLK, 5, 1, ONE_UNLOCKS, 0, NOTHING),
-    (SETLKW, 6, 1, OTHER_WRITES, 0, NOTHING),
-    (SETLKW, 7, 1, OTHER_WRITES, 0, NOTHING),
-    (SETLKW, 8, 1, OTHER_UNLOCKS, 0, NOTHING),
-    (SETLK, 9, 1, ONE_READS, 0, NOTHING),
-    (SETLK, 10, 1, THIRD_READS, EAGAIN, NOTHING),
+);
+
+/// Its holder need not wait for it. F_UNLCK gives the lock up by SETLKW too, and a lock to read is the one lock.
+const NOBODY_WAITS: &[Row] = &[
+    OFFERS_LOCKS,
+    (SETLK, 1, ONE_WRITES, 0, NOTHING),
+    (SETLK, 1, OTHER_WRITES, EAGAIN, NOTHING),
+    (SETLKW, 1, OTHER_WRITES, EDEADLK, NOTHING),
+    (SETLK, 1, ONE_UNLOCKS, 0, NOTHING),
+    (SETLKW, 1, OTHER_WRITES, 0, NOTHING),
+    (SETLKW, 1, OTHER_WRITES, 0, NOTHING),
+    (SETLKW, 1, OTHER_UNLOCKS, 0, NOTHING),
+    (SETLK, 1, ONE_READS, 0, NOTHING),
+    (SETLK, 1, THIRD_READS, EAGAIN, NOTHING),
 ];
 
 /// F_UNLCK and FLUSH of the other are done, and change nothing; FLUSH of the one that holds the lock frees it.
 const HOLDER_GIVES_UP: &[Row] = &[
     OPENING,
-    (SETLK, 2, 1, ONE_WRITES, 0, NOTHING),
-    (SETLK, 3, 1, ONE_WRITES, 0, NOTHING),
-    (SETLK, 4, 1, OTHER_UNLOCKS, 0, NOTHING),
-    (FLUSH, 5, 1, OTHER_CLOSES, 0, NOTHING),
-    (SETLK, 6, 1, OTHER_WRITES, EAGAIN, NOTHING),
-    (FLUSH, 7, 1, ONE_CLOSES, 0, NOTHING),
-    (SETLK, 8, 1, OTHER_WRITES, 0, NOTHING),
+    (SETLK, 1, ONE_WRITES, 0, NOTHING),
+    (SETLK, 1, ONE_WRITES, 0, NOTHING),
+    (SETLK, 1, OTHER_UNLOCKS, 0, NOTHING),
+    (FLUSH, 1, OTHER_CLOSES, 0, NOTHING),
+    (SETLK, 1, OTHER_WRITES, EAGAIN, NOTHING),
+    (FLUSH, 1, ONE_CLOSES, 0, NOTHING),
+    (SETLK, 1, OTHER_WRITES, 0, NOTHING),
 ];
 
 /// There is one lock, whatever file, range and process a call names.
 const ELSEWHERE: &[Row] = &[
     OPENING,
-    (SETLK, 2, 1, ONE_WRITES, 0, NOTHING),
-    (SETLK, 3, 2, OTHER_WRITES_ELSEWHERE, EAGAIN, NOTHING),
-    (SETLKW, 4, 2, OTHER_WRITES_ELSEWHERE, EDEADLK, NOTHING),
-    (SETLK, 5, 2, ONE_UNLOCKS_ELSEWHERE, 0, NOTHING),
-    (SETLK, 6, 2, OTHER_WRITES_ELSEWHERE, 0, NOTHING),
-    (FLUSH, 7, 3, ONE_CLOSES, 0, NOTHING),
-    (SETLK, 8, 1, ONE_WRITES, EAGAIN, NOTHING),
-    (FLUSH, 9, 3, OTHER_CLOSES, 0, NOTHING),
-    (SETLK, 10, 1, ONE_WRITES, 0, NOTHING),
-];
-
-/// The one takes the lock, and owners that differ from it in one byte each do not get it.
-const EACH_BYTE: &[Row] = &[
-    OPENING,
-    (SETLK, 2, 1, ONE_WRITES, 0, NOTHING),
-    (
-        SETLK,
-        3,
-        1,
-        (48, &[(8, 0x70), (15, 0x11), (32, F_WRLCK)], b""),
-        EAGAIN,
-        NOTHING,
-    ),
-    (
-        SETLK,
-        4,
-        1,
-        (48, &[(8, 0x71), (9, 1), (15, 0x11), (32, F_WRLCK)], b""),
-        EAGAIN,
-        NOTHING,
-    ),
-    (
-        SETLK,
-        5,
-        1,
-        (48, &[(8, 0x71), (10, 1), (15, 0x11), (32, F_WRLCK)], b""),
-        EAGAIN,
-        NOTHING,
-    ),
-    (
-        SETLK,
-        6,
-        1,
-        (48, &[(8, 0x71), (11, 1), (15, 0x11), (32, F_WRLCK)], b""),
-        EAGAIN,
-        NOTHING,
-    ),
-    (
-        SETLK,
-        7,
-        1,
-        (48, &[(8, 0x71), (12, 1), (15, 0x11), (32, F_WRLCK)], b""),
-        EAGAIN,
-        NOTHING,
-    ),
-    (
-        SETLK,
-        8,
-        1,
-        (48, &[(8, 0x71), (13, 1), (15, 0x11), (32, F_WRLCK)], b""),
-        EAGAIN,
-        NOTHING,
-    ),
-    (
-        SETLK,
-        9,
-        1,
-        (48, &[(8, 0x71), (14, 1), (15, 0x11), (32, F_WRLCK)], b""),
-        EAGAIN,
-        NOTHING,
-    ),
-    (
-        SETLK,
-        10,
-        1,
-        (48, &[(8, 0x71), (15, 0x10), (32, F_WRLCK)], b""),
-        EAGAIN,
-        NOTHING,
-    ),
+    (SETLK, 1, ONE_WRITES, 0, NOTHING),
+    (SETLK, 2, OTHER_ELSEWHERE, EAGAIN, NOTHING),
+    (SETLKW, 2, OTHER_ELSEWHERE, EDEADLK, NOTHING),
+    (SETLK, 2, ONE_UNLOCKS_ELSEWHERE, 0, NOTHING),
+    (SETLK, 2, OTHER_ELSEWHERE, 0, NOTHING),
+    (FLUSH, 3, ONE_CLOSES, 0, NOTHING),
+    (SETLK, 1, ONE_WRITES, EAGAIN, NOTHING),
+    (FLUSH, 3, OTHER_CLOSES, 0, NOTHING),
+    (SETLK, 1, ONE_WRITES, 0, NOTHING),
 ];
 
 /// On one thread the lock gives the frames of these rows for their messages, in this order.
@@ -226,55 +130,56 @@ fn serves_from_free<R: Threads + Wait + AllocGlobal + Abort + Copy + Sync + Send
 }
 
 #[test]
-fn nobody_waits_on_one_thread(rt: HostRuntime) {
-    serves_from_free(rt, NOBODY_WAITS).close();
+fn its_holder_alone_gives_the_one_lock_up(rt: HostRuntime) {
+    for rows in [NOBODY_WAITS, HOLDER_GIVES_UP, ELSEWHERE] {
+        serves_from_free(rt, rows).close();
+    }
 }
 
+/// The one has the lock, and an owner that differs from it in one byte does not get it.
 #[test]
 fn an_owner_is_all_eight_bytes(rt: HostRuntime) {
-    serves_from_free(rt, EACH_BYTE).close();
+    for byte in 0..8 {
+        let body = [0, ONE ^ (1 << (8 * byte)), 0, 0, WRITES, 0];
+        let rows = [
+            OPENING,
+            (SETLK, 1, ONE_WRITES, 0, NOTHING),
+            (SETLK, 1, (body.as_slice(), b"".as_slice()), EAGAIN, NOTHING),
+        ];
+        serves_from_free(rt, &rows).close();
+    }
 }
 
-#[test]
-fn there_is_one_lock(rt: HostRuntime) {
-    serves_from_free(rt, ELSEWHERE).close();
-}
+/// The one takes the lock. Then the other and the third wait for it, with the ids 2 and 3.
+const TAKEN: &[Row] = &[OPENING, (SETLK, 1, ONE_WRITES, 0, NOTHING)];
 
-#[test]
-fn its_holder_alone_gives_it_up(rt: HostRuntime) {
-    serves_from_free(rt, HOLDER_GIVES_UP).close();
-}
+const OTHER_WAITS: Row = (SETLKW, 1, OTHER_WRITES, 0, NOTHING);
 
-/// The one takes the lock.
-const TAKEN: &[Row] = &[OPENING, (SETLK, 2, 1, ONE_WRITES, 0, NOTHING)];
+const THIRD_WAITS: Row = (SETLKW, 1, THIRD_WRITES, 0, NOTHING);
 
-const OTHER_WAITS: Row = (SETLKW, 2, 1, OTHER_WRITES, 0, NOTHING);
+/// The one gives it up, or closes the file, with the id 4.
+const GIVEN_UP: Row = (SETLK, 1, ONE_UNLOCKS, 0, NOTHING);
 
-const THIRD_WAITS: Row = (SETLKW, 3, 1, THIRD_WRITES, 0, NOTHING);
-
-/// The one gives it up, or closes the file.
-const GIVEN_UP: Row = (SETLK, 4, 1, ONE_UNLOCKS, 0, NOTHING);
-
-const CLOSED: Row = (FLUSH, 4, 1, ONE_CLOSES, 0, NOTHING);
+const CLOSED: Row = (FLUSH, 1, ONE_CLOSES, 0, NOTHING);
 
 /// The other has the lock, or else the third.
 const OTHER_HAS_IT: &[Row] = &[
     OPENING,
-    (SETLK, 2, 1, OTHER_WRITES, 0, NOTHING),
-    (SETLK, 3, 1, ONE_WRITES, EAGAIN, NOTHING),
-    (SETLK, 4, 1, THIRD_WRITES, EAGAIN, NOTHING),
+    (SETLK, 1, OTHER_WRITES, 0, NOTHING),
+    (SETLK, 1, ONE_WRITES, EAGAIN, NOTHING),
+    (SETLK, 1, THIRD_WRITES, EAGAIN, NOTHING),
 ];
 
 const THIRD_HAS_IT: &[Row] = &[
     OPENING,
-    (SETLK, 2, 1, OTHER_WRITES, EAGAIN, NOTHING),
-    (SETLK, 3, 1, ONE_WRITES, EAGAIN, NOTHING),
-    (SETLK, 4, 1, THIRD_WRITES, 0, NOTHING),
+    (SETLK, 1, OTHER_WRITES, EAGAIN, NOTHING),
+    (SETLK, 1, ONE_WRITES, EAGAIN, NOTHING),
+    (SETLK, 1, THIRD_WRITES, 0, NOTHING),
 ];
 
-/// How often the frame of the row was sent.
-fn times_sent<R: AllocGlobal + Abort>(rt: &R, sent: &[Items<u8>], row: &Row) -> usize {
-    let frame = frame(rt, rt.alloc(), row);
+/// How often the frame of the row was sent, whose message had this id.
+fn times_sent<R: AllocGlobal + Abort>(rt: &R, sent: &[Items<u8>], id: u64, row: &Row) -> usize {
+    let frame = frame(rt, rt.alloc(), id, row);
     let mut times = 0usize;
     for one in sent {
         if one.as_slice() == frame.as_slice() {
@@ -288,36 +193,30 @@ fn times_sent<R: AllocGlobal + Abort>(rt: &R, sent: &[Items<u8>], row: &Row) -> 
 fn other_was_told<R: AllocGlobal + Abort>(rt: &R, rest: &Rest, given_up: &Row) -> bool {
     ended_well(rt, rest, 4, 3, &[]);
     let sent = rest.sink.frames();
-    expect_frames(rt, sent.get(..1).unwrap_or(&[]), &[OPENING]);
-    let to_other = times_sent(rt, sent, &OTHER_WAITS);
+    let to_other = times_sent(rt, sent, 2, &OTHER_WAITS);
     let others = (
         sent.len(),
-        times_sent(rt, sent, &THIRD_WAITS),
-        times_sent(rt, sent, given_up),
+        times_sent(rt, sent.get(..1).unwrap_or(&[]), 1, &OPENING),
+        times_sent(rt, sent, 3, &THIRD_WAITS),
+        times_sent(rt, sent, 4, given_up),
     );
-    expect_same(rt, &others, &(3, 1usize.saturating_sub(to_other), 1));
+    expect_same(rt, &others, &(3, 1, 1usize.saturating_sub(to_other), 1));
     to_other == 1
 }
 
 /// Before one of the two workers comes to the third message it has served one of the two calls that wait, so at least one
 /// waits when that message gives the lock up. One of the two has it then, and is told so; the other gets no reply.
-fn one_of_two_gets_it<R: Threads + Wait + AllocGlobal + Abort + Copy + Sync + Send>(
-    rt: R,
-    given_up: Row,
-) {
-    let lock = serves_from_free(rt, TAKEN);
-    let calls = [OPENING, OTHER_WAITS, THIRD_WAITS, given_up];
-    let (lock, rest) = serve(&rt, lock, Some(2), &calls);
-    let rows = if other_was_told(&rt, &rest, &given_up) {
-        OTHER_HAS_IT
-    } else {
-        THIRD_HAS_IT
-    };
-    serves_alone(&rt, lock, rows).close();
-}
-
 #[test]
 fn one_of_two_that_wait_gets_it(rt: HostRuntime) {
-    one_of_two_gets_it(rt, GIVEN_UP);
-    one_of_two_gets_it(rt, CLOSED);
+    for given_up in [GIVEN_UP, CLOSED] {
+        let lock = serves_from_free(rt, TAKEN);
+        let calls = [OPENING, OTHER_WAITS, THIRD_WAITS, given_up];
+        let (lock, rest) = serve(&rt, lock, Some(2), &calls);
+        let rows = if other_was_told(&rt, &rest, &given_up) {
+            OTHER_HAS_IT
+        } else {
+            THIRD_HAS_IT
+        };
+        serves_alone(&rt, lock, rows).close();
+    }
 }

@@ -1,289 +1,94 @@
 // Sessions of the file that can be written.
-use crate::rows::{ENOENT, LOOKUP, NOTHING, OPEN, OPENING, READ, Row};
+use crate::rows::{
+    Bytes, ENOENT, EPERM, GETATTR, LOOKUP, NOTHING, OPEN, OPENED, OPENING, READ, Row,
+};
 use crate::serving::{expect_served, serve};
 use uses::Notepad;
 
 // Linux's numbers: `include/uapi/linux/fuse.h` and `errno-base.h`.
-const GETATTR: u8 = 3;
-
 const SETATTR: u8 = 4;
 
 const WRITE: u8 = 16;
-
-const EPERM: u8 = 1;
 
 const EISDIR: u8 = 21;
 
 const ENOSPC: u8 = 28;
 
-/// What is written and read: `struct fuse_write_in` and `struct fuse_read_in` have the offset from byte 8 on, and the size at
-/// 16. Attributes are a `struct fuse_attr_out` that holds for a second, with the size at 24 and blocks at 32.
+/// `struct fuse_read_in` and `struct fuse_write_in` have the offset and the size after the handle: this READ asks for 99 bytes.
+const ALL: Bytes = (&[0, 0, 99, 0, 0], b"");
+
+/// The mode 0o100644, after the nanoseconds of a time.
+const MODE: u64 = 0x81a4 << 32;
+
+// Attributes of a file of 4, 6, 8 or 4096 bytes, which hold for a second: `struct fuse_attr_out`, with the size and the blocks
+// behind the node. And the entry of that of 8 bytes: `struct fuse_entry_out`.
+const OF_4: Bytes = (&[1, 0, 2, 4, 1, 0, 0, 0, 0, MODE, 1, 0, 512], b"");
+
+const OF_6: Bytes = (&[1, 0, 2, 6, 1, 0, 0, 0, 0, MODE, 1, 0, 512], b"");
+
+const OF_8: Bytes = (&[1, 0, 2, 8, 1, 0, 0, 0, 0, MODE, 1, 0, 512], b"");
+
+const OF_4096: Bytes = (&[1, 0, 2, 4096, 8, 0, 0, 0, 0, MODE, 1, 0, 512], b"");
+
+const ENTRY_OF_8: Bytes = (&[2, 0, 1, 1, 0, 2, 8, 1, 0, 0, 0, 0, MODE, 1, 0, 512], b"");
+
+/// What is written and read.
 const WRITTEN: &[Row] = &[
     OPENING,
-    (OPEN, 2, 2, (8, &[(0, 2)], b""), 0, (16, &[], b"")),
-    (READ, 3, 2, (40, &[(16, 99)], b""), 0, NOTHING),
+    (OPEN, 2, (&[2], b""), 0, OPENED),
+    (READ, 2, ALL, 0, NOTHING),
     // five bytes behind two that nobody wrote
-    (
-        WRITE,
-        4,
-        2,
-        (40, &[(8, 2), (16, 5)], b"hello"),
-        0,
-        (8, &[(0, 5)], b""),
-    ),
-    (
-        READ,
-        5,
-        2,
-        (40, &[(16, 99)], b""),
-        0,
-        (0, &[], b"\0\0hello"),
-    ),
+    (WRITE, 2, (&[0, 2, 5, 0, 0], b"hello"), 0, (&[5], b"")),
+    (READ, 2, ALL, 0, (&[], b"\0\0hello")),
     // over some of them, and over the end
-    (
-        WRITE,
-        6,
-        2,
-        (40, &[(8, 1), (16, 3)], b"Yel"),
-        0,
-        (8, &[(0, 3)], b""),
-    ),
-    (
-        WRITE,
-        7,
-        2,
-        (40, &[(8, 5), (16, 3)], b"ow!"),
-        0,
-        (8, &[(0, 3)], b""),
-    ),
-    (
-        READ,
-        8,
-        2,
-        (40, &[(16, 99)], b""),
-        0,
-        (0, &[], b"\0Yellow!"),
-    ),
-    (
-        READ,
-        9,
-        2,
-        (40, &[(8, 4), (16, 2)], b""),
-        0,
-        (0, &[], b"lo"),
-    ),
-    (
-        GETATTR,
-        10,
-        2,
-        (16, &[], b""),
-        0,
-        (
-            104,
-            &[
-                (0, 1),
-                (16, 2),
-                (24, 8),
-                (32, 1),
-                (76, 0xa4),
-                (77, 0x81),
-                (80, 1),
-                (97, 2),
-            ],
-            b"",
-        ),
-    ),
+    (WRITE, 2, (&[0, 1, 3, 0, 0], b"Yel"), 0, (&[3], b"")),
+    (WRITE, 2, (&[0, 5, 3, 0, 0], b"ow!"), 0, (&[3], b"")),
+    (READ, 2, ALL, 0, (&[], b"\0Yellow!")),
+    (READ, 2, (&[0, 4, 2, 0, 0], b""), 0, (&[], b"lo")),
+    (GETATTR, 2, (&[0, 0], b""), 0, OF_8),
     // the last byte that there is room for is at 4095
-    (
-        WRITE,
-        11,
-        2,
-        (40, &[(8, 0xff), (9, 0x0f), (16, 2)], b"no"),
-        ENOSPC,
-        NOTHING,
-    ),
-    (
-        READ,
-        12,
-        2,
-        (40, &[(16, 99)], b""),
-        0,
-        (0, &[], b"\0Yellow!"),
-    ),
-    // the file by its name, as it is: `struct fuse_entry_out`, whose attributes begin at 40
-    (
-        LOOKUP,
-        13,
-        1,
-        (0, &[], b"note\0"),
-        0,
-        (
-            128,
-            &[
-                (0, 2),
-                (16, 1),
-                (24, 1),
-                (40, 2),
-                (48, 8),
-                (56, 1),
-                (100, 0xa4),
-                (101, 0x81),
-                (104, 1),
-                (121, 2),
-            ],
-            b"",
-        ),
-    ),
+    (WRITE, 2, (&[0, 4095, 2, 0, 0], b"no"), ENOSPC, NOTHING),
+    (READ, 2, ALL, 0, (&[], b"\0Yellow!")),
+    // the file by its name, as it is
+    (LOOKUP, 1, (&[], b"note\0"), 0, ENTRY_OF_8),
     // no bytes, behind the end: nothing changes
-    (WRITE, 14, 2, (40, &[(8, 0x20)], b""), 0, (8, &[], b"")),
-    (
-        READ,
-        15,
-        2,
-        (40, &[(16, 99)], b""),
-        0,
-        (0, &[], b"\0Yellow!"),
-    ),
+    (WRITE, 2, (&[0, 32, 0, 0, 0], b""), 0, (&[0], b"")),
+    (READ, 2, ALL, 0, (&[], b"\0Yellow!")),
     // the last byte, and then the file is full: 4096 bytes are 8 blocks
-    (
-        WRITE,
-        16,
-        2,
-        (40, &[(8, 0xff), (9, 0x0f), (16, 1)], b"."),
-        0,
-        (8, &[(0, 1)], b""),
-    ),
-    (
-        READ,
-        17,
-        2,
-        (40, &[(8, 0xfd), (9, 0x0f), (16, 99)], b""),
-        0,
-        (0, &[], b"\0\0."),
-    ),
-    (
-        GETATTR,
-        18,
-        2,
-        (16, &[], b""),
-        0,
-        (
-            104,
-            &[
-                (0, 1),
-                (16, 2),
-                (25, 0x10),
-                (32, 8),
-                (76, 0xa4),
-                (77, 0x81),
-                (80, 1),
-                (97, 2),
-            ],
-            b"",
-        ),
-    ),
-    (
-        READ,
-        19,
-        2,
-        (40, &[(16, 9)], b""),
-        0,
-        (0, &[], b"\0Yellow!\0"),
-    ),
+    (WRITE, 2, (&[0, 4095, 1, 0, 0], b"."), 0, (&[1], b"")),
+    (READ, 2, (&[0, 4093, 99, 0, 0], b""), 0, (&[], b"\0\0.")),
+    (GETATTR, 2, (&[0, 0], b""), 0, OF_4096),
+    (READ, 2, (&[0, 0, 9, 0, 0], b""), 0, (&[], b"\0Yellow!\0")),
 ];
 
-/// A size that is set: `struct fuse_setattr_in` with the flag 8 of `valid`, and the size from byte 16 on. And what the nodes
-/// that are no file get.
+// `struct fuse_setattr_in` with the flag 8 of `valid`, and a size; and with another flag, and a mode.
+const TO_4: Bytes = (&[8, 0, 4, 0, 0, 0, 0, 0, 0, 0, 0], b"");
+
+const TO_6: Bytes = (&[8, 0, 6, 0, 0, 0, 0, 0, 0, 0, 0], b"");
+
+const TO_4097: Bytes = (&[8, 0, 4097, 0, 0, 0, 0, 0, 0, 0, 0], b"");
+
+const TO_0: Bytes = (&[8, 0, 0, 0, 0, 0, 0, 0, 0, 0, 0], b"");
+
+const TO_MODE: Bytes = (&[1, 0, 0, 0, 0, 0, 0, 0, 0xff << 32, 0, 0], b"");
+
+/// A size that is set, and what the nodes that are no file get.
 const RESIZED: &[Row] = &[
     OPENING,
-    (
-        WRITE,
-        2,
-        2,
-        (40, &[(16, 5)], b"hello"),
-        0,
-        (8, &[(0, 5)], b""),
-    ),
-    (
-        SETATTR,
-        3,
-        2,
-        (88, &[(0, 8), (16, 4)], b""),
-        0,
-        (
-            104,
-            &[
-                (0, 1),
-                (16, 2),
-                (24, 4),
-                (32, 1),
-                (76, 0xa4),
-                (77, 0x81),
-                (80, 1),
-                (97, 2),
-            ],
-            b"",
-        ),
-    ),
-    (
-        SETATTR,
-        4,
-        2,
-        (88, &[(0, 8), (16, 6)], b""),
-        0,
-        (
-            104,
-            &[
-                (0, 1),
-                (16, 2),
-                (24, 6),
-                (32, 1),
-                (76, 0xa4),
-                (77, 0x81),
-                (80, 1),
-                (97, 2),
-            ],
-            b"",
-        ),
-    ),
-    (READ, 5, 2, (40, &[(16, 99)], b""), 0, (0, &[], b"hell\0\0")),
-    (
-        SETATTR,
-        6,
-        2,
-        (88, &[(0, 8), (16, 1), (17, 0x10)], b""),
-        ENOSPC,
-        NOTHING,
-    ),
+    (WRITE, 2, (&[0, 0, 5, 0, 0], b"hello"), 0, (&[5], b"")),
+    (SETATTR, 2, TO_4, 0, OF_4),
+    (SETATTR, 2, TO_6, 0, OF_6),
+    (READ, 2, ALL, 0, (&[], b"hell\0\0")),
+    (SETATTR, 2, TO_4097, ENOSPC, NOTHING),
     // without a size nothing changes
-    (
-        SETATTR,
-        7,
-        2,
-        (88, &[(0, 1), (68, 0xff)], b""),
-        0,
-        (
-            104,
-            &[
-                (0, 1),
-                (16, 2),
-                (24, 6),
-                (32, 1),
-                (76, 0xa4),
-                (77, 0x81),
-                (80, 1),
-                (97, 2),
-            ],
-            b"",
-        ),
-    ),
-    (LOOKUP, 8, 1, (0, &[], b"none\0"), ENOENT, NOTHING),
-    (OPEN, 9, 1, (8, &[], b""), EISDIR, NOTHING),
-    (READ, 10, 1, (40, &[(16, 9)], b""), EISDIR, NOTHING),
-    (WRITE, 11, 1, (40, &[(16, 1)], b"x"), EISDIR, NOTHING),
-    (SETATTR, 12, 1, (88, &[(0, 8)], b""), EPERM, NOTHING),
-    (READ, 13, 3, (40, &[(16, 9)], b""), ENOENT, NOTHING),
-    (WRITE, 14, 3, (40, &[(16, 1)], b"x"), ENOENT, NOTHING),
+    (SETATTR, 2, TO_MODE, 0, OF_6),
+    (LOOKUP, 1, (&[], b"none\0"), ENOENT, NOTHING),
+    (OPEN, 1, (&[0], b""), EISDIR, NOTHING),
+    (READ, 1, ALL, EISDIR, NOTHING),
+    (WRITE, 1, (&[0, 0, 1, 0, 0], b"x"), EISDIR, NOTHING),
+    (SETATTR, 1, TO_0, EPERM, NOTHING),
+    (READ, 3, ALL, ENOENT, NOTHING),
+    (WRITE, 3, (&[0, 0, 1, 0, 0], b"x"), ENOENT, NOTHING),
 ];
 
 #[test]
