@@ -22,13 +22,35 @@ const ATTRIBUTES: &[u8] =
 const SHORT: &[u8] =
     b"\xff\xff\xff\xff\x03\0\0\0\x02\0\0\0\0\0\0\0\x02\0\0\0\0\0\0\0\0\0\0\0\0\0\0\0\0\0\0\0\0\0\0\0\0\0\0\0\0\0\0\0";
 
-/// Whether this frame was sent, but for the first.
-fn was_sent(sent: &[Items<u8>], frame: &[u8]) -> bool {
-    sent.iter().skip(1).any(|other| other.as_slice() == frame)
+/// Behind the first frame that was sent stand these: in this order on one thread, and in any order on several.
+fn are_sent(rt: &impl Abort, n_threads: usize, sent: &[Items<u8>], frames: &[&[u8]]) {
+    expect_same(rt, &sent.len(), &frames.len().saturating_add(1));
+    for (place, frame) in frames.iter().enumerate() {
+        let is_there = match sent.get(place.saturating_add(1)) {
+            Some(found) if n_threads == 1 => found.as_slice() == *frame,
+            _ => sent.iter().any(|other| other.as_slice() == *frame),
+        };
+        expect_same(rt, &(place, is_there), &(place, true));
+    }
 }
 
-/// Serves these messages on so many threads, in a session of the user 7. It ends so, and sends these frames behind that of
-/// the handshake, and these notes: in this order on one thread, and in any order on several.
+/// The same of notes.
+fn are_noted(
+    rt: &impl Abort,
+    n_threads: usize,
+    noted: &[(RequestId, u64)],
+    notes: &[(RequestId, u64)],
+) {
+    expect_same(rt, &noted.len(), &notes.len());
+    if n_threads == 1 {
+        expect_same(rt, &noted, &notes);
+    }
+    for note in notes {
+        expect_same(rt, &(note, noted.contains(note)), &(note, true));
+    }
+}
+
+/// Serves these messages on so many threads, in a session of the user 7, which ends so and sends these frames and notes.
 fn serves<R: Threads + Wait + AllocGlobal + Abort + Sync>(
     rt: &R,
     n_threads: usize,
@@ -43,25 +65,10 @@ fn serves<R: Threads + Wait + AllocGlobal + Abort + Sync>(
     let source = source_of(rt.alloc(), messages).expect(rt, "there is memory");
     let sink = MemorySink::new(rt.alloc(), Vec::new(rt.alloc()));
     let ended = mount(rt, Hello, source, sink, 7, 4096, &config);
-    let (sent, noted) = (ended.sink.frames(), ended.sink.notes());
-    let counts = (ended.transcript.received, sent.len(), noted.len());
-    let expected = (
-        messages.len() as u64,
-        frames.len().saturating_add(1),
-        notes.len(),
-    );
-    expect_same(rt, &(ended.outcome, counts), &(outcome, expected));
-    for (place, frame) in frames.iter().enumerate() {
-        let in_place = sent.get(place.saturating_add(1));
-        let is_there = match in_place {
-            Some(found) if n_threads == 1 => found.as_slice() == *frame,
-            _ => was_sent(sent, frame),
-        };
-        expect_same(rt, &(place, is_there), &(place, true));
-    }
-    for note in notes {
-        expect_same(rt, &(note, noted.contains(note)), &(note, true));
-    }
+    let found = (ended.outcome, ended.transcript.received);
+    expect_same(rt, &found, &(outcome, messages.len() as u64));
+    are_sent(rt, n_threads, ended.sink.frames(), frames);
+    are_noted(rt, n_threads, ended.sink.notes(), notes);
     drop(ended);
 }
 

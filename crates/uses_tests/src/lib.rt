@@ -1,5 +1,5 @@
-//! The tests of `uses`, of `templates` and of `fuse_read_only`: sessions of the one file, of the one lock, of a layer, of a
-//! blank, of a small tree and of a wide one, from memory to memory.
+//! The tests of `uses`, `locks`, `templates` and `fuse_read_only`: sessions of the one file, of the notepad, of the one lock,
+//! of a blank, of a layer, of a small tree and of a wide one, from memory to memory.
 #![tactic(auto)]
 
 #[cfg(test)]
