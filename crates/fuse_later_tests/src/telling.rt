@@ -96,7 +96,7 @@ impl<R: Wait + AllocGlobal> Telling<R> {
             Ok(()) => {
                 self.queued.fetch_add(1, Ordering::SeqCst);
             }
-            Err(NotifyError::Full) => {
+            Err(NotifyError::Full(_)) => {
                 self.full.fetch_add(1, Ordering::SeqCst);
             }
             Err(_) => {}

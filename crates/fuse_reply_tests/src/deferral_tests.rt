@@ -87,7 +87,7 @@ fn refuse<R: Wait + Abort>(
     drop(replied.into_out());
     let (reply, token) = later.reply();
     match token.send(rt, reply.ok()) {
-        Err(LateRefusal::Full(token, replied)) => {
+        Err(LateRefusal::Full(token, replied, _)) => {
             mark.set(seal, taken);
             let note = token.send_or_retire(rt, replied)?;
             Some(note.taken())

@@ -249,14 +249,24 @@ fn notify<R: Wait + AllocGlobal>(
     }
 }
 
+/// What came of it, in a word.
+fn told(answer: Result<(), NotifyError>) -> &'static str {
+    match answer {
+        Ok(()) => "queued",
+        Err(NotifyError::TooBig) => "too big",
+        Err(NotifyError::Full(_)) => "full",
+        Err(NotifyError::Memory) => "no memory",
+    }
+}
+
 /// The notice of this is queued, or not, as the answer says.
 fn expect_notified<R: Wait + Abort + AllocGlobal>(
     rt: &R,
     notifier: &mut Notifier,
     news: &News,
-    answer: Result<(), NotifyError>,
+    answer: &str,
 ) {
-    expect_same(rt, &notify(rt, notifier, news), &answer);
+    expect_same(rt, &told(notify(rt, notifier, news)), &answer);
 }
 
 /// The line holds this notice, and no other.
@@ -282,7 +292,7 @@ fn expect_waits<R: Wait + Abort + AllocGlobal>(
 fn expect_each_queued<R: Wait + Abort + AllocGlobal>(rt: &R) {
     let (line, mut first, mut notifier) = line_of(rt, rt.alloc(), 10);
     for (news, _) in EACH {
-        expect_notified(rt, &mut notifier, news, Ok(()));
+        expect_notified(rt, &mut notifier, news, "queued");
     }
     let sink = drain(rt, rt.alloc(), &line, &mut first);
     expect_same(rt, &sink.frames().len(), &10);
@@ -294,12 +304,12 @@ fn expect_each_queued<R: Wait + Abort + AllocGlobal>(rt: &R) {
 /// A full line refuses each, and takes again once its notice is taken.
 fn expect_refused<R: Wait + Abort + AllocGlobal>(rt: &R) {
     let (line, mut first, mut notifier) = line_of(rt, rt.alloc(), 1);
-    expect_notified(rt, &mut notifier, &News::InvalEntry(b"abc"), Ok(()));
+    expect_notified(rt, &mut notifier, &News::InvalEntry(b"abc"), "queued");
     for news in FIVE {
-        expect_notified(rt, &mut notifier, news, Err(NotifyError::Full));
+        expect_notified(rt, &mut notifier, news, "full");
     }
     expect_waits(rt, &line, &mut first, INVAL_ENTRY);
-    expect_notified(rt, &mut notifier, &News::InvalInode(FROM, LENGTH), Ok(()));
+    expect_notified(rt, &mut notifier, &News::InvalInode(FROM, LENGTH), "queued");
     expect_waits(rt, &line, &mut first, INVAL_INODE);
 }
 
@@ -309,7 +319,7 @@ fn expect_told_once<R: Wait + Abort + AllocGlobal>(rt: &R) {
     let poll = notifier.poll_notifier(HANDLE).expect(rt, "there is memory");
     expect_same(rt, &poll.handle(), &HANDLE);
     let mut another = notifier.again().expect(rt, "there is memory");
-    expect_notified(rt, &mut another, &News::InvalEntry(b"abc"), Ok(()));
+    expect_notified(rt, &mut another, &News::InvalEntry(b"abc"), "queued");
     let Err(full) = poll.notify(rt) else {
         panic!(rt; "the line is full");
     };
@@ -380,6 +390,24 @@ fn long_notices_find_memory_where_there_is_some(rt: HostRuntime) {
         expect_carried(&rt, *count, [&[], &[], &[]]);
     }
     expect_carried(&rt, 0x0102_0304, [LONG_ENTRY, LONG_STORE, LONG_DELETE]);
+}
+
+/// What a notice of a name comes to that is not held inline, where its line has a place.
+fn a_long_name<R: Wait + Abort + AllocGlobal>(rt: &R) -> &'static str {
+    let name = many(rt, rt.alloc(), 200);
+    let (_line, _first, mut notifier) = line_of(rt, rt.alloc(), 1);
+    told(notifier.inval_entry(rt, INODE, &name))
+}
+
+#[test]
+fn a_long_name_is_told(rt: HostRuntime) {
+    expect_same(&rt, &a_long_name(&rt), &"queued");
+}
+
+#[test]
+fn a_long_name_is_told_or_there_is_no_memory(rt: HostRuntime) {
+    let found = a_long_name(&rt);
+    expect_same(&rt, &(found == "queued" || found == "no memory"), &true);
 }
 
 #[test]

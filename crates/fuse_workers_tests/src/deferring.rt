@@ -72,8 +72,8 @@ impl Counts {
         requires { IsFrameFor token.id.0 replied }
     {
         match token.send(rt, replied) {
-            Ok(()) => None,
-            Err(LateRefusal::Full(token, replied)) => {
+            Ok(_) => None,
+            Err(LateRefusal::Full(token, replied, _)) => {
                 self.full.fetch_add(1, Ordering::SeqCst);
                 let note = token.send_or_retire(rt, replied)?;
                 Some(note.taken())
