@@ -62,15 +62,15 @@ fn keeps_two<R: Wait + Abort>(rt: &R, line: &Line<Item>, mut pass: Pass<Item>)
         line.push(rt, &mut pass, job(2)),
         line.push(rt, &mut pass, job(3)),
     ];
-    let [first, second, third] = pushed;
-    expect_same(rt, &[first.is_ok(), second.is_ok()], &[true, true]);
-    expect_same(rt, &third.err().map(|full| full.item), &Some(job(3)));
     let popped = [
         line.pop(rt, &mut pass),
         line.pop(rt, &mut pass),
         line.pop(rt, &mut pass),
     ];
     expect_same(rt, &popped, &[Some(job(1)), Some(job(2)), None]);
+    let [first, second, third] = pushed;
+    expect_same(rt, &[first.is_ok(), second.is_ok()], &[true, true]);
+    expect_same(rt, &third.err().map(|full| full.item), &Some(job(3)));
 }
 
 #[test]

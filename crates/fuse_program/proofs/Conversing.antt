@@ -18,14 +18,14 @@ use Rattle.fuse_loop.specs.Incoming.Incoming.{Broken, Destroy, Request}
 use Rattle.fuse_session.specs.Handshake.{HandshakeEnd}
 use Rattle.fuse_session.specs.Exchange.{Setup, EndedBy, Dialogue, Exchange, Mounted}
 use Rattle.fuse_session.specs.SessionEnd.{Outcome}
-use Rattle.fuse_session.specs.Headline.{Headline}
+use Rattle.fuse_session.specs.Headline.{Account, EndedWell}
 use Rattle.fuse_session.specs.Complete.{AcceptsAll, OpensWell, SessionWell}
 use Rattle.fuse_loop.specs.Progress.{is_notice, nothing_yet, progress}
 use Rattle.fuse_loop.specs.declared.transcript.Transcript.{Transcript}
 use Rattle.fuse_session.specs.declared.error.SessionError.TheVariants as session
 use Rattle.fuse_program.specs.Status.{status}
 use Rattle.fuse_hello.specs.Tree.{tree_promise, tree_may_init}
-use Rattle.fuse_program.specs.Program.{Fronts, WritesFrames, EachAnswered, Still, ByteExchange, InputWell, form_setup}
+use Rattle.fuse_program.specs.Program.{AnsweredBy, Fronts, WritesFrames, Still, ByteExchange, InputWell, form_setup}
 use Rattle.fuse_hello.specs.declared.hello.Hello.{Hello}
 use Rattle.fuse_program.specs.declared.arguments.ServeForm.{ServeForm}
 use Rattle.fuse_program.proofs.Statuses.{status-counted, ok-statuses, eight-status}
@@ -134,13 +134,13 @@ ByteExchange-mounted form exit outcome input input' output output' sink broken v
   lost_is =
       let at_end : v.lost ≡ min (0 + length x.lost) last_count = ap (λ (w : Transcript). w.lost) (x.moved.counts 0 0 0 0 refl) in omega arith
 
--- each message was answered, where the session ended well and no write failed
-pub EachAnswered-headline : (form : ServeForm) (input input' : ByteSourceState) (output output' : ByteSinkState) (sink : SinkState)
+-- each message was answered, in whichever way, where the session ended well and no write failed
+pub AnsweredBy-ended : (account : Account Hello) (form : ServeForm) (input input' : ByteSourceState) (output output' : ByteSinkState) (sink : SinkState)
     (broken : Bool) (tree : Hello)
-    → Headline tree_promise form.page form.acl form.owner tree (stream_source_told input) (stream_source_told input')
+    → EndedWell account tree_promise form.page tree (stream_source_told input) (stream_source_told input')
     (stream_sink_told output output false 0) sink
-    → ∥ Stands sink output' broken ∥₁ → broken ≡ false → EachAnswered form input input' output output'
-EachAnswered-headline form input input' output output' sink broken tree h stands is = record {
+    → ∥ Stands sink output' broken ∥₁ → broken ≡ false → AnsweredBy account form input input' output output'
+AnsweredBy-ended account form input input' output output' sink broken tree h stands is = record {
   tree = tree;
   tree1 = h.fs1;
   hs = map message h.hs;

@@ -13,11 +13,12 @@ use Rattle.fuse_reply.specs.declared.out.Out.{Out}
 use Rattle.fuse_reply.specs.declared.out.Out.TheVariants.{Frame, Note, Deferred}
 use Rattle.fuse_loop.specs.Incoming.{IsBroken, EndsWell}
 use Rattle.fuse_dispatch.specs.OwedMessage.{OwedByPromise}
-use Rattle.fuse_core.specs.OnePerMessage.{OnePerMessage}
+use Rattle.fuse_core.specs.OnePerMessage.{InOrder, OnePerMessage}
 use Rattle.fuse_session.specs.Complete.{OpensWell}
 use Rattle.fuse_session.specs.Exchange.{Setup, Dialogue, setup_of}
 use Rattle.fuse_session.specs.SessionEnd.{Outcome}
 use Rattle.fuse_session.specs.Handshake.{Handshake}
+use Rattle.fuse_session.specs.Headline.{Account}
 use Rattle.fuse_session.specs.Handshake.HandshakeEnd.{Accepted}
 use Rattle.fuse_loop.specs.Progress.{replies, is_notice, NoticeOrReply}
 use Rattle.fuse_session.specs.declared.error.SessionError.TheVariants.{Init, Receive}
@@ -51,8 +52,8 @@ TornFromFirst (Frame f ∷ refused) broken torn = (broken ≡ true) × IsTornFro
 TornFromFirst (Note id mark ∷ refused) broken torn = TornFromFirst refused broken torn
 TornFromFirst (Deferred seq id ∷ refused) broken torn = TornFromFirst refused broken torn
 
--- With status 0 each message read has its one reply.
-pub record EachAnswered (form : ServeForm) (input input' : ByteSourceState) (output output' : ByteSinkState) : Type 0 where
+-- With status 0 the later messages read are accounted for in this way, by the tree after the handshake.
+pub record AnsweredBy (account : Account Hello) (form : ServeForm) (input input' : ByteSourceState) (output output' : ByteSinkState) : Type 0 where
   pub tree : Hello
   pub tree1 : Hello
   -- the messages of the handshake, and the later ones
@@ -71,8 +72,18 @@ pub record EachAnswered (form : ServeForm) (input input' : ByteSourceState) (out
   pub written : WritesFrames appended [] output output'
   pub replied : replies appended ≡ handshake_replies ++ later_replies
   pub set_aside : AllByRecursion NoticeOrReply appended
-  pub one_per_message : OnePerMessage (OwedByPromise tree_promise tree1 form.acl form.owner) IsBroken 0 ls later_replies notes [] 0
+  pub one_per_message : account tree1 ls later_replies notes
   pub ended : EndsWell ls (NoByteLeft input')
+
+-- each message read has its one reply
+abbrev pub EachAnswered : (form : ServeForm) → (input input' : ByteSourceState) → (output output' : ByteSinkState) → Type 0
+EachAnswered form =
+    AnsweredBy (λ tree messages replies notes. OnePerMessage (OwedByPromise tree_promise tree form.acl form.owner) IsBroken 0 messages replies notes [] 0) form
+
+-- the same in order: each has the first reply that is left
+abbrev pub AnsweredInOrder : (form : ServeForm) → (input input' : ByteSourceState) → (output output' : ByteSinkState) → Type 0
+AnsweredInOrder form =
+    AnsweredBy (λ tree messages replies notes. InOrder (OwedByPromise tree_promise tree form.acl form.owner) 0 messages replies notes []) form
 
 -- A session over the program's bytes, whose outcome gives its status.
 pub record ByteExchange (form : ServeForm) (exit : ℕ) (input input' : ByteSourceState) (output output' : ByteSinkState) : Type 0 where

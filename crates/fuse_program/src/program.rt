@@ -1,9 +1,9 @@
 // What the program does with its words, its input and its output.
-ghost use Rattle.std.specs.Prelude.{◌≡◌, ◌≢◌, ◌↔◌, ◌⊎◌, ◌<◌, map, IfSome};
+ghost use Rattle.std.specs.Prelude.{◌≡◌, ◌≢◌, ◌↔◌, ◌⊎◌, ◌<◌, ◌≤◌, map, IfSome};
 ghost use Rattle.fuse_program.specs.Form.{IsNoForm, form_of, gen_form_of, load_form_of};
 ghost use Rattle.fuse_program.specs.Generated.{Generates};
 ghost use Rattle.fuse_program.specs.Load.{Loads, WritesOneLine};
-ghost use Rattle.fuse_program.specs.Program.{ByteExchange, EachAnswered, InputWell, Still};
+ghost use Rattle.fuse_program.specs.Program.{AnsweredInOrder, ByteExchange, EachAnswered, InputWell, Still};
 ghost use Rattle.fuse_program.specs.Status.{IsExit, IsGenStatus, IsLoadStatus, IsSessionStatus};
 
 use crate::arguments::{GenForm, LoadForm, ServeForm, gen_form, load_form, serve_form};
@@ -40,6 +40,8 @@ fn serve_tree<R: Threads + Wait + AllocGlobal + Sync, I: ByteSource, O: ByteSink
     ensures untouched { result.status ≡ 9 → (result.input ≡ input) × (result.output ≡ output) }
     ensures answered { result.status ≡ 0 →
         EachAnswered form (I.told input) (I.told result.input) (O.told output) (O.told result.output) }
+    ensures in_order { result.status ≡ 0 → form.threads ≤ 1 →
+        AnsweredInOrder form (I.told input) (I.told result.input) (O.told output) (O.told result.output) }
     ensures session { result.status ≢ 9 →
         ByteExchange form result.status (I.told input) (I.told result.input) (O.told output) (O.told result.output) }
     ensures complete { InputWell form (I.told input) (I.told result.input) (O.told output) (O.told result.output) →
@@ -128,6 +130,10 @@ pub fn serve<R: Threads + Wait + AllocGlobal + Sync, I: ByteSource, O: ByteSink 
     // For `serve`: with 0 each message that was read has its one reply: see `EachAnswered`.
     ensures answered { result.status ≡ 0 → IfSome (form_of (map (λ w. w.now) words.now)) (λ form.
         EachAnswered form (I.told input) (I.told result.input) (O.told output) (O.told result.output)) }
+
+    // On one thread these are in the order of the messages: see `AnsweredInOrder`.
+    ensures in_order { result.status ≡ 0 → IfSome (form_of (map (λ w. w.now) words.now)) (λ form. form.threads ≤ 1 →
+        AnsweredInOrder form (I.told input) (I.told result.input) (O.told output) (O.told result.output)) }
 
     // But for 2 and 9: what was read, written and lost, and why it ended so: see `ByteExchange`.
     ensures session { result.status ≢ 9 → IfSome (form_of (map (λ w. w.now) words.now)) (λ form.

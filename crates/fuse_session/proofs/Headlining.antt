@@ -9,12 +9,12 @@ use Rattle.fuse_reply.specs.declared.out.Out.{Out}
 use Rattle.fuse_reply.specs.declared.out.Out.TheVariants.{Frame}
 use Rattle.fuse_loop.specs.Incoming.{IsBroken, EndsWell}
 use Rattle.fuse_dispatch.specs.OwedMessage.{OwedByPromise}
-use Rattle.fuse_core.specs.OnePerMessage.{OnePerMessage, UpToOrder}
+use Rattle.fuse_core.specs.OnePerMessage.{InOrder, OnePerMessage, UpToOrder}
 use Rattle.fuse_workers.specs.OnePerMessageLater.{OnePerMessageLater}
 use Rattle.fuse_session.specs.Handshake.{HandshakeEnd, Handshake}
 use Rattle.fuse_session.specs.Handshake.HandshakeEnd.{Accepted}
-use Rattle.fuse_session.specs.Accounted.{Accounted, NeverLater}
-use Rattle.fuse_session.specs.Headline.{Account, EndedWell, Headline, LaterHeadline, Lossless}
+use Rattle.fuse_session.specs.Accounted.{Accounted, ManyThreads, NeverLater}
+use Rattle.fuse_session.specs.Headline.{Account, EndedWell, Headline, LaterHeadline, Lossless, OrderedHeadline}
 use Rattle.fuse_session.specs.Exchange.{Setup, Dialogue, Exchange}
 use Rattle.fuse_loop.specs.Progress.{Progress, Moves, LeavesOut, but_unrecorded, is_notice, nothing_yet}
 use Rattle.fuse_loop.specs.declared.transcript.Transcript.{Transcript}
@@ -90,6 +90,17 @@ Headline-from_exchange {F} {setup} {fs} {fs1} {p} {q} never exchange start quiet
     exchange (λ lost none accounted.
     subst (λ (outs : List Out). UpToOrder (OwedByPromise setup.promise fs1 setup.acl setup.owner) IsBroken exchange.dialogue.answered
     exchange.dialogue.later_sent exchange.notes outs) none (accounted.one_per_message never)) start quiet
+
+-- in order, where no more than one thread serves
+pub OrderedHeadline-from_exchange : {F : Type 0} {setup : Setup F} {fs fs1 : F} {p q : Progress} → ¬ (ManyThreads setup.threads)
+    → Exchange setup fs fs1 (Ok tt) p q → p.counts ≡ nothing_yet → Lossless p.sink q.sink q.counts
+    → OrderedHeadline setup.promise setup.page setup.acl setup.owner fs p.source q.source p.sink q.sink
+OrderedHeadline-from_exchange {F} {setup} {fs} {fs1} {p} {q} one exchange start quiet =
+    EndedWell-from_exchange
+    (λ at messages replies notes. InOrder (OwedByPromise setup.promise at setup.acl setup.owner) 0 messages replies notes [])
+    exchange (λ lost none accounted.
+    subst (λ (outs : List Out). InOrder (OwedByPromise setup.promise fs1 setup.acl setup.owner) 0 exchange.dialogue.answered
+    exchange.dialogue.later_sent exchange.notes outs) none (accounted.in_order one)) start quiet
 
 -- or the mark of one that came later
 pub LaterHeadline-from_exchange : {F : Type 0} {setup : Setup F} {fs fs1 : F} {p q : Progress}

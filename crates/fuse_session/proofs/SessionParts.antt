@@ -3,12 +3,12 @@ use Rattle.std.proofs.Common.{◌≡◌, ◌≢◌, ◌↔◌, ◌∙◌, ◌++�
 use Rattle.std.proofs.lemmas.List.{map-append}
 use Rattle.fuse_wire.specs.Source.{SourceState, message}
 use Rattle.fuse_wire.specs.Sink.{SinkState}
-use Rattle.fuse_session.specs.Accounted.{Accounted, NeverLater}
+use Rattle.fuse_session.specs.Accounted.{Accounted, ManyThreads, NeverLater}
 use Rattle.fuse_session.specs.Complete.{GoodHeaders, RunWell, Unfailing}
 use Rattle.fuse_loop.specs.EventLoop.{Run}
 use Rattle.fuse_session.specs.Exchange.{Closed, Exchange, Mounted, Setup, Unopened, setup_of}
 use Rattle.fuse_session.specs.SessionEnd.{Outcome, handshake_error, run_outcome}
-use Rattle.fuse_session.specs.Headline.{Headline, LaterHeadline, Lossless}
+use Rattle.fuse_session.specs.Headline.{Headline, LaterHeadline, Lossless, OrderedHeadline}
 use Rattle.fuse_dispatch.specs.OwedMessage.{OwedByPromise}
 use Rattle.fuse_core.specs.OnePerMessage.{Accounting}
 use Rattle.fuse_loop.specs.Progress.{Progress, nothing_yet, progress}
@@ -24,7 +24,7 @@ use Rattle.fuse_session.specs.declared.greeting.HandshakeError.TheVariants as re
 use Rattle.fuse_loop.specs.declared.transcript.Transcript.{Transcript}
 use Rattle.fuse_session.proofs.Completing.{never-broken, no-failure, told-after}
 use Rattle.fuse_session.proofs.Exchanging.{Exchange-ran, Exchange-unserved}
-use Rattle.fuse_session.proofs.Headlining.{Headline-from_exchange, LaterHeadline-from_exchange}
+use Rattle.fuse_session.proofs.Headlining.{Headline-from_exchange, LaterHeadline-from_exchange, OrderedHeadline-from_exchange}
 
 -- a handshake that was accepted and a run after it are a session
 pub Exchange-opened : {F : Type 0} (promise : Promise F) (page : ℕ) (fs : F) (source : SourceState) (sink : SinkState) (session : Opened F)
@@ -61,6 +61,19 @@ Headline-ran promise page fs fs' source source' sink sink' session outcome count
     let p = progress source sink nothing_yet [] in
     let q = progress source' sink' counts ran.unasked in
     Headline-from_exchange {setup = s} {p = p} {q = q} never
+    (subst (λ (o : Outcome). Exchange s fs session.filesystem o p q) ok
+    (Exchange-opened promise page fs source sink session outcome q opened ran.ends)) refl lossless
+
+-- in order, where no more than one thread serves
+pub OrderedHeadline-ran : {F : Type 0} (promise : Promise F) (page : ℕ) (fs fs' : F) (source source' : SourceState) (sink sink' : SinkState)
+    (session : Opened F) (outcome : Outcome) (counts : Transcript) → ¬ (ManyThreads session.threads) → IsOpened promise page fs source sink session
+    → Ran promise session fs' outcome source' sink' counts → outcome ≡ Ok tt → Lossless sink sink' counts
+    → OrderedHeadline promise page session.acl session.owner fs source source' sink sink'
+OrderedHeadline-ran promise page fs fs' source source' sink sink' session outcome counts one opened ran ok lossless =
+    let s = setup_for promise page session in
+    let p = progress source sink nothing_yet [] in
+    let q = progress source' sink' counts ran.unasked in
+    OrderedHeadline-from_exchange {setup = s} {p = p} {q = q} one
     (subst (λ (o : Outcome). Exchange s fs session.filesystem o p q) ok
     (Exchange-opened promise page fs source sink session outcome q opened ran.ends)) refl lossless
 

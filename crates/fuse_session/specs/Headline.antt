@@ -6,7 +6,7 @@ use Rattle.fuse_wire.specs.Sink.{SinkState, Note, Appends}
 use Rattle.fuse_config.specs.declared.session_acl.SessionACL.{SessionACL}
 use Rattle.fuse_loop.specs.Incoming.{IsBroken, EndsWell}
 use Rattle.fuse_dispatch.specs.OwedMessage.{OwedByPromise}
-use Rattle.fuse_core.specs.OnePerMessage.{OnePerMessage}
+use Rattle.fuse_core.specs.OnePerMessage.{InOrder, OnePerMessage}
 use Rattle.fuse_workers.specs.OnePerMessageLater.{OnePerMessageLater}
 use Rattle.fuse_dispatch.specs.Promise.{Promise}
 use Rattle.fuse_session.specs.Handshake.{Handshake}
@@ -49,6 +49,12 @@ abbrev pub Headline : {F : Type 0} → Promise F → (page : ℕ) → SessionACL
     → Type 0
 Headline promise page acl owner =
     EndedWell (λ fs1 messages replies notes. OnePerMessage (OwedByPromise promise fs1 acl owner) IsBroken 0 messages replies notes [] 0) promise page
+
+-- the same in order: each later message has the first reply that is left, or the first note
+abbrev pub OrderedHeadline : {F : Type 0} → Promise F → (page : ℕ) → SessionACL → (owner : ℕ) → (fs : F) → (before after : SourceState)
+    → (sink sink' : SinkState) → Type 0
+OrderedHeadline promise page acl owner =
+    EndedWell (λ fs1 messages replies notes. InOrder (OwedByPromise promise fs1 acl owner) 0 messages replies notes []) promise page
 
 -- the same where replies may come later
 abbrev pub LaterHeadline : {F : Type 0} → Promise F → (page : ℕ) → SessionACL → (owner : ℕ) → (fs : F) → (before after : SourceState)

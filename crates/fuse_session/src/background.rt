@@ -2,9 +2,9 @@
 ghost use Rattle.std.specs.Prelude.{◌≡◌, ◌≢◌, ◌<◌, ◌⊎◌, ◌↔◌, ℕ, Ok, Err, Some, IfErr, IfOk, MatchResult};
 ghost use Rattle.fuse_notify.specs.Queueing.{fresh_door};
 ghost use Rattle.fuse_session.specs.Complete.{AcceptsAll, HandshakeWell, RunWell};
-ghost use Rattle.fuse_session.specs.Accounted.{NeverLater};
+ghost use Rattle.fuse_session.specs.Accounted.{ManyThreads, NeverLater};
 ghost use Rattle.fuse_session.specs.Exchange.{Closed, Mounted, setup};
-ghost use Rattle.fuse_session.specs.Headline.{Headline, LaterHeadline, Lossless};
+ghost use Rattle.fuse_session.specs.Headline.{Headline, LaterHeadline, Lossless, OrderedHeadline};
 ghost use Rattle.fuse_session.specs.Refused.{IsUntouched, OfOptions, OptionsWell, RefusedAs, Untouched};
 ghost use Rattle.fuse_session.specs.Session.{EndsRun, IsOpened, OpensNone, Serves, setup_for};
 ghost use Rattle.fuse_session.specs.Ran.{Ran};
@@ -56,6 +56,14 @@ impl<FS: Filesystem, S: Source, K: Sink + Send> BackgroundSession<FS, S, K> {
             IsOpened FS.promise page fs source sink self →
             result.outcome ≡ Ok tt → Lossless sink (K.told result.sink) result.transcript →
             Headline FS.promise page self.acl self.owner fs source (S.told result.source) sink (K.told result.sink) }
+
+        // These are in the order of the messages, where no more than one thread serves: see `OrderedHeadline`.
+        ensures in_order { ¬ (ManyThreads self.threads) →
+            (page : ℕ) (fs : _) (source : SourceState) (sink : SinkState) →
+            IsOpened FS.promise page fs source sink self →
+            result.outcome ≡ Ok tt → Lossless sink (K.told result.sink) result.transcript →
+            OrderedHeadline FS.promise page self.acl self.owner fs source (S.told result.source) sink
+            (K.told result.sink) }
 
         // One reply for each message, at once or later: see `LaterHeadline`.
         ensures later { (page : ℕ) (fs : _) (source : SourceState) (sink : SinkState) →

@@ -2,10 +2,10 @@
 ghost use Rattle.std.specs.Prelude.{◌≡◌, ◌≢◌, ◌<◌, ◌⊎◌, ◌↔◌, ℕ, Ok, Err, Some, IfErr, IfOk, MatchResult};
 ghost use Rattle.fuse_config.specs.declared.session_acl.SessionACL.{SessionACL as ACL};
 ghost use Rattle.fuse_notify.specs.Queueing.{fresh_door};
-ghost use Rattle.fuse_session.specs.Accounted.{NeverLater};
+ghost use Rattle.fuse_session.specs.Accounted.{ManyThreads, NeverLater};
 ghost use Rattle.fuse_session.specs.Complete.{AcceptsAll, HandshakeWell, RunWell, SessionWell};
 ghost use Rattle.fuse_session.specs.Exchange.{Closed, Mounted, Unopened, setup, setup_of};
-ghost use Rattle.fuse_session.specs.Headline.{Headline, LaterHeadline, Lossless};
+ghost use Rattle.fuse_session.specs.Headline.{Headline, LaterHeadline, Lossless, OrderedHeadline};
 ghost use Rattle.fuse_session.specs.HandshakeStep.{HandshakeRun};
 ghost use Rattle.fuse_session.specs.Refused.{ClonesDevice, IsTaken, IsUntouched, OfOptions, OptionsWell};
 ghost use Rattle.fuse_session.specs.Refused.{RefusedAs, Untouched};
@@ -270,6 +270,14 @@ impl<FS: Filesystem, S: Source, K: Sink + Send> Session<FS, S, K> {
             result.outcome ≡ Ok tt → Lossless sink (K.told result.sink) result.transcript →
             Headline FS.promise page self.acl self.owner fs source (S.told result.source) sink (K.told result.sink) }
 
+        // These are in the order of the messages, where no more than one thread serves: see `OrderedHeadline`.
+        ensures in_order { ¬ (ManyThreads self.threads) →
+            (page : ℕ) (fs : _) (source : SourceState) (sink : SinkState) →
+            IsOpened FS.promise page fs source sink self →
+            result.outcome ≡ Ok tt → Lossless sink (K.told result.sink) result.transcript →
+            OrderedHeadline FS.promise page self.acl self.owner fs source (S.told result.source) sink
+            (K.told result.sink) }
+
         // One reply for each message, at once or later: see `LaterHeadline`.
         ensures later { (page : ℕ) (fs : _) (source : SourceState) (sink : SinkState) →
             IsOpened FS.promise page fs source sink self →
@@ -345,6 +353,12 @@ pub fn mount<R: Threads + Wait + AllocGlobal + Sync, FS: Filesystem, S: Source, 
     ensures headline { NeverLater config.now.n_threads FS.promise.defers →
         result.outcome ≡ Ok tt → Lossless (K.told sink) (K.told result.sink) result.transcript →
         Headline FS.promise page_size config.now.acl owner filesystem (S.told source) (S.told result.source)
+        (K.told sink) (K.told result.sink) }
+
+    // These are in the order of the messages, where no more than one thread serves: see `OrderedHeadline`.
+    ensures in_order { ¬ (ManyThreads config.now.n_threads) →
+        result.outcome ≡ Ok tt → Lossless (K.told sink) (K.told result.sink) result.transcript →
+        OrderedHeadline FS.promise page_size config.now.acl owner filesystem (S.told source) (S.told result.source)
         (K.told sink) (K.told result.sink) }
 
     // One reply for each message, at once or later: see `LaterHeadline`.

@@ -1,4 +1,4 @@
-use Rattle.std.proofs.Common.{◌≡◌, ◌≢◌, ◌⊎◌, ◌∙◌, subst, sym, refl, Some, Bool, false, Ok, Err, inr}
+use Rattle.std.proofs.Common.{◌≡◌, ◌≢◌, ◌⊎◌, ◌∙◌, subst, sym, refl, arith, Some, Bool, false, Ok, Err, inr}
 use Rattle.fuse_wire.specs.Source.{SourceState}
 use Rattle.fuse_wire.specs.Sink.{SinkState}
 use Rattle.fuse_wire.specs.ByteSource.{ByteSourceState}
@@ -7,14 +7,14 @@ use Rattle.fuse_wire.specs.StreamSource.{stream_source_told}
 use Rattle.fuse_wire.specs.StreamSink.{Stands, stream_sink_told}
 use Rattle.fuse_session.specs.Complete.{SessionWell}
 use Rattle.fuse_session.specs.Exchange.{Mounted}
-use Rattle.fuse_session.specs.Headline.{Headline, Lossless}
+use Rattle.fuse_session.specs.Headline.{Headline, Lossless, OrderedHeadline}
 use Rattle.fuse_session.specs.Refused.{Untouched}
 use Rattle.fuse_session.specs.declared.error.SessionError.TheVariants.{Memory}
 use Rattle.fuse_program.specs.Program.{ByteExchange, form_setup}
 use Rattle.fuse_program.specs.Status.{status}
 use Rattle.fuse_hello.specs.Tree.{tree_promise, tree_may_init}
 use Rattle.fuse_session.proofs.Refusing.{OptionsWell-none_listed}
-use Rattle.fuse_program.proofs.Conversing.{AcceptsAll-tree, ByteExchange-mounted, EachAnswered-headline, SessionWell-bytes, complete-status}
+use Rattle.fuse_program.proofs.Conversing.{AcceptsAll-tree, AnsweredBy-ended, ByteExchange-mounted, SessionWell-bytes, complete-status}
 use Rattle.fuse_program.proofs.Statuses.{nine-untouched, zero-status}
 use Rattle.fuse_program.proofs.Streams.{source-same, sink-same, carried}
 use Rattle.fuse_program.proofs.program.serve_tree.Given.{Over}
@@ -84,7 +84,18 @@ returns-clause-answered g c = λ well.
     over_streams g c (λ a b k. Lossless k (sink_at g c) m.transcript
     → Headline tree_promise c.args.form.page c.args.form.acl c.args.form.owner _ a b k (sink_at g c))
     (c.mount-source.ensures.headline (λ many. refl) said.0) (inr said.1) in
-    EachAnswered-headline c.args.form (first_in g c) (last_in g c) (first_out g c) (last_out g c) (sink_at g c) m.sink.broken _ headline
+    AnsweredBy-ended _ c.args.form (first_in g c) (last_in g c) (first_out g c) (last_out g c) (sink_at g c) m.sink.broken _ headline
+    (stands_at g c) said.2
+
+pub returns-clause-in_order : goal.returns-clause-in_order
+returns-clause-in_order g c = λ well one.
+    let m = c.mount-source.result in
+    let said = zero-status m.outcome m.transcript.lost m.sink.broken (sym (exit_is g c) ∙ well) in
+    let headline =
+    over_streams g c (λ a b k. Lossless k (sink_at g c) m.transcript
+    → OrderedHeadline tree_promise c.args.form.page c.args.form.acl c.args.form.owner _ a b k (sink_at g c))
+    (c.mount-source.ensures.in_order (λ many. omega (arith, one, many)) said.0) (inr said.1) in
+    AnsweredBy-ended _ c.args.form (first_in g c) (last_in g c) (first_out g c) (last_out g c) (sink_at g c) m.sink.broken _ headline
     (stands_at g c) said.2
 
 pub returns-clause-session : goal.returns-clause-session

@@ -1,9 +1,9 @@
 -- A session that is opened and run ends well where nothing is amiss.
 use Rattle.std.proofs.Common.{ℕ, Option, inl, inr, sym, subst}
 use Rattle.fuse_config.specs.declared.session_acl.SessionACL.{SessionACL}
-use Rattle.fuse_session.specs.Accounted.{NeverLater}
+use Rattle.fuse_session.specs.Accounted.{ManyThreads, NeverLater}
 use Rattle.fuse_session.specs.Complete.{SessionWell}
-use Rattle.fuse_session.specs.Headline.{Headline, LaterHeadline}
+use Rattle.fuse_session.specs.Headline.{Headline, LaterHeadline, OrderedHeadline}
 use Rattle.fuse_session.specs.Session.{setup_for}
 use Rattle.fuse_session.proofs.Completing.{HandshakeWell-session, Ok-from_exchange}
 use Rattle.fuse_session.proofs.session.mount.Goals as goal
@@ -20,6 +20,19 @@ returns-in-Ok-clause-headline g c never ok lossless =
     (subst (λ (owner : ℕ). Headline promise c.args.page_size c.in-Ok.session.acl owner c.args.filesystem before after sink sink') serves.owner_is
     (c.run.ensures.headline (subst (λ (threads : Option ℕ). NeverLater threads promise.defers)
     (sym serves.threads_is) never) c.args.page_size c.args.filesystem before sink c.in-Ok.ensures.opened.0 ok lossless))
+
+pub returns-in-Ok-clause-in_order : goal.returns-in-Ok-clause-in_order
+returns-in-Ok-clause-in_order g c one ok lossless =
+    let promise = g.FS.Filesystem.promise in
+    let before = g.S.Source.told c.args.source in
+    let after = g.S.Source.told c.run.result.source in
+    let sink = g.K.Sink.told c.args.sink in
+    let sink' = g.K.Sink.told c.run.result.sink in
+    let serves = c.in-Ok.ensures.opened.1 in
+    subst (λ (acl : SessionACL). OrderedHeadline promise c.args.page_size acl c.args.owner c.args.filesystem before after sink sink') serves.acl_is
+    (subst (λ (owner : ℕ). OrderedHeadline promise c.args.page_size c.in-Ok.session.acl owner c.args.filesystem before after sink sink') serves.owner_is
+    (c.run.ensures.in_order (subst (λ (threads : Option ℕ). ¬ (ManyThreads threads)) (sym serves.threads_is) one)
+    c.args.page_size c.args.filesystem before sink c.in-Ok.ensures.opened.0 ok lossless))
 
 pub returns-in-Ok-clause-later : goal.returns-in-Ok-clause-later
 returns-in-Ok-clause-later g c ok lossless =

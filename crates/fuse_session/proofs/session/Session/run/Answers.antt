@@ -1,6 +1,7 @@
 -- A run, and the session that it ends.
 use Rattle.std.proofs.Common.{rules}
-use Rattle.fuse_session.proofs.SessionParts.{EndsRun-ran, Headline-ran, LaterHeadline-ran, Mounted-ran, Ok-from_run, Threads-ran}
+use Rattle.fuse_session.proofs.SessionParts.{EndsRun-ran, Headline-ran, LaterHeadline-ran, Mounted-ran, Ok-from_run}
+use Rattle.fuse_session.proofs.SessionParts.{OrderedHeadline-ran, Threads-ran}
 use Rattle.fuse_session.proofs.session.Session.run.Goals as goal
 
 pub returns-clause-ran : goal.returns-clause-ran
@@ -13,6 +14,10 @@ returns-clause-session g c page fs source sink opened =
 pub returns-clause-headline : goal.returns-clause-headline
 returns-clause-headline g c never page fs source sink opened ok lossless =
     Headline-ran g.FS.Filesystem.promise page fs _ source _ sink _ c.args.self _ _ never opened (returns-clause-ran g c) ok lossless
+
+pub returns-clause-in_order : goal.returns-clause-in_order
+returns-clause-in_order g c one page fs source sink opened ok lossless =
+    OrderedHeadline-ran g.FS.Filesystem.promise page fs _ source _ sink _ c.args.self _ _ one opened (returns-clause-ran g c) ok lossless
 
 pub returns-clause-later : goal.returns-clause-later
 returns-clause-later g c page fs source sink opened ok lossless =
