@@ -262,7 +262,9 @@ const TIMES: [u8; 88] = [
 /// SETATTR, with these bits of `valid`.
 fn setattr(valid: u16) -> Option<SetAttr> {
     let mut message = message(4, 0, &TIMES, 88);
-    message[40..42].copy_from_slice(&valid.to_le_bytes());
+    let bits = valid.to_le_bytes();
+    message[40] = bits[0];
+    message[41] = bits[1];
     match operation_of(&message) {
         Some(Operation::SetAttr(setattr)) => Some(setattr),
         _ => None,
