@@ -246,7 +246,8 @@ const LOST: &[(u64, usize, u64)] = &[
     (1000, 1, 0b1),
 ];
 
-/// On so many workers these replies are lost. Four answer in any order, so that of all but DESTROY it is not known which are.
+/// On so many workers these replies are lost. Four answer in any order, so that of all but DESTROY it is not known which are;
+/// nor is it where the line of jobs may be full, so that the caller answers too.
 fn expect_lost<R: Threads + Wait + AllocGlobal + Abort + Sync>(
     rt: &R,
     workers: Option<usize>,
@@ -256,6 +257,7 @@ fn expect_lost<R: Threads + Wait + AllocGlobal + Abort + Sync>(
 ) {
     let all = count.saturating_add(1);
     let known = match workers {
+        _ if count > 64 => 0,
         Some(4) => bits_below(all) & !bits_below(count),
         _ => u64::MAX,
     };
