@@ -117,9 +117,12 @@ const LOADED: &[Row] = &[
     (&[b"input"], 1, 0, 0, LINE, b"input"),
 ];
 
+/// The words of that.
+const LOAD: Words = &[b"load", b"1", b"5", b"1"];
+
 #[test]
 fn a_write_of_the_line_may_fail(rt: HostRuntime) {
     for (place, row) in LOADED.iter().enumerate() {
-        goes(&rt, ("load", place), &[b"load", b"1", b"5", b"1"], row);
+        goes(&rt, ("load", place), LOAD, row);
     }
 }

@@ -212,14 +212,25 @@ const OF_THE_STREAM: &[(usize, u64, u8, usize)] = &[
     (7, 0, 0, 519),
 ];
 
+/// The write of this number fails, or none for 0, where so many bytes of the stream are written at a time: this status, and
+/// so many bytes. Nothing is read.
+fn write_of_the_stream_fails<R: Threads + Wait + AllocGlobal + Abort + Sync>(
+    rt: &R,
+    step: usize,
+    write: u64,
+    status: u8,
+    count: usize,
+) {
+    let input = b"input".to_vec(rt.alloc()).expect(rt, "there is memory");
+    let run = run_over(rt, &[b"gen", b"1", b"5"], input, step, &[], &[write]);
+    let stream = five_requests(rt);
+    let front = stream.get(..count).unwrap_or(b"too few");
+    ends_so(rt, ("gen", count), &run, status, front, b"input");
+}
+
 #[test]
 fn each_write_of_the_stream_may_fail(rt: HostRuntime) {
-    let stream = five_requests(&rt);
-    for &(step, write, status, count) in OF_THE_STREAM {
-        let input = b"input".to_vec(rt.alloc());
-        let input = input.expect(&rt, "there is memory");
-        let run = run_over(&rt, &[b"gen", b"1", b"5"], input, step, &[], &[write]);
-        let front = stream.get(..count).unwrap_or(b"too few");
-        ends_so(&rt, ("gen", step), &run, status, front, b"input");
+    for (step, write, status, count) in OF_THE_STREAM {
+        write_of_the_stream_fails(&rt, *step, *write, *status, *count);
     }
 }

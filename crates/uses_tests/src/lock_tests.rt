@@ -136,17 +136,22 @@ fn its_holder_alone_gives_the_one_lock_up(rt: HostRuntime) {
     }
 }
 
-/// The one has the lock, and an owner that differs from it in one byte does not get it.
+/// The one has the lock, and this owner does not get it.
+fn is_another<R: Threads + Wait + AllocGlobal + Abort + Copy + Sync + Send>(rt: R, owner: u64) {
+    let body = [0, owner, 0, 0, WRITES, 0];
+    let rows = [
+        OPENING,
+        (SETLK, 1, ONE_WRITES, 0, NOTHING),
+        (SETLK, 1, (body.as_slice(), b"".as_slice()), EAGAIN, NOTHING),
+    ];
+    serves_from_free(rt, &rows).close();
+}
+
+/// Owners that differ from the one in one byte are others.
 #[test]
 fn an_owner_is_all_eight_bytes(rt: HostRuntime) {
     for byte in 0..8 {
-        let body = [0, ONE ^ (1 << (8 * byte)), 0, 0, WRITES, 0];
-        let rows = [
-            OPENING,
-            (SETLK, 1, ONE_WRITES, 0, NOTHING),
-            (SETLK, 1, (body.as_slice(), b"".as_slice()), EAGAIN, NOTHING),
-        ];
-        serves_from_free(rt, &rows).close();
+        is_another(rt, ONE ^ (1 << (8 * byte)));
     }
 }
 
@@ -206,17 +211,23 @@ fn other_was_told<R: AllocGlobal + Abort>(rt: &R, rest: &Rest, given_up: &Row) -
 
 /// Before one of the two workers comes to the third message it has served one of the two calls that wait, so at least one
 /// waits when that message gives the lock up. One of the two has it then, and is told so; the other gets no reply.
+fn one_of_two_gets_it<R: Threads + Wait + AllocGlobal + Abort + Copy + Sync + Send>(
+    rt: R,
+    given_up: Row,
+) {
+    let lock = serves_from_free(rt, TAKEN);
+    let calls = [OPENING, OTHER_WAITS, THIRD_WAITS, given_up];
+    let (lock, rest) = serve(&rt, lock, Some(2), &calls);
+    let rows = if other_was_told(&rt, &rest, &given_up) {
+        OTHER_HAS_IT
+    } else {
+        THIRD_HAS_IT
+    };
+    serves_alone(&rt, lock, rows).close();
+}
+
 #[test]
 fn one_of_two_that_wait_gets_it(rt: HostRuntime) {
-    for given_up in [GIVEN_UP, CLOSED] {
-        let lock = serves_from_free(rt, TAKEN);
-        let calls = [OPENING, OTHER_WAITS, THIRD_WAITS, given_up];
-        let (lock, rest) = serve(&rt, lock, Some(2), &calls);
-        let rows = if other_was_told(&rt, &rest, &given_up) {
-            OTHER_HAS_IT
-        } else {
-            THIRD_HAS_IT
-        };
-        serves_alone(&rt, lock, rows).close();
-    }
+    one_of_two_gets_it(rt, GIVEN_UP);
+    one_of_two_gets_it(rt, CLOSED);
 }
