@@ -85,10 +85,18 @@ fn forgets_leave_their_marks(rt: HostRuntime) {
 
 const SHORTER: &[Given] = &[Given::Opening, Given::Bytes(SHORT)];
 
+const ACCEPTED: &[Frame] = &[Frame::Accepted];
+
+const NO_NOTES: &[(RequestId, u64)] = &[];
+
+/// That SHORT ends a session.
+fn is_short() -> Result<(), SessionError> {
+    let error = RequestError::ShortRead(48, 4294967295);
+    Err(SessionError::InvalidData(InvalidData::Header(error)))
+}
+
 #[test]
 fn a_message_shorter_than_its_header_counts_ends_the_session(rt: HostRuntime) {
-    let error = RequestError::ShortRead(48, 4294967295);
-    let outcome = Err(SessionError::InvalidData(InvalidData::Header(error)));
-    serves(&rt, 1, SHORTER, &[Frame::Accepted], &[], outcome);
-    serves(&rt, 2, SHORTER, &[Frame::Accepted], &[], outcome);
+    serves(&rt, 1, SHORTER, ACCEPTED, NO_NOTES, is_short());
+    serves(&rt, 2, SHORTER, ACCEPTED, NO_NOTES, is_short());
 }

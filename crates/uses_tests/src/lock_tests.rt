@@ -147,11 +147,23 @@ fn is_another<R: Threads + Wait + AllocGlobal + Abort + Copy + Sync + Send>(rt: 
     serves_from_free(rt, &rows).close();
 }
 
+/// The lowest bit of each of the eight bytes.
+const BITS_OF_EACH_BYTE: &[u64] = &[
+    0x1,
+    0x100,
+    0x1_0000,
+    0x100_0000,
+    0x1_0000_0000,
+    0x100_0000_0000,
+    0x1_0000_0000_0000,
+    0x100_0000_0000_0000,
+];
+
 /// Owners that differ from the one in one byte are others.
 #[test]
 fn an_owner_is_all_eight_bytes(rt: HostRuntime) {
-    for byte in 0..8 {
-        is_another(rt, ONE ^ (1 << (8 * byte)));
+    for bit in BITS_OF_EACH_BYTE {
+        is_another(rt, ONE ^ *bit);
     }
 }
 

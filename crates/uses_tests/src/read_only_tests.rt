@@ -190,8 +190,9 @@ fn expect_ends<R: AllocGlobal + Abort>(rt: &R, id: u64, found: &[u8], long: &Lon
     let front = found.get(..48).unwrap_or(b"too few");
     let back = found.get(end..).unwrap_or(b"too few");
     let found = (id, found.len(), front, back);
-    let expected = ends.split_at(48);
-    expect_same(rt, &found, &(id, size, expected.0, expected.1));
+    let front = ends.get(..48).unwrap_or(b"too few");
+    let back = ends.get(48..).unwrap_or(b"too few");
+    expect_same(rt, &found, &(id, size, front, back));
 }
 
 /// While there is memory what takes much of it is given too.
