@@ -29,14 +29,15 @@ NumbersDiffer (fault ∷ faults) = AllByRecursion (λ other. other.0 ≢ fault.0
 abbrev pub EachFails : List (ℕ × Sending) → Type 0
 EachFails faults = AllByRecursion (λ fault. fault.1 ≢ Sent) faults
 
--- its frames and notes, how many sends there were, the numbers of those that fail with their answers, how many of these came,
--- and how many frames and notes found no memory
+-- its frames and notes, how many sends there were, the numbers of those that fail with their answers, how many of these came, how
+-- many of them were answered Absent, and how many frames and notes found no memory
 pub record FramesHeld : Type 0 where
   pub frames : List (List ℕ)
   pub notes : List Note
   pub calls : ℕ
   pub listed : List (ℕ × Sending)
   pub reached : ℕ
+  pub absent : ℕ
   pub starved : ℕ
 
 -- how the next send is answered, where it is listed
@@ -50,30 +51,50 @@ frames_held_told sink = record {
   notes = Some sink.notes;
   tail = None;
   faults = counted sink.reached sink.starved;
+  absences = sink.absent;
   origin = record { bytes = None; faults = 0 };
 }
 
--- after one more send, with these frames held, and so many listed sends reached and frames and notes starved
-abbrev pub sent_once : FramesHeld → List (List ℕ) → ℕ → ℕ → FramesHeld
-sent_once sink frames reached starved = record {
+-- after one more send, with these frames held, and so many frames and notes starved
+abbrev pub sent_once : FramesHeld → List (List ℕ) → ℕ → FramesHeld
+sent_once sink frames starved = record {
   frames = frames;
   notes = sink.notes;
   calls = next_call sink.calls;
   listed = sink.listed;
-  reached = reached;
+  reached = sink.reached;
+  absent = sink.absent;
   starved = starved;
+}
+
+-- how many sends were answered Absent, after this answer
+abbrev pub absent_after : Sending → ℕ → ℕ
+absent_after Sent absent = absent
+absent_after Absent absent = counted absent 1
+absent_after Failed absent = absent
+
+-- after one more send that is listed with this answer
+abbrev pub reached_once : FramesHeld → Sending → FramesHeld
+reached_once sink answer = record {
+  frames = sink.frames;
+  notes = sink.notes;
+  calls = next_call sink.calls;
+  listed = sink.listed;
+  reached = counted sink.reached 1;
+  absent = absent_after answer sink.absent;
+  starved = sink.starved;
 }
 
 -- What one send does: where it is listed it is answered so, and else it takes the frame, or fails where it finds no memory.
 abbrev pub SendsMemory : Sending → List ℕ → FramesHeld → FramesHeld → Type 0
 SendsMemory Sent frame before after =
-    (next_answer before ≡ None) × (after ≡ sent_once before (before.frames ++ frame ∷ []) before.reached before.starved)
+    (next_answer before ≡ None) × (after ≡ sent_once before (before.frames ++ frame ∷ []) before.starved)
 SendsMemory Absent frame before after =
-    (next_answer before ≡ Some Absent) × (after ≡ sent_once before before.frames (counted before.reached 1) before.starved)
+    (next_answer before ≡ Some Absent) × (after ≡ reached_once before Absent)
 SendsMemory Failed frame before after =
     MatchOption (next_answer before)
-    (after ≡ sent_once before before.frames before.reached (counted before.starved 1))
-    (λ answer. (answer ≡ Failed) × (after ≡ sent_once before before.frames (counted before.reached 1) before.starved))
+    (after ≡ sent_once before before.frames (counted before.starved 1))
+    (λ answer. (answer ≡ Failed) × (after ≡ reached_once before Failed))
 
 -- after one more note, with these notes held, and so many frames and notes starved: a note is no send
 abbrev pub noted_once : FramesHeld → List Note → ℕ → FramesHeld
@@ -83,6 +104,7 @@ noted_once sink notes starved = record {
   calls = sink.calls;
   listed = sink.listed;
   reached = sink.reached;
+  absent = sink.absent;
   starved = starved;
 }
 

@@ -1,6 +1,6 @@
 -- Sinks of frames and notes: what one call of `send` or `note` does.
 use Rattle.std.specs.Prelude.{◌≡◌, ◌≤◌, ◌<◌, ◌++◌, ℕ, [], ◌∷◌, List, Option, None, Some, option_map, length, take}
-use Rattle.fuse_wire.specs.Faults.{Rose}
+use Rattle.fuse_wire.specs.Faults.{Rose, counted}
 use Rattle.fuse_wire.specs.ByteSink.{ByteSinkState}
 use Rattle.fuse_wire.specs.declared.sink.Sending.{Sending}
 use Rattle.fuse_wire.specs.declared.sink.Sending.TheVariants.{Sent, Absent, Failed}
@@ -16,13 +16,14 @@ pub data Tail : Type 0 where
   Whole : Tail
   Torn : (bytes : List ℕ) → Tail
 
--- its frames and notes, and how the stream that it writes them to ends, each where it tells it; how often it has failed; and how
--- what it was made over stood then
+-- its frames and notes, and how the stream that it writes them to ends, each where it tells it; how often it has failed, and how
+-- often of these because what a frame spoke of was not there; and how what it was made over stood then
 pub record SinkState : Type 0 where
   pub frames : Option (List (List ℕ))
   pub notes : Option (List Note)
   pub tail : Option Tail
   pub faults : ℕ
+  pub absences : ℕ
   pub origin : ByteSinkState
 
 -- these frames and notes were put at the end
@@ -53,13 +54,17 @@ Tears frame (Some Whole) (Some Whole) = ⊥
 Tears frame (Some Whole) (Some (Torn torn)) = IsTornFrom frame torn
 Tears frame (Some (Torn torn)) after = after ≡ Some (Torn torn)
 
--- what one send does, by its answer
+-- this frame was refused
+abbrev pub RefusesFrame : (frame : List ℕ) → SinkState → SinkState → Type 0
+RefusesFrame frame before after = Refuses before after × Tears frame before.tail after.tail
+
+-- what one send does, by its answer: just an Absent is counted as one
 abbrev pub Sends : Sending → List ℕ → SinkState → SinkState → Type 0
-Sends Sent frame before after = Puts (frame ∷ []) [] before after
-Sends Absent frame before after = Refuses before after × Tears frame before.tail after.tail
-Sends Failed frame before after = Refuses before after × Tears frame before.tail after.tail
+Sends Sent frame before after = Puts (frame ∷ []) [] before after × (after.absences ≡ before.absences)
+Sends Absent frame before after = RefusesFrame frame before after × (after.absences ≡ counted before.absences 1)
+Sends Failed frame before after = RefusesFrame frame before after × (after.absences ≡ before.absences)
 
 -- what one note does, by its answer
 abbrev pub Notes : Noting → Note → SinkState → SinkState → Type 0
-Notes Noted note before after = Puts [] (note ∷ []) before after
-Notes Unnoted note before after = Refuses before after × (after.tail ≡ before.tail)
+Notes Noted note before after = Puts [] (note ∷ []) before after × (after.absences ≡ before.absences)
+Notes Unnoted note before after = (Refuses before after × (after.tail ≡ before.tail)) × (after.absences ≡ before.absences)

@@ -37,6 +37,7 @@ stream_sink_told origin now broken refused = record {
   notes = None;
   tail = tail_since broken origin.bytes now.bytes;
   faults = counted now.faults refused;
+  absences = 0;
   origin = origin;
 }
 

@@ -3,13 +3,13 @@ ghost use Rattle.std.specs.Prelude.{◌≡◌, ◌+◌, ◌∷◌, ◌++◌, [],
 ghost use Rattle.fuse_wire.specs.Numbers.{number};
 ghost use Rattle.fuse_wire.specs.Sink.{Sends, Notes};
 ghost use Rattle.fuse_wire.specs.MemorySink.{EachFails, NotesMemory, NumbersDiffer, SendsMemory};
-ghost use Rattle.fuse_wire.specs.MemorySink.{answer_at, frames_held_told, notes_of};
+ghost use Rattle.fuse_wire.specs.MemorySink.{absent_after, answer_at, frames_held_told, notes_of};
 
 use crate::{Items, Noting, RequestId, Sending, Sink};
 use std::alloc::{AllocError, Global};
 
 /// A sink that keeps its frames and notes, fails at some sends, and tells what it holds. It counts the sends that
-/// failed so, and the frames and notes that found no memory.
+/// failed so, those of them that were answered `Absent`, and the frames and notes that found no memory.
 #[derive(Debug, Drop)]
 pub struct MemorySink {
     alloc: Global,
@@ -18,6 +18,7 @@ pub struct MemorySink {
     calls: u64,
     faults: Vec<(u64, Sending)>,
     reached: u64,
+    absent: u64,
     starved: u64,
 }
 
@@ -32,6 +33,7 @@ impl std::marker::Model for MemorySink {
       calls = s.calls;
       listed = s.faults.items;
       reached = s.reached;
+      absent = s.absent;
       starved = s.starved;
     } };
 
@@ -51,6 +53,7 @@ impl MemorySink {
           calls = 0;
           listed = faults.items;
           reached = 0;
+          absent = 0;
           starved = 0;
         } }
     {
@@ -61,6 +64,7 @@ impl MemorySink {
             calls: 0,
             faults,
             reached: 0,
+            absent: 0,
             starved: 0,
         }
     }
@@ -124,6 +128,16 @@ fn listed_answer(faults: &[(u64, Sending)], number: u64) -> Option<Sending>
     None
 }
 
+/// How many sends were answered `Absent`, after this answer.
+fn absent_after(answer: Sending, absent: u64) -> u64
+    ensures { result ≡ absent_after answer absent }
+{
+    match answer {
+        Sending::Absent => absent.saturating_add(1),
+        Sending::Sent | Sending::Failed => absent,
+    }
+}
+
 impl Sink for MemorySink {
     ghost told = { frames_held_told };
 
@@ -137,6 +151,7 @@ impl Sink for MemorySink {
         self.calls = self.calls.saturating_add(1);
         if let Some(answer) = listed_answer(&self.faults, self.calls) {
             self.reached = self.reached.saturating_add(1);
+            self.absent = absent_after(answer, self.absent);
             return answer;
         }
         match keep(self.alloc, &mut self.frames, header, payload) {

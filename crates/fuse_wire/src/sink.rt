@@ -10,7 +10,8 @@ use crate::RequestId;
 pub enum Sending {
     /// It was taken.
     Sent,
-    /// It was not taken, since what it speaks of is not there (the kernel's ENOENT). The device counted it.
+    /// It was not taken, since what it speaks of is not there (the kernel's ENOENT). The device counted it, and as
+    /// such.
     Absent,
     /// It was not taken. The device failed, and counted it.
     Failed,
@@ -27,7 +28,8 @@ pub enum Noting {
 
 /// Where reply frames and notes go: what /dev/fuse is to a write.
 pub trait Sink {
-    /// Its frames and notes, where it tells them, how often it has failed, and what it was made over.
+    /// Its frames and notes, where it tells them, how often it has failed, how often of these since what a frame spoke
+    /// of was not there, and what it was made over.
     ghost told: { Self → SinkState };
 
     /// Sends one frame, whose length field counts the header and the payload. A frame whose status is above 0 is a
