@@ -2,3 +2,4 @@ pub mod FilteredOrder
 mod Views
 mod Alone
 mod Keeps
+mod Origins

@@ -1,5 +1,6 @@
 -- What follows from the rule for whoever reads it.
 use Rattle.std.specs.Prelude.{◌≡◌, ◌≢◌, ℕ, Bool, List, [], filter, count_by}
+use Rattle.std.specs.List.{Contains}
 use mathlib.Core.Option.{some}
 use lib.ListN.{get_elem?}
 use Rattle.fuse_line.specs.declared.hand.Hand.{Hand}
@@ -17,3 +18,9 @@ OthersAreIdle {T} inner = (items : List T) (views : List (Hand T)) (place other 
 abbrev pub TookAsOftenAsPushed : {T : Type 0} → (T → Bool) → Type 0
 TookAsOftenAsPushed {T} inner = (first : Hand T) → IsSettled inner first → first.kind ≡ First → first.others ≡ 0
     → (test : T → Bool) → count_by test (filter inner first.taken) ≡ count_by test (filter inner first.put)
+
+-- each item that some pass took was pushed by some pass
+abbrev pub EachTakenWasPushed : {T : Type 0} → (T → Bool) → Type 0
+EachTakenWasPushed {T} inner = (items : List T) (views : List (Hand T)) (taker : ℕ) (hand : Hand T) (item : T) → LineRule inner items views
+    → get_elem? views taker ≡ some hand → Contains hand.taken item
+    → (pusher : ℕ) × (other : Hand T) × (get_elem? views pusher ≡ some other) × Contains other.put item

@@ -1,10 +1,11 @@
 //! Where a thread sleeps until a line has moved. No clause speaks of it.
+use std::hint;
 use std::sync::Wait;
 use std::sync::atomic::{AtomicU64, Ordering};
-use std::thread;
 
-// How often a thread gives its processor away before it sleeps: under load the other thread is done by then.
-const TRIES: u32 = 32;
+// How often a thread tries again before it sleeps. It never yields between: on a busy machine it would be away for whole
+// slices of others, and count as awake, so that nobody is woken for what comes.
+const TRIES: u32 = 8;
 
 /// How many threads are about to sleep, and how often those were woken.
 #[derive(Drop)]
@@ -66,10 +67,10 @@ impl Gate {
 
 /// A thread that waits for a line. After each try that came to nothing it rests.
 ///
-/// The rests are short at first. Then one only makes sure that this thread does not sleep after a later move, and
-/// returns; the one after it sleeps. So whoever looks between two rests at all that it waits for, at the line and at a
-/// flag of its own, misses nothing. Whoever is woken tries to take what there is before it lets this go: nobody else was
-/// woken for it.
+/// A rest is a pause of the processor at first. Then one only makes sure that this thread does not sleep after a later
+/// move, and returns; the one after it sleeps. So whoever looks between two rests at all that it waits for, at the line
+/// and at a flag of its own, misses nothing. Whoever is woken tries to take what there is before it lets this go: nobody
+/// else was woken for it.
 pub(crate) struct Waiting<'a> {
     gate: &'a Gate,
     tries: u32,
@@ -81,7 +82,7 @@ impl Waiting<'_> {
     pub(crate) fn rest<R: Wait>(&mut self, rt: &R) {
         if self.tries < TRIES {
             self.tries += 1;
-            thread::yield_now();
+            hint::spin_loop();
             return;
         }
         match self.seen {

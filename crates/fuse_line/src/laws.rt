@@ -1,5 +1,5 @@
 //! Laws of the rule. Each function here does nothing: its contract is the law.
-ghost use Rattle.fuse_line.specs.Laws.{OthersAreIdle, TookAsOftenAsPushed};
+ghost use Rattle.fuse_line.specs.Laws.{EachTakenWasPushed, OthersAreIdle, TookAsOftenAsPushed};
 
 use crate::Class;
 
@@ -11,4 +11,9 @@ pub fn others_are_idle_while_none_is_counted<T: Class>()
 /// A first pass that is settled took each inner item as often as it pushed it.
 pub fn settled_took_as_often_as_it_pushed<T: Class>()
     ensures { TookAsOftenAsPushed T.is_inner }
+{}
+
+/// At any moment each item that some pass took was pushed by some pass.
+pub fn what_was_taken_was_pushed<T: Class>()
+    ensures { EachTakenWasPushed T.is_inner }
 {}

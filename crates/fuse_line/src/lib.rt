@@ -15,5 +15,5 @@ mod tests;
 
 pub use class::Class;
 pub use hand::{Hand, Kind};
-pub use line::{Full, Line, LineFull};
+pub use line::{Full, Line, LineEmpty, LineFull};
 pub use pass::Pass;

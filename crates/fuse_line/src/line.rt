@@ -17,6 +17,7 @@ use std::alloc::Global;
 use std::marker::Model;
 use std::sync::Wait;
 use std::sync::atomic::{AtomicBool, Ordering};
+use std::thread;
 
 /// That a push found its line full. Only a push makes one, so whoever has one has made such a push.
 #[derive(Debug, Drop, PartialEq, Eq)]
@@ -31,6 +32,21 @@ pub struct Full<T> {
     pub item: T,
     /// What the push has seen.
     pub line: LineFull,
+}
+
+/// That a pass found its line empty. Only a pop that took nothing makes one, or a look that saw nothing, so whoever has
+/// one has made such a pop or look. A contract sees that line's name.
+#[derive(Drop)]
+pub struct LineEmpty<T: Class> {
+    door: Pass<T>,
+}
+
+impl<T: Class> Model for LineEmpty<T> {
+    ghost use Rattle.atomic_table.specs.Seated.{TableId};
+
+    ghost Value = { TableId };
+
+    ghost view = { λ e. e.door.line };
 }
 
 /// A line of items, oldest first, that threads share by reference. Contracts see it as its name, which knows how many
@@ -136,14 +152,41 @@ impl<T: Class> Line<T> {
         popped
     }
 
-    /// Whether the line was empty at a moment of this call. It costs less than a pop that takes nothing.
+    /// Takes the item at the front, or gives what shows that the line was empty at a moment of this call.
+    pub fn pop_or_empty<R: Wait>(&self, rt: &R, pass: &mut Pass<T>) -> Result<T, LineEmpty<T>>
+        requires line { pass.old.line ≡ self.now }
+        requires kind { MayPop pass.old.hand.kind }
+        ensures line { pass.new.line ≡ self.now }
+        ensures hand { MatchResult result
+            (λ item. pass.new.hand ≡ with_taken pass.old.hand item)
+            (λ _. pass.new.hand ≡ pass.old.hand) }
+        ensures front { IfOk result (λ item. (rest : List T) × Tells T.is_inner pass.old.hand (item ∷ rest)) }
+        ensures found_empty { IfErr result (λ found. (found ≡ self.now) × Held 0 (Tells T.is_inner pass.old.hand)) }
+        ensures settled { IfErr result (λ _. IsSettled T.is_inner pass.new.hand) }
+    {
+        match self.pop(rt, pass) {
+            Some(item) => Ok(item),
+            None => Err(LineEmpty {
+                door: self.split(pass, true),
+            }),
+        }
+    }
+
+    /// What shows that the line was empty at a moment of this call, where it was seen so. It costs less than a pop that
+    /// takes nothing.
     #[inline(always)]
-    pub fn is_empty(&self, pass: &mut Pass<T>) -> bool
+    pub fn see_empty(&self, pass: &mut Pass<T>) -> Option<LineEmpty<T>>
         requires { pass.old.line ≡ self.now }
         ensures same { pass.new ≡ pass.old }
-        ensures empty { result ≡ true → Held 0 (Tells T.is_inner pass.old.hand) }
+        ensures found_empty { IfSome result (λ found. (found ≡ self.now) × Held 0 (Tells T.is_inner pass.old.hand)) }
     {
-        self.queue.is_empty_as::<PopStep>(&mut pass.seat)
+        if self.queue.is_empty_as::<PopStep>(&mut pass.seat) {
+            Some(LineEmpty {
+                door: self.split(pass, true),
+            })
+        } else {
+            None
+        }
     }
 
     /// Pushes the item at the back, and waits for a place while the line is full.
@@ -158,7 +201,8 @@ impl<T: Class> Line<T> {
         }
     }
 
-    // The same for an item that has found the line full: it is copied once more for each try.
+    // The same for an item that has found the line full: it is copied once more for each try. Before each it yields, since
+    // a place comes only where another thread runs.
     fn push_when_free<R: Wait>(&self, rt: &R, pass: &mut Pass<T>, item: T)
         requires line { pass.old.line ≡ self.now }
         requires kind { MayPush T.is_inner pass.old.hand.kind item }
@@ -168,6 +212,7 @@ impl<T: Class> Line<T> {
         let mut left = item;
         let mut waiting = self.wait_for_place();
         for _ in rt.forever() {
+            thread::yield_now();
             waiting.rest(rt);
             match self.push(rt, pass, left) {
                 Ok(()) => return,

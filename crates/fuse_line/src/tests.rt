@@ -6,7 +6,7 @@ use crate::*;
 use std::fmt::Debug;
 use std::process::Abort;
 use std::sync::Wait;
-use std::sync::atomic::{AtomicBool, Ordering};
+use std::sync::atomic::{AtomicBool, AtomicU64, Ordering};
 use std::thread;
 use std::time::{Clock, Duration};
 
@@ -82,12 +82,13 @@ fn keeps_two_in_order_and_gives_back_the_third(rt: HostRuntime) {
 #[test]
 fn is_empty_but_between_a_push_and_its_pop(rt: HostRuntime) {
     let (line, mut pass) = line_of(&rt, 1);
-    let before = line.is_empty(&mut pass);
+    let before = line.see_empty(&mut pass).is_some();
     let pushed = line.push(&rt, &mut pass, job(1)).is_ok();
-    let between = line.is_empty(&mut pass);
-    let popped = line.pop(&rt, &mut pass).is_some();
-    let after = line.is_empty(&mut pass);
-    expect_same(&rt, &[pushed, popped], &[true, true]);
+    let between = line.see_empty(&mut pass).is_some();
+    let popped = line.pop_or_empty(&rt, &mut pass).ok();
+    let after = line.see_empty(&mut pass).is_some();
+    let none = line.pop_or_empty(&rt, &mut pass).is_err();
+    expect_same(&rt, &(pushed, popped, none), &(true, Some(job(1)), true));
     expect_same(&rt, &[before, between, after], &[true, false, true]);
 }
 
@@ -271,6 +272,86 @@ fn a_pop_sleeps_until_its_flag_is_up(rt: HostRuntime) {
         { line.pop_waiting(&rt, &mut taker, &stop) },
     );
     expect_same(&rt, &(slept, found), &(true, None));
+}
+
+// Takes an item, and counts this thread as back.
+fn take_one<R: Wait>(
+    rt: &R,
+    line: &Line<Item>,
+    mut pass: Pass<Item>,
+    stop: &AtomicBool,
+    back: &AtomicU64,
+) -> Option<Item>
+    requires { (pass.line ≡ line.now) × (pass.hand.kind ≡ Inner) }
+{
+    let taken = line.pop_waiting(rt, &mut pass, stop);
+    back.fetch_add(1, Ordering::SeqCst);
+    taken
+}
+
+// Whether so many threads are back within three seconds.
+fn come_back<R: Clock>(rt: &R, back: &AtomicU64, threads: u64) -> bool {
+    for _ in 0..3_000 {
+        if back.load(Ordering::SeqCst) == threads {
+            return true;
+        }
+        thread::sleep(rt, Duration::from_millis(1));
+    }
+    false
+}
+
+// Of two that sleep a push brings one back, with its item, and the next push the other. The flag lets both go where a
+// wake-up was lost.
+#[test]
+fn a_push_brings_back_one_of_two_that_sleep(rt: HostRuntime) {
+    let (line, mut pass) = line_of(&rt, 1);
+    let first = line.split(&mut pass, false);
+    let second = line.split(&mut pass, false);
+    let stop = AtomicBool::new(false);
+    let back = AtomicU64::new(0);
+    let (found, taken): ([bool; 6], (Option<Item>, Option<Item>)) = thread::join(
+        &rt,
+        ||
+            requires { (pass.line ≡ line) × (pass.hand.kind ≡ First) }
+        {
+            let both_sleep = sleep_at(&rt, &line.items, 2);
+            let pushed = line.push(&rt, &mut pass, job(1)).is_ok();
+            let one_back = come_back(&rt, &back, 1);
+            let one_sleeps = sleeps_at(&rt, &line.items);
+            let pushed_again = line.push(&rt, &mut pass, job(2)).is_ok();
+            let both_back = come_back(&rt, &back, 2);
+            stop.store(true, Ordering::SeqCst);
+            line.wake();
+            [
+                both_sleep,
+                pushed,
+                one_back,
+                one_sleeps,
+                pushed_again,
+                both_back,
+            ]
+        },
+        ||
+            requires first { (first.line ≡ line) × (first.hand.kind ≡ Inner) }
+            requires second { (second.line ≡ line) × (second.hand.kind ≡ Inner) }
+        {
+            thread::join(
+                &rt,
+                ||
+                    requires { (first.line ≡ line) × (first.hand.kind ≡ Inner) }
+                { take_one(&rt, &line, first, &stop, &back) },
+                ||
+                    requires { (second.line ≡ line) × (second.hand.kind ≡ Inner) }
+                { take_one(&rt, &line, second, &stop, &back) },
+            )
+        },
+    );
+    expect_same(&rt, &found, &[true; 6]);
+    let in_order = match taken.0 {
+        Some(item) if item.number == 2 => (taken.1, taken.0),
+        _ => taken,
+    };
+    expect_same(&rt, &in_order, &(Some(job(1)), Some(job(2))));
 }
 
 // Rests until the flag is up, and tells how often.
