@@ -146,9 +146,9 @@ impl Notice {
         })
     }
 
-    /// The frame of the notice.
+    /// The frame of the notice, as a line of frames takes it.
     #[inline(always)]
-    pub(crate) fn into_frame(self) -> NoticeFrame
+    pub fn into_frame(self) -> NoticeFrame
         ensures { result ≡ self }
     {
         self.frame

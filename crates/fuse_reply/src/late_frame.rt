@@ -1,9 +1,9 @@
 // The frame of a reply that comes later.
 ghost use Rattle.std.specs.Prelude.{◌≡◌};
-ghost use Rattle.fuse_reply.specs.Late.{IsReplyTo, late};
+ghost use Rattle.fuse_reply.specs.Late.{IsFrameFor, IsReplyTo, late};
 ghost use Rattle.fuse_reply.specs.declared.out.Out.{Out};
 
-use crate::{Out, Packed, ReplyFrame};
+use crate::{Out, Packed, Replied, ReplyFrame};
 use fuse_wire::RequestId;
 use std::alloc::AllocError;
 use std::marker::Model;
@@ -41,6 +41,20 @@ impl Clone for LateFrame {
 }
 
 impl LateFrame {
+    /// What this reply to the request of this id is for the message of this number: what a token would send, for whoever
+    /// has no line to send it through.
+    pub fn of_replied(seq: u64, id: RequestId, replied: Replied) -> LateFrame
+        requires { IsFrameFor id.0 replied }
+        ensures message { result.seq ≡ seq }
+        ensures request { result.id ≡ id.0 }
+        ensures frame { replied ≡ Out.Frame result.frame }
+    {
+        let Out::Frame(frame) = replied.into_out() else {
+            unreachable!()
+        };
+        LateFrame::new(seq, id, frame.into_packed())
+    }
+
     /// This frame, which is the reply to the request of this id, for the message of this number.
     #[inline(always)]
     pub(crate) fn new(seq: u64, id: RequestId, packed: Packed) -> LateFrame
