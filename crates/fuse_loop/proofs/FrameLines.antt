@@ -1,6 +1,6 @@
 -- What comes off a line of frames whose first pass is alone.
 use Rattle.std.proofs.Common.{◌≡◌, ◌∙◌, ◌++◌, ℕ, List, [], ◌∷◌, ap, append-nil, append_assoc, arith, length, length-append, refl, subst, sym}
-use Rattle.std.proofs.Common.{false, IfSome, MatchOption, None, Option, Some}
+use Rattle.std.proofs.Common.{false, Err, IfOk, MatchResult, Ok, Result}
 use Rattle.std.specs.Prelude.{filter}
 use Rattle.std.specs.List.Sorted.{IsPermutation}
 use Rattle.std.proofs.lemmas.List.Sorted.{length_permutation}
@@ -51,16 +51,16 @@ settled-unprompted v (Late frame) other settled =
     subst (IsPermutation (filter is_prompt v.put)) (sym (filter-both is_prompt v.taken (Late frame ∷ []) ∙ append-nil (filter is_prompt v.taken))) settled
 
 -- the first pass of a line stays alone where it took a parcel or found none
-pub popped-alone : (line : TableId) (old new : Seen Parcel) (popped : Option Parcel) → IsAlone is_prompt line old → new.line ≡ line
-    → MatchOption popped (new.hand ≡ old.hand) (λ parcel. new.hand ≡ with_taken old.hand parcel)
-    → IfSome popped (λ parcel. (rest : List Parcel) × Tells is_prompt old.hand (parcel ∷ rest)) → IsAlone is_prompt line new
-popped-alone line old new None a at hand front = record {
+pub popped-alone : (line : TableId) (old new : Seen Parcel) (popped : Result Parcel TableId) → IsAlone is_prompt line old → new.line ≡ line
+    → MatchResult popped (λ parcel. new.hand ≡ with_taken old.hand parcel) (λ _. new.hand ≡ old.hand)
+    → IfOk popped (λ parcel. (rest : List Parcel) × Tells is_prompt old.hand (parcel ∷ rest)) → IsAlone is_prompt line new
+popped-alone line old new (Err found) a at hand front = record {
   line_is = at;
   first = ap (λ (v : Hand Parcel). v.kind) hand ∙ a.first;
   alone = ap (λ (v : Hand Parcel). v.others) hand ∙ a.alone;
   settled = subst (λ (v : Hand Parcel). IsPermutation (filter is_prompt v.put) (filter is_prompt v.taken)) (sym hand) a.settled;
 }
-popped-alone line old new (Some parcel) a at hand front = record {
+popped-alone line old new (Ok parcel) a at hand front = record {
   line_is = at;
   first = ap (λ (v : Hand Parcel). v.kind) hand ∙ a.first;
   alone = ap (λ (v : Hand Parcel). v.others) hand ∙ a.alone;
@@ -69,12 +69,12 @@ popped-alone line old new (Some parcel) a at hand front = record {
 }
 
 -- and what it took is no prompt
-pub popped-unprompted : (line : TableId) (old new : Seen Parcel) (popped : Option Parcel) → IsAlone is_prompt line old → new.line ≡ line
-    → MatchOption popped (new.hand ≡ old.hand) (λ parcel. new.hand ≡ with_taken old.hand parcel)
-    → IfSome popped (λ parcel. (rest : List Parcel) × Tells is_prompt old.hand (parcel ∷ rest))
-    → MatchOption popped (new ≡ old) (λ parcel. (new ≡ record old { hand = with_taken old.hand parcel }) × (is_prompt parcel ≡ false))
-popped-unprompted line old new None a at hand front = λ i. record { line = (at ∙ sym a.line_is) i; hand = hand i }
-popped-unprompted line old new (Some parcel) a at hand front =
+pub popped-unprompted : (line : TableId) (old new : Seen Parcel) (popped : Result Parcel TableId) → IsAlone is_prompt line old → new.line ≡ line
+    → MatchResult popped (λ parcel. new.hand ≡ with_taken old.hand parcel) (λ _. new.hand ≡ old.hand)
+    → IfOk popped (λ parcel. (rest : List Parcel) × Tells is_prompt old.hand (parcel ∷ rest))
+    → MatchResult popped (λ parcel. (new ≡ record old { hand = with_taken old.hand parcel }) × (is_prompt parcel ≡ false)) (λ _. new ≡ old)
+popped-unprompted line old new (Err found) a at hand front = λ i. record { line = (at ∙ sym a.line_is) i; hand = hand i }
+popped-unprompted line old new (Ok parcel) a at hand front =
     (λ i. record { line = (at ∙ sym a.line_is) i; hand = hand i }, unprompted old.hand parcel front.0 a.first a.alone a.settled front.1)
 
 -- the notices of two lists

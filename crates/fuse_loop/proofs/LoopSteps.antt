@@ -182,7 +182,7 @@ Moves-noticed {received} {sent} {notes} {lost} {p} {q} {r} moved noticed =
     (subst (λ (f : List (List ℕ)). Moves (received + 0) f (notes ++ []) (lost ++ []) p r) (append-nil sent) (Moves-then moved noticed.moved))))
 
 -- a turn is the same where notices are sent after it
-pub OneTurn-noticed : (owed : Owing) (seq : ℕ) (found : Option End) (p q r : Progress) → OneTurn owed seq found p q → NoticesAlone q r
+OneTurn-noticed : (owed : Owing) (seq : ℕ) (found : Option End) (p q r : Progress) → OneTurn owed seq found p q → NoticesAlone q r
     → OneTurn owed seq found p r
 OneTurn-noticed owed seq None p q r turn noticed = λ place number.
     let t = turn place number in (
@@ -214,6 +214,12 @@ OneTurn-noticed owed seq (Some end) p q r turn noticed = λ place number.
       taken = λ other. subst (λ (s : SourceState). Takes t.turns p.source s) (sym noticed.source) (t.taken other);
       ended = subst (λ (s : SourceState). RunEnds end t.answered t.refused (NothingLeft s) (SourceFailed p.source s)) (sym noticed.source) t.ended;
     }
+
+-- so is one of which it is known how it ended
+pub OneTurn-known : (owed : Owing) (seq : ℕ) (found known : Option End) (p q r : Progress) → found ≡ known → OneTurn owed seq found p q
+    → NoticesAlone q r → OneTurn owed seq known p r
+OneTurn-known owed seq found known p q r is turn noticed =
+    subst (λ (ended : Option End). OneTurn owed seq ended p r) is (OneTurn-noticed owed seq found p q r turn noticed)
 
 -- nothing was taken yet
 pub RunOn-none : {owed : Owing} (p : Progress) → (run : RunOn owed 0 p p) × (number_of (length run.turns) ≡ 0)

@@ -4,7 +4,7 @@ use Rattle.std.proofs.Common.{arith, length, length-append, append-nil, append_a
 use Rattle.std.proofs.lemmas.List.{map-append, nil_from_length}
 use Rattle.std.specs.Prelude.{filter}
 use Rattle.fuse_wire.specs.Faults.{counted, last_count}
-use Rattle.fuse_wire.specs.Sink.{SinkState, Note, Puts, Refuses, Appends, Sends, Tears}
+use Rattle.fuse_wire.specs.Sink.{SinkState, Note, Puts, Refuses, RefusesFrame, Appends, Sends}
 use Rattle.fuse_wire.specs.declared.sink.Sending.{Sending}
 use Rattle.fuse_wire.specs.declared.sink.Sending.TheVariants.{Sent, Absent, Failed}
 use Rattle.fuse_wire.specs.declared.newtypes.RequestId.{RequestId}
@@ -249,7 +249,7 @@ unchanged p q same r f n l is =
     ap but_unrecorded same ∙ (is ∙ tally-same r f n l (r + 0) (f + 0) (n + 0) (l + 0) (omega arith) (omega arith) (omega arith) (omega arith))
 
 -- a notice was taken off the line, and refused
-notice-refused : (f : List ℕ) (p q : Progress) → is_set_aside f ≡ true → Refuses p.sink q.sink × Tears f p.sink.tail q.sink.tail
+notice-refused : (f : List ℕ) (p q : Progress) → is_set_aside f ≡ true → RefusesFrame f p.sink q.sink
     → q.counts ≡ p.counts → q.unasked ≡ p.unasked ++ f ∷ [] → Moves 0 [] [] [] p q
 notice-refused f p q aside d same line = record {
   appended = [];
@@ -273,10 +273,10 @@ notice-refused f p q aside d same line = record {
 -- a notice was taken off the line, and the sink took it or refused it
 pub Moves-notice : (end : Sending) (f : List ℕ) (p q : Progress) → IsNoticeFrame f → is_set_aside f ≡ true → Sends end f p.sink q.sink
     → q.counts ≡ p.counts → q.unasked ≡ p.unasked ++ f ∷ [] → Moves 0 [] [] [] p q
-Moves-notice Sent f p q is aside puts same line = record {
+Moves-notice Sent f p q is aside sends same line = record {
   appended = f ∷ [];
   refused = [];
-  written = puts.0;
+  written = sends.0.0;
   replied = (notice-alone f aside).0;
   missed = refl;
   set_aside = ((λ _. (is.notice_of, is.in_range, is.is_notice)), tt);
@@ -287,12 +287,12 @@ Moves-notice Sent f p q is aside puts same line = record {
     each = inl ([], (notice-alone f aside).1, (refl, refl));
     all_dropped = refl;
   };
-  tail = puts.1;
-  cause = λ below. omega (arith, puts.0.faults);
+  tail = sends.0.1;
+  cause = λ below. omega (arith, sends.0.0.faults);
   counts = unchanged p q same;
 }
-Moves-notice Absent f p q is aside refuses same line = notice-refused f p q aside refuses same line
-Moves-notice Failed f p q is aside refuses same line = notice-refused f p q aside refuses same line
+Moves-notice Absent f p q is aside sends same line = notice-refused f p q aside sends.0 same line
+Moves-notice Failed f p q is aside sends same line = notice-refused f p q aside sends.0 same line
 
 -- no notice waited
 pub NoticesAlone-none : (p : Progress) → NoticesAlone p p

@@ -7,6 +7,7 @@ use crate::intake::Intake;
 use crate::outlet::Outlet;
 use crate::run_line::RunLine;
 use crate::{Buffers, Lines, Taken, Transcript};
+use fuse_line::LineEmpty;
 use fuse_reply::{Out, Parcel};
 use fuse_wire::consts::BUFFER_SIZE;
 use fuse_wire::{Sink, Source};
@@ -101,16 +102,22 @@ impl<S: Source, K: Sink> Channel<S, K> {
         self.outlet.deliver(out);
     }
 
-    /// Hands each notice that waits to the sink. One that the sink does not take is not sent again, and is counted
-    /// nowhere.
+    /// Hands each notice that waits to the sink, until the line is found empty. One that the sink does not take is not
+    /// sent again, and is counted nowhere.
     #[inline(always)]
-    pub(crate) fn pass_on_notices<R: Wait>(&mut self, rt: &R, frames: &mut RunLine<Parcel>)
+    pub(crate) fn pass_on_notices<R: Wait>(
+        &mut self,
+        rt: &R,
+        frames: &mut RunLine<Parcel>,
+    ) -> LineEmpty<Parcel>
         ensures notices { NoticesAlone (beside self.old.progress (notices_in frames.old.hand.taken))
             (beside self.new.progress (notices_in frames.new.hand.taken)) }
         ensures line { frames.new.line ≡ frames.old.line }
+        ensures drained { result ≡ frames.old.line }
     {
-        if !frames.is_empty() {
-            self.outlet.send_notices(rt, frames);
+        match frames.see_empty() {
+            Some(drained) => drained,
+            None => self.outlet.send_notices(rt, frames),
         }
     }
 }

@@ -1,5 +1,5 @@
 // The event loop: messages are taken and answered one after another.
-ghost use Rattle.std.specs.Prelude.{◌≡◌, false, []};
+ghost use Rattle.std.specs.Prelude.{◌≡◌, false, [], IfNone};
 ghost use Rattle.fuse_reply.specs.Answer.Answer.{Empty};
 ghost use Rattle.fuse_reply.specs.Frame.{reply};
 ghost use Rattle.fuse_loop.specs.EventLoop.{OneTurn, Run};
@@ -9,11 +9,20 @@ ghost use Rattle.fuse_loop.specs.Progress.{NoticesAlone, PassesOnAll, Progress, 
 
 use crate::run_line::RunLine;
 use crate::{Buffers, Channel, End, Incoming, Lines, RunEnd, Taken, Work};
+use fuse_line::LineEmpty;
 use fuse_notify::Notifier;
 use fuse_reply::{NoDoor, Out, Parcel, ReplyEmpty};
 use fuse_wire::{RequestId, Sink, Source};
 use std::alloc::Global;
 use std::sync::Wait;
+
+/// What a turn of the loop came to.
+struct Turn {
+    /// Why the run ends. None is that it goes on.
+    ended: Option<End>,
+    /// What shows that the line of frames was found empty after the message was answered.
+    drained: LineEmpty<Parcel>,
+}
 
 /// The reply to DESTROY, which is given by the run itself.
 #[inline(always)]
@@ -23,16 +32,19 @@ pub fn destroy_reply(alloc: Global, id: RequestId) -> Out
     ReplyEmpty::new(alloc, id).ok().into_out()
 }
 
-/// Takes the message of this number and answers it. None is that the run goes on.
+/// Takes the message of this number and answers it. None is that the run goes on. Each message but the first is taken
+/// only where the line of frames was found empty after the one before.
 #[inline(always)]
 fn take_turn<R: Wait + AllocGlobal, W: Work, S: Source, K: Sink>(
     rt: &R,
     work: &W,
     notifier: &mut Notifier,
     seq: u64,
+    _drained: Option<LineEmpty<Parcel>>,
     channel: &mut Channel<S, K>,
 ) -> Option<End>
-    requires { W.DEFERS ≡ false }
+    requires prompt { W.DEFERS ≡ false }
+    requires drained { IfNone _drained (seq ≡ 0) }
     ensures turn { OneTurn (W.owed work.now) seq result channel.old.progress channel.new.progress }
     ensures unasked { channel.new.progress.unasked ≡ channel.old.progress.unasked }
     ensures line { notifier.new.line ≡ notifier.old.line }
@@ -57,27 +69,30 @@ fn take_turn<R: Wait + AllocGlobal, W: Work, S: Source, K: Sink>(
     }
 }
 
-/// A turn of the loop: takes the message of this number and answers it, and then sends the notices that wait. None is
-/// that the run goes on.
+/// A turn of the loop: takes the message of this number and answers it, and then sends the notices that wait, until the
+/// line of frames is found empty.
 #[inline(always)]
 fn next_turn<R: Wait + AllocGlobal, W: Work, S: Source, K: Sink>(
     rt: &R,
     work: &W,
     notifier: &mut Notifier,
     seq: u64,
+    drained: Option<LineEmpty<Parcel>>,
     channel: &mut Channel<S, K>,
     frames: &mut RunLine<Parcel>,
-) -> Option<End>
-    requires { W.DEFERS ≡ false }
+) -> Turn
+    requires prompt { W.DEFERS ≡ false }
+    requires drained { IfNone drained (seq ≡ 0) }
     ensures turn { (between : Progress) × (between.unasked ≡ notices_in frames.old.hand.taken)
-        × OneTurn (W.owed work.now) seq result
+        × OneTurn (W.owed work.now) seq result.ended
         (beside channel.old.progress (notices_in frames.old.hand.taken)) between
         × NoticesAlone between (beside channel.new.progress (notices_in frames.new.hand.taken)) }
     ensures lines { (frames.new.line ≡ frames.old.line) × (notifier.new.line ≡ notifier.old.line) }
+    ensures drained { result.drained ≡ frames.old.line }
 {
-    let ended = take_turn(rt, work, notifier, seq, channel);
-    channel.pass_on_notices(rt, frames);
-    ended
+    let ended = take_turn(rt, work, notifier, seq, drained, channel);
+    let drained = channel.pass_on_notices(rt, frames);
+    Turn { ended, drained }
 }
 
 /// Answers messages until the source has none left, or one ends the run.
@@ -96,11 +111,14 @@ fn answer_in_turn<R: Wait + AllocGlobal, W: Work, S: Source, K: Sink>(
     ensures lines { (frames.new.line ≡ frames.old.line) × (notifier.new.line ≡ notifier.old.line) }
 {
     let mut seq: u64 = 0;
+    let mut found = None;
     for _ in rt.forever() {
-        match next_turn(rt, work, notifier, seq, channel, frames) {
+        let Turn { ended, drained } = next_turn(rt, work, notifier, seq, found, channel, frames);
+        match ended {
             Some(end) => return end,
             None => seq = seq.saturating_add(1),
         }
+        found = Some(drained);
     }
     unreachable!()
 }

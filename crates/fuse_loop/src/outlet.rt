@@ -7,6 +7,7 @@ ghost use Rattle.fuse_loop.specs.declared.transcript.Transcript.{Transcript as C
 
 use crate::Transcript;
 use crate::run_line::RunLine;
+use fuse_line::LineEmpty;
 use fuse_reply::{NoticeFrame, Out, OutEnd, Parcel};
 use fuse_wire::Sink;
 use std::marker::Model;
@@ -68,19 +69,24 @@ impl<K: Sink> Outlet<K> {
         }
     }
 
-    /// Hands each notice that waits to the sink, by a way that messages seldom take.
+    /// Hands each notice that waits to the sink, until the line is found empty, by a way that messages seldom take.
     #[inline(never)]
-    pub fn send_notices<R: Wait>(&mut self, rt: &R, frames: &mut RunLine<Parcel>)
+    pub fn send_notices<R: Wait>(
+        &mut self,
+        rt: &R,
+        frames: &mut RunLine<Parcel>,
+    ) -> LineEmpty<Parcel>
         ensures notices { (source : SourceState) (counts : Counts) →
             NoticesAlone (progress source self.old.sink counts (notices_in frames.old.hand.taken))
             (progress source self.new.sink counts (notices_in frames.new.hand.taken)) }
         ensures counts { self.new.counts ≡ self.old.counts }
         ensures line { frames.new.line ≡ frames.old.line }
+        ensures drained { result ≡ frames.old.line }
     {
         for _ in rt.forever() {
             match frames.next(rt) {
-                Some(parcel) => self.deliver_parcel(parcel),
-                None => return,
+                Ok(parcel) => self.deliver_parcel(parcel),
+                Err(drained) => return drained,
             }
         }
         unreachable!()

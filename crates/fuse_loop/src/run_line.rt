@@ -1,5 +1,5 @@
 // A line of a run, with its first pass.
-ghost use Rattle.std.specs.Prelude.{◌≡◌, [], false, IfOk, MatchOption};
+ghost use Rattle.std.specs.Prelude.{◌≡◌, [], false, IfErr, IfOk, IfSome, MatchResult};
 ghost use Rattle.fuse_line.specs.Hand.{hand, with_taken};
 ghost use Rattle.fuse_line.specs.declared.hand.Kind.TheVariants.{First};
 ghost use Rattle.fuse_notify.specs.Queueing.{fresh_door};
@@ -7,7 +7,7 @@ ghost use Rattle.fuse_reply.specs.Parcel.{is_prompt};
 
 use crate::doors::Doors;
 use fuse_core::LINE_PLACES;
-use fuse_line::{Class, Line, Pass};
+use fuse_line::{Class, Line, LineEmpty, Pass};
 use fuse_notify::Notifier;
 use fuse_reply::{EndMark, Parcel};
 use fuse_wire::NoMemory;
@@ -72,23 +72,25 @@ impl RunLine<Parcel> {
         Ok(Doors::new(share, pass, mark))
     }
 
-    /// Whether the line was empty at a moment of this call: no notice waited, and no late frame. A prompt never waits
-    /// here, as for `next`.
+    /// What shows that the line was empty at a moment of this call, where it was seen so: no notice waited, and no late
+    /// frame. A prompt never waits here, as for `next`.
     #[inline(always)]
-    pub fn is_empty(&mut self) -> bool
-        ensures { self.new ≡ self.old }
+    pub fn see_empty(&mut self) -> Option<LineEmpty<Parcel>>
+        ensures same { self.new ≡ self.old }
+        ensures found_empty { IfSome result (λ found. found ≡ self.old.line) }
     {
-        self.line.is_empty(&mut self.pass)
+        self.line.see_empty(&mut self.pass)
     }
 
-    /// Takes the parcel that waits longest, or nothing where none waits. It is no prompt, since nobody has a pass that
-    /// could push one.
-    pub fn next<R: Wait>(&mut self, rt: &R) -> Option<Parcel>
-        ensures { MatchOption result
-            (self.new ≡ self.old)
+    /// Takes the parcel that waits longest. It is no prompt, since nobody has a pass that could push one. Where none
+    /// waits, the error shows that the line was empty at a moment of this call.
+    pub fn next<R: Wait>(&mut self, rt: &R) -> Result<Parcel, LineEmpty<Parcel>>
+        ensures taken { MatchResult result
             (λ parcel. (self.new ≡ record self.old { hand = with_taken self.old.hand parcel })
-            × (is_prompt parcel ≡ false)) }
+            × (is_prompt parcel ≡ false))
+            (λ _. self.new ≡ self.old) }
+        ensures found_empty { IfErr result (λ found. found ≡ self.old.line) }
     {
-        self.line.pop(rt, &mut self.pass)
+        self.line.pop_or_empty(rt, &mut self.pass)
     }
 }

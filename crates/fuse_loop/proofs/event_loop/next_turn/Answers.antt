@@ -12,5 +12,5 @@ returns-clause-turn g c =
       refl,
       OneTurn-beside (g.W.Work.owed c.args.work.now) c.args.seq c.take_turn-ended.result c.args.channel.now.progress
           c.take_turn-ended.new.channel.progress unasked c.take_turn-ended.ensures.unasked c.take_turn-ended.ensures.turn,
-      c.pass_on_notices.ensures.notices,
+      c.pass_on_notices-drained.ensures.notices,
     )

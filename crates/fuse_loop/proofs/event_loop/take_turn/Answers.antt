@@ -36,8 +36,8 @@ returns-in-Destroy-clause-turn g c = λ place number.
     (subst (λ (id : ℕ). DeliversOnce (Frame (reply id Empty)) c.take_message.new.self c.deliver.new.self) arrives.1
     (subst (λ (out : Out). DeliversOnce out c.take_message.new.self c.deliver.new.self) c.destroy_reply.ensures c.deliver.ensures))
 
-pub returns-in-Request-clause-turn : goal.returns-in-Request-clause-turn
-returns-in-Request-clause-turn g c = λ place number.
+pub returns-clause-turn : goal.returns-clause-turn
+returns-clause-turn g c = λ place number.
     let m = take c.in-Message.count c.take_message.new.self.buffer in
     let request : IsRequest m = subst IsRequest c.message-message.ensures c.in-Request.ensures in
     RunOn-next (g.W.Work.owed c.args.work.now) place c.args.seq c.in-Message.count c.args.channel.now c.take_message.new.self c.deliver-in-Request.new.self

@@ -11,8 +11,8 @@ loop-init g c = (λ source counts. NoticesAlone-none _, refl, refl)
 pub loop-preserved : goal.loop-preserved
 loop-preserved g c =
     let sends = c.deliver_parcel.ensures in
-    let next = c.in-Some-next.ensures in (
-      λ source counts. NoticesAlone-parcel source counts _ c.loop.frames _ c.in-Some-next.parcel _ _ next sends (c.loop.invariant.0 source counts),
-      counts-parcel c.in-Some-next.parcel _ _ next.1 sends ∙ c.loop.invariant.1,
+    let next = c.in-Ok.ensures.taken in (
+      λ source counts. NoticesAlone-parcel source counts _ c.loop.frames _ c.in-Ok.parcel _ _ next sends (c.loop.invariant.0 source counts),
+      counts-parcel c.in-Ok.parcel _ _ next.1 sends ∙ c.loop.invariant.1,
       ap (λ (s : Seen Parcel). s.line) next.0 ∙ c.loop.invariant.2,
     )

@@ -1,5 +1,5 @@
 -- What comes off the line is no prompt, and the pass stays alone.
-use Rattle.std.proofs.Common.{◌≡◌, false, rules, subst, MatchOption}
+use Rattle.std.proofs.Common.{◌≡◌, false, rules, subst, MatchResult}
 use Rattle.fuse_line.specs.Hand.{with_taken}
 use Rattle.fuse_line.specs.Seen.{Seen}
 use Rattle.fuse_reply.specs.Parcel.{is_prompt}
@@ -11,14 +11,15 @@ use Rattle.fuse_loop.proofs.run_line.RunLine+Parcel.next.Goals as goal
 pub invariant_of-self : goal.invariant_of-self
 invariant_of-self g c =
     let line = arc_value c.self.inside.line in
-    let at : c.pop.new.pass.line ≡ line = search rules in
-    popped-alone line c.self.inside.pass c.pop.new.pass c.pop.result c.self.invariant at c.pop.ensures.hand c.pop.ensures.front
+    let at : c.pop_or_empty.new.pass.line ≡ line = search rules in
+    popped-alone line c.self.inside.pass c.pop_or_empty.new.pass c.pop_or_empty.result c.self.invariant at c.pop_or_empty.ensures.hand c.pop_or_empty.ensures.front
 
-pub returns : goal.returns
-returns g c =
+pub returns-clause-taken : goal.returns-clause-taken
+returns-clause-taken g c =
     let line = arc_value c.self.inside.line in
-    let at : c.pop.new.pass.line ≡ line = search rules in
+    let at : c.pop_or_empty.new.pass.line ≡ line = search rules in
     let same : c.self.inside.pass ≡ c.args.self.now = search rules in
-    subst (λ (old : Seen Parcel). MatchOption c.pop.result (c.pop.new.pass ≡ old)
-    (λ parcel. (c.pop.new.pass ≡ record old { hand = with_taken old.hand parcel }) × (is_prompt parcel ≡ false))) same
-    (popped-unprompted line c.self.inside.pass c.pop.new.pass c.pop.result c.self.invariant at c.pop.ensures.hand c.pop.ensures.front)
+    subst (λ (old : Seen Parcel). MatchResult c.pop_or_empty.result
+    (λ parcel. (c.pop_or_empty.new.pass ≡ record old { hand = with_taken old.hand parcel }) × (is_prompt parcel ≡ false))
+    (λ _. c.pop_or_empty.new.pass ≡ old)) same
+    (popped-unprompted line c.self.inside.pass c.pop_or_empty.new.pass c.pop_or_empty.result c.self.invariant at c.pop_or_empty.ensures.hand c.pop_or_empty.ensures.front)
