@@ -8,4 +8,5 @@ pub mod Accounts
 mod Conducting
 mod Assembling
 mod Splitting
+mod Starting
 mod LateReplies

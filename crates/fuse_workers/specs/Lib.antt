@@ -7,5 +7,6 @@ pub mod Answered
 pub mod Turns
 pub mod Callers
 pub mod Promises
+pub mod Starting
 pub mod Conducting
 pub mod OnePerMessageLater

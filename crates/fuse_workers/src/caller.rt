@@ -1,5 +1,5 @@
 // The caller, which takes messages and hands them to workers.
-ghost use Rattle.std.specs.Prelude.{◌≡◌, ◌++◌, ◌∷◌, ℕ, List, [], false, true, length, MatchBool};
+ghost use Rattle.std.specs.Prelude.{◌≡◌, ◌++◌, ◌∷◌, ℕ, List, [], false, true, length, IsSome, MatchBool};
 ghost use Rattle.fuse_line.specs.Hand.{with_put};
 ghost use Rattle.fuse_line.specs.declared.hand.Kind.TheVariants.{First};
 ghost use Rattle.fuse_line.specs.Tells.{IsSettled};
@@ -17,7 +17,7 @@ use crate::stopped::Stopped;
 use crate::taking::take_request;
 use crate::worker::answer_job;
 use fuse_line::Pass;
-use fuse_loop::{Answerer, Intake, RequestJob, Work, destroy_reply};
+use fuse_loop::{Answerer, Ending, Intake, RequestJob, Work, destroy_reply};
 use fuse_reply::Parcel;
 use fuse_wire::{NoMemory, Source};
 use std::alloc::AllocGlobal;
@@ -144,11 +144,15 @@ pub(crate) fn take_messages<R: Wait + AllocGlobal, W: Work, S: Source>(
     unreachable!()
 }
 
-/// Answers the jobs that no worker took. No worker is left.
+/// Answers the jobs that no worker took. No worker is left, and the run's end is marked: a reply that is put off from here on is
+/// refused as one after the end.
 pub(crate) fn answer_rest<R: Wait + AllocGlobal, W: Work>(
     context: &RunContext<R, W>,
     caller: &mut Caller,
+    ending: &Ending,
 )
+    requires marked { IsSome ending.now.set }
+    requires joined { caller.old.jobs.hand.others ≡ 0 }
     requires lines { CallerOn context.now.jobs.now context.now.frames.now caller.old }
     requires first { (caller.old.jobs.hand.kind ≡ First) × (caller.old.frames.hand.kind ≡ First) }
     ensures lines { CallerOn context.now.jobs.now context.now.frames.now caller.new }
@@ -159,6 +163,7 @@ pub(crate) fn answer_rest<R: Wait + AllocGlobal, W: Work>(
         IsCaller (answering (W.owed context.now.work.now) W.DEFERS) ms caller.new.jobs.hand caller.new.frames.hand }
     ensures settled { IsSettled (λ _. true) caller.new.jobs.hand }
 {
+    let _ = ending;
     let (rt, jobs, frames) = (context.rt, context.jobs, context.frames);
     for _ in rt.forever() {
         let Some(job) = jobs.pop(rt, &mut caller.jobs) else {
@@ -170,7 +175,7 @@ pub(crate) fn answer_rest<R: Wait + AllocGlobal, W: Work>(
     unreachable!()
 }
 
-/// Answers DESTROY, where it was the last message.
+/// Answers DESTROY, where it was the last message. No worker is left, and no job: all other messages were answered.
 pub(crate) fn answer_last<R: Wait + AllocGlobal, W: Work>(
     context: &RunContext<R, W>,
     stopped: Stopped,
@@ -178,6 +183,7 @@ pub(crate) fn answer_last<R: Wait + AllocGlobal, W: Work>(
 )
     requires line { caller.old.frames.line ≡ context.now.frames.now }
     requires first { caller.old.frames.hand.kind ≡ First }
+    requires answered { (caller.old.jobs.hand.others ≡ 0) × IsSettled (λ _. true) caller.old.jobs.hand }
     ensures line { caller.new.frames.line ≡ context.now.frames.now }
     ensures others { caller.new.frames.hand.others ≡ caller.old.frames.hand.others }
     ensures same { (caller.new.jobs ≡ caller.old.jobs) × (caller.new.answerer ≡ caller.old.answerer) }

@@ -4,14 +4,17 @@ ghost use Rattle.std.specs.Prelude.{◌≡◌};
 
 use crate::caller::Caller;
 use crate::relay::Relay;
+use crate::starter::Starter;
 use fuse_loop::{Ending, Intake};
 use fuse_wire::{Sink, Source};
 
-/// The ends of a run, lent to whoever conducts it, the first passes of its lines, and the mark of its end.
+/// The ends of a run, lent to whoever conducts it, what its threads are started by, the first passes of its lines, and the mark
+/// of its end.
 #[derive(Drop)]
-pub(crate) struct LentEnds<'a, S: Source, K: Sink> {
+pub(crate) struct LentEnds<'a, S: Source, K: Sink, T: Starter> {
     pub(crate) intake: &'a mut Intake<S>,
     pub(crate) relay: &'a mut Relay<K>,
+    pub(crate) starter: T,
     pub(crate) caller: Caller,
     pub(crate) ending: Ending,
 }

@@ -14,6 +14,7 @@ mod lent;
 mod relay;
 mod run_context;
 mod sender;
+mod starter;
 mod stopped;
 mod taking;
 mod threads;
@@ -22,5 +23,6 @@ mod workers;
 
 pub use fuse_core::{Event, Job, LINE_PLACES, Mark, SentOut, State, WorkerHand, run, step};
 pub use fuse_loop::{Buffers, End, RunEnd, Transcript, Work, run_inline};
+pub use starter::{Starter, SystemStarter};
 pub use threads::MOST_WORKERS;
-pub use workers::run_workers;
+pub use workers::{run_workers, run_workers_by};

@@ -1,18 +1,20 @@
 // The threads of a run: how they are started, and how they are joined.
-ghost use Rattle.std.specs.Prelude.{◌≡◌, ◌+◌, ◌-◌, ◌≤◌, ℕ, List, [], length, MatchOption, MatchResult};
+ghost use Rattle.std.specs.Prelude.{◌≡◌, ◌+◌, ◌-◌, ◌≤◌, ℕ, List, [], length, true, IfOk, IfSome, MatchOption, MatchResult};
 ghost use Rattle.std.specs.List.{All};
-ghost use Rattle.std.specs.Vec.{vec_capacity, vec_len};
+ghost use Rattle.std.specs.Vec.{vec_len};
 ghost use Rattle.fuse_line.specs.Hand.{hand};
 ghost use Rattle.fuse_line.specs.declared.hand.Kind.TheVariants.{First, Inner};
 ghost use Rattle.fuse_workers.specs.Callers.{CallerOn};
 ghost use Rattle.fuse_workers.specs.Promises.{PromisesFor};
 ghost use Rattle.fuse_workers.specs.Relays.{IsRelayed, relay_of};
+ghost use Rattle.fuse_workers.specs.Starting.{AsksUpTo};
 ghost use Rattle.fuse_workers.specs.Answered.{IsCaller, IsServed};
 ghost use Rattle.fuse_loop.specs.Answering.{answering};
 
 use crate::caller::Caller;
 use crate::run_context::RunContext;
 use crate::sender::{LentRelay, serve_sink};
+use crate::starter::Starter;
 use crate::worker::answer_jobs;
 use fuse_line::{Line, Pass};
 use fuse_loop::{RequestJob, Work};
@@ -21,7 +23,7 @@ use fuse_wire::Sink;
 use std::snapshot::Snapshot;
 use std::sync::Wait;
 use std::sync::atomic::{AtomicBool, Ordering};
-use std::thread::{Promise, PromisedHandle, Scope, Threads};
+use std::thread::{Promise, PromisedHandle, Scope, SpawnError, Threads};
 
 /// How many workers are started at most.
 pub const MOST_WORKERS: usize = 64;
@@ -72,12 +74,13 @@ pub(crate) type Worker<W> = PromisedHandle<(Pass<RequestJob>, Pass<Parcel>), Wor
 /// The sender, where it was started.
 pub(crate) type Sender<'a, K> = PromisedHandle<LentRelay<'a, K>, SenderPromise<'a, K>>;
 
-/// Starts a worker, where there is memory for what it answers with. The closure of one that can't be started is run here at
-/// once, with its flag raised.
+/// Starts a worker, where it may be started and there is memory for what it answers with. The closure of one that can't be
+/// started is run here at once, with its flag raised.
 fn start_one<'s, E, W: Work, R: Threads + Wait + AllocGlobal + Sync>(
     scope: &Scope<'s, E>,
     context: &RunContext<'s, R, W>,
     no_more: &'s AtomicBool,
+    may_start: bool,
     caller: &mut Caller,
 ) -> Option<Worker<W>>
     requires lines { CallerOn context.now.jobs.now context.now.frames.now caller.old }
@@ -90,6 +93,7 @@ fn start_one<'s, E, W: Work, R: Threads + Wait + AllocGlobal + Sync>(
         (λ h. PromisesFor context.now.work.now context.now.jobs.now context.now.frames.now h.promise
         × (caller.new.jobs.hand.others ≡ caller.old.jobs.hand.others + 1)
         × (caller.new.frames.hand.others ≡ caller.old.frames.hand.others + 1)) }
+    ensures allowed { IfSome result (λ h. may_start ≡ true) }
 {
     let Ok(answerer) = caller.answerer.again() else {
         return None;
@@ -117,7 +121,12 @@ fn start_one<'s, E, W: Work, R: Threads + Wait + AllocGlobal + Sync>(
         };
         answer_jobs(&context, job_pass, frame_pass, answerer, no_more)
     };
-    match scope.spawn_with(promise, worker) {
+    let started = if may_start {
+        scope.spawn_with(promise, worker)
+    } else {
+        Err(SpawnError { value: worker })
+    };
+    match started {
         Ok(handle) => Some(handle),
         Err(refused) => {
             no_more.store(true, Ordering::SeqCst);
@@ -130,32 +139,36 @@ fn start_one<'s, E, W: Work, R: Threads + Wait + AllocGlobal + Sync>(
 }
 
 /// Starts a worker for each flag, until one can't be started.
-pub(crate) fn start_workers<'s, E, W: Work, R: Threads + Wait + AllocGlobal + Sync>(
+pub(crate) fn start_workers<'s, E, W: Work, T: Starter, R: Threads + Wait + AllocGlobal + Sync>(
     scope: &Scope<'s, E>,
     context: &RunContext<'s, R, W>,
     flags: &'s [AtomicBool],
+    starter: &mut T,
     caller: &mut Caller,
-    workers: &mut Vec<Worker<W>>,
-)
+) -> Vec<Worker<W>>
     requires lines { CallerOn context.now.jobs.now context.now.frames.now caller.old }
     requires caller { IsCaller (answering (W.owed context.now.work.now) W.DEFERS) [] caller.old.jobs.hand caller.old.frames.hand }
-    requires room { length flags.now ≤ vec_capacity workers.old - vec_len workers.old }
-    requires few { length flags.now ≤ MOST_WORKERS }
-    requires promises { All (λ h. PromisesFor context.now.work.now context.now.jobs.now context.now.frames.now h.promise) workers.old.items }
+    requires few { (T.told starter.old).asked + length flags.now ≤ 1 + MOST_WORKERS }
+    requires all_made { (T.told starter.old).refused ≡ 0 }
     ensures lines { CallerOn context.now.jobs.now context.now.frames.now caller.new }
     ensures caller { IsCaller (answering (W.owed context.now.work.now) W.DEFERS) [] caller.new.jobs.hand caller.new.frames.hand }
-    ensures promises { All (λ h. PromisesFor context.now.work.now context.now.jobs.now context.now.frames.now h.promise) workers.new.items }
-    ensures jobs { caller.new.jobs.hand.others + vec_len workers.old
-        ≡ caller.old.jobs.hand.others + vec_len workers.new }
-    ensures frames { caller.new.frames.hand.others + vec_len workers.old
-        ≡ caller.old.frames.hand.others + vec_len workers.new }
+    ensures promises { All (λ h. PromisesFor context.now.work.now context.now.jobs.now context.now.frames.now h.promise) result.items }
+    ensures jobs { caller.new.jobs.hand.others ≡ caller.old.jobs.hand.others + vec_len result }
+    ensures frames { caller.new.frames.hand.others ≡ caller.old.frames.hand.others + vec_len result }
+    ensures starts { AsksUpTo (length flags.now) (vec_len result) (T.told starter.old) (T.told starter.new) }
 {
+    let mut workers = Vec::new(context.rt.alloc());
     for flag in flags {
-        match start_one(scope, context, flag, caller) {
+        let may_start = starter.ask() && workers.reserve(1).is_ok();
+        match start_one(scope, context, flag, may_start, caller) {
             Some(worker) => workers.push_reserved(worker),
-            None => return,
+            None => {
+                starter.refuse();
+                return workers;
+            }
         }
     }
+    workers
 }
 
 /// Joins a worker, and takes its passes back.
@@ -199,21 +212,23 @@ pub(crate) fn join_workers<W: Work, R: Threads>(
     }
 }
 
-/// Starts the sender. Where it can't be started, what it was lent comes back.
+/// Starts the sender, where it may be started. Where it can't be, what it was lent comes back.
 pub(crate) fn start_sender<'s, 'a: 's, E, K: Sink + Send, R: Threads + Wait + Sync>(
     scope: &Scope<'s, E>,
     rt: &'s R,
     frames: &'s Line<Parcel>,
     lent: LentRelay<'a, K>,
     no_more: &'s AtomicBool,
+    may_start: bool,
 ) -> Result<Sender<'a, K>, LentRelay<'a, K>>
     requires line { lent.pass.line ≡ frames.now }
     requires hand { lent.pass.hand ≡ hand Inner 0 [] [] }
-    ensures { MatchResult result
+    ensures started { MatchResult result
         (λ h. (h.promise.lent.value ≡ lent.entry) × (h.promise.frames.value ≡ frames.now))
         (λ r. (r.relay.ghost_name ≡ lent.entry.relay.ghost_name) × (r.pass.line ≡ frames.now)
         × IsRelayed r.pass.hand (relay_of lent.entry.relay.now.outlet lent.entry.relay.now.book)
         (relay_of r.relay.now.outlet r.relay.now.book)) }
+    ensures allowed { IfOk result (λ h. may_start ≡ true) }
 {
     let promise = SenderPromise {
         lent: Snapshot::of(&lent),
@@ -225,7 +240,12 @@ pub(crate) fn start_sender<'s, 'a: 's, E, K: Sink + Send, R: Threads + Wait + Sy
             × IsRelayed result.pass.hand (relay_of lent.entry.relay.now.outlet lent.entry.relay.now.book)
             (relay_of result.relay.now.outlet result.relay.now.book) }
     { serve_sink(rt, frames, lent, no_more) };
-    match scope.spawn_with(promise, sender) {
+    let started = if may_start {
+        scope.spawn_with(promise, sender)
+    } else {
+        Err(SpawnError { value: sender })
+    };
+    match started {
         Ok(handle) => Ok(handle),
         Err(refused) => {
             no_more.store(true, Ordering::SeqCst);

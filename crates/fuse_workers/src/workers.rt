@@ -1,7 +1,8 @@
 // Runs on several threads: the caller receives, workers answer, and one sender has the sink.
-ghost use Rattle.std.specs.Prelude.{◌≡◌, ◌≤◌, ◌++◌, ℕ, List, [], None, IfOk, false, true, length};
+ghost use Rattle.std.specs.Prelude.{◌≡◌, ◌≤◌, ◌+◌, ◌++◌, ℕ, List, [], None, false, true, length, min};
 ghost use Rattle.std.specs.Arc.{arc_value};
-ghost use Rattle.std.specs.Vec.{vec_capacity, vec_len};
+ghost use Rattle.std.specs.List.{All};
+ghost use Rattle.std.specs.Vec.{vec_len};
 ghost use Rattle.fuse_line.specs.Hand.{hand};
 ghost use Rattle.fuse_line.specs.declared.hand.Kind.TheVariants.{First, Inner};
 ghost use Rattle.fuse_line.specs.Tells.{IsSettled};
@@ -19,7 +20,8 @@ ghost use Rattle.fuse_core.specs.OnePerMessage.{UpToOrder};
 ghost use Rattle.fuse_workers.specs.OnePerMessageLater.{NoneHeldBack};
 ghost use Rattle.fuse_workers.specs.Relays.{IsRelayed, RelayState, is_own, relay_of};
 ghost use Rattle.fuse_workers.specs.Callers.{CallerOn};
-ghost use Rattle.fuse_workers.specs.Promises.{lines_of};
+ghost use Rattle.fuse_workers.specs.Promises.{PromisesFor, lines_of};
+ghost use Rattle.fuse_workers.specs.Starting.{AsksUpTo, starts};
 ghost use Rattle.fuse_loop.specs.Progress.{PassesOnAll, Quiet, nothing_yet, progress};
 ghost use Rattle.fuse_workers.specs.Answered.{IsCaller};
 ghost use Rattle.fuse_loop.specs.Answering.{answering};
@@ -31,6 +33,7 @@ use crate::lent::{LentEnds, take_back};
 use crate::relay::Relay;
 use crate::run_context::RunContext;
 use crate::sender::{LentRelay, send_rest};
+use crate::starter::{Starter, SystemStarter};
 use crate::stopped::Stopped;
 use crate::threads::{MOST_WORKERS, Worker, join_workers, start_sender, start_workers};
 use fuse_core::Book;
@@ -39,12 +42,12 @@ use fuse_loop::{
     Buffers, End, Ending, Intake, Lines, Outlet, RequestJob, RunEnd, RunLine, Transcript, Work,
 };
 use fuse_reply::Parcel;
-use fuse_wire::{NoMemory, Sink, Source};
+use fuse_wire::{Sink, Source};
 use std::alloc::Global;
 use std::sync::atomic::{AtomicBool, Ordering};
 use std::sync::{Arc, Wait};
-use std::thread;
 use std::thread::{Scope, Threads};
+use std::{array, thread};
 
 /// The ends of a run, the first passes of its lines, and the mark of its end.
 struct RunParts<S: Source, K: Sink> {
@@ -61,22 +64,20 @@ fn raise(flags: &[AtomicBool]) {
     }
 }
 
-/// Starts workers, takes messages until no more are to be taken, joins the workers, marks the run's end, and answers
-/// what they left.
-fn answer_all<'s, E, W: Work, S: Source, R: Threads + Wait + AllocGlobal + Sync>(
-    scope: &Scope<'s, E>,
-    context: &RunContext<'s, R, W>,
-    flags: &'s [AtomicBool],
+/// Takes messages until no more are to be taken, joins the workers, marks the run's end, and answers what they left.
+fn answer_all<W: Work, S: Source, R: Threads + Wait + AllocGlobal + Sync>(
+    context: &RunContext<R, W>,
+    flags: &[AtomicBool],
     intake: &mut Intake<S>,
     caller: &mut Caller,
     ending: &mut Ending,
-    mut workers: Vec<Worker<W>>,
+    workers: Vec<Worker<W>>,
 ) -> Stopped
     requires lines { CallerOn context.now.jobs.now context.now.frames.now caller.old }
     requires caller { IsCaller (answering (W.owed context.now.work.now) W.DEFERS) [] caller.old.jobs.hand caller.old.frames.hand }
-    requires others { (caller.old.jobs.hand.others ≡ 0) × (caller.old.frames.hand.others ≡ 1) }
-    requires workers { (workers.items ≡ []) × (length flags.now ≤ vec_capacity workers) }
-    requires few { length flags.now ≤ MOST_WORKERS }
+    requires others { (caller.old.jobs.hand.others ≡ vec_len workers)
+        × (caller.old.frames.hand.others ≡ 1 + vec_len workers) }
+    requires promises { All (λ h. PromisesFor context.now.work.now context.now.jobs.now context.now.frames.now h.promise) workers.items }
     requires unmarked { ending.old.set ≡ None }
     ensures lines { CallerOn context.now.jobs.now context.now.frames.now caller.new }
     ensures others { (caller.new.jobs.hand.others ≡ 0) × (caller.new.frames.hand.others ≡ 1) }
@@ -86,14 +87,13 @@ fn answer_all<'s, E, W: Work, S: Source, R: Threads + Wait + AllocGlobal + Sync>
         × IsCaller (answering (W.owed context.now.work.now) W.DEFERS) (ms ++ answered_last result hears.last)
         caller.new.jobs.hand caller.new.frames.hand }
 {
-    start_workers(scope, context, flags, caller, &mut workers);
     let worker_count = workers.len();
     let stopped = take_messages(context, intake, worker_count, caller);
     raise(flags);
     context.jobs.wake();
     join_workers(context, caller, workers);
     mark_end(caller, ending, intake.received);
-    answer_rest(context, caller);
+    answer_rest(context, caller, ending);
     answer_last(context, stopped, caller);
     stopped
 }
@@ -135,19 +135,21 @@ fn answer_alone<W: Work, S: Source, K: Sink, R: Wait + AllocGlobal>(
 }
 
 /// Conducts a run on this thread, since no sender could be started. What one was to be lent came back, with its pass.
-fn conduct_alone<'a, W: Work, S: Source, K: Sink, R: Wait + AllocGlobal>(
+fn conduct_alone<'a, W: Work, S: Source, K: Sink, T: Starter, R: Wait + AllocGlobal>(
     context: &RunContext<R, W>,
     intake: &'a mut Intake<S>,
     back: LentRelay<'a, K>,
+    starter: T,
     mut caller: Caller,
     mut ending: Ending,
-) -> (Stopped, LentEnds<'a, S, K>, ClosedRun)
+) -> (Stopped, LentEnds<'a, S, K, T>, ClosedRun)
     requires lines { (caller.frames.line ≡ context.now.frames.now) × (back.pass.line ≡ context.now.frames.now) }
     requires hands { (caller.jobs.hand ≡ hand First 0 [] []) × (caller.frames.hand ≡ hand First 1 [] []) }
     requires sender { (back.pass.hand.kind ≡ Inner) × (back.pass.hand.put ≡ []) }
     requires unmarked { ending.set ≡ None }
     ensures same { (result.1.intake.ghost_name ≡ intake.entry.ghost_name)
         × (result.1.relay.ghost_name ≡ back.entry.relay.ghost_name) }
+    ensures starter { result.1.starter ≡ starter }
     ensures lines { (result.1.caller.jobs.line ≡ caller.jobs.line) × (result.1.caller.frames.line ≡ context.now.frames.now)
         × (result.1.caller.answerer.notifier.line ≡ caller.answerer.notifier.line) }
     ensures marked { result.1.ending ≡ ended_by ending result.1.intake.now.received }
@@ -163,6 +165,7 @@ fn conduct_alone<'a, W: Work, S: Source, K: Sink, R: Wait + AllocGlobal>(
     let lent = LentEnds {
         intake,
         relay,
+        starter,
         caller,
         ending,
     };
@@ -178,24 +181,25 @@ fn conduct<
     W: Work,
     S: Source,
     K: Sink + Send,
+    T: Starter,
     R: Threads + Wait + AllocGlobal + Sync,
 >(
     scope: &Scope<'s, E>,
     context: &RunContext<'s, R, W>,
     flags: &'s [AtomicBool],
     no_more: &'s AtomicBool,
-    lent: LentEnds<'a, S, K>,
-    workers: Vec<Worker<W>>,
-) -> (Stopped, LentEnds<'a, S, K>, ClosedRun)
+    lent: LentEnds<'a, S, K, T>,
+) -> (Stopped, LentEnds<'a, S, K, T>, ClosedRun)
     requires lines { CallerOn context.now.jobs.now context.now.frames.now lent.caller }
     requires hands { (lent.caller.jobs.hand ≡ hand First 0 [] []) × (lent.caller.frames.hand ≡ hand First 0 [] []) }
-    requires workers { (workers.items ≡ []) × (length flags.now ≤ vec_capacity workers) }
     requires few { length flags.now ≤ MOST_WORKERS }
+    requires fresh { T.told lent.starter ≡ starts 0 0 }
     requires unmarked { lent.ending.set ≡ None }
     ensures same { (result.1.intake.ghost_name ≡ lent.entry.intake.ghost_name)
         × (result.1.relay.ghost_name ≡ lent.entry.relay.ghost_name) }
     ensures lines { CallerOn context.now.jobs.now context.now.frames.now result.1.caller }
     ensures marked { result.1.ending ≡ ended_by lent.entry.ending result.1.intake.now.received }
+    ensures starts { (made : ℕ) × AsksUpTo (1 + length flags.now) made (T.told lent.entry.starter) (T.told result.1.starter) }
     ensures conducts { Conducts (answering (W.owed context.now.work.now) W.DEFERS) result.0 lent.entry.intake.now
         result.1.intake.now (relay_of lent.entry.relay.now.outlet lent.entry.relay.now.book)
         (relay_of result.1.relay.now.outlet result.1.relay.now.book)
@@ -204,24 +208,23 @@ fn conduct<
     let LentEnds {
         intake,
         relay,
+        mut starter,
         mut caller,
         mut ending,
     } = lent;
     let (rt, frames) = (context.rt, context.frames);
     let pass = frames.split(&mut caller.frames, false);
-    let sender = match start_sender(scope, rt, frames, LentRelay { relay, pass }, no_more) {
+    let may_start = starter.ask();
+    let lent = LentRelay { relay, pass };
+    let sender = match start_sender(scope, rt, frames, lent, no_more, may_start) {
         Ok(sender) => sender,
-        Err(back) => return conduct_alone(context, intake, back, caller, ending),
+        Err(back) => {
+            starter.refuse();
+            return conduct_alone(context, intake, back, starter, caller, ending);
+        }
     };
-    let stopped = answer_all(
-        scope,
-        context,
-        flags,
-        intake,
-        &mut caller,
-        &mut ending,
-        workers,
-    );
+    let workers = start_workers(scope, context, flags, &mut starter, &mut caller);
+    let stopped = answer_all(context, flags, intake, &mut caller, &mut ending, workers);
     no_more.store(true, Ordering::SeqCst);
     frames.wake();
     let LentRelay { relay, pass } = sender.join(rt);
@@ -230,104 +233,89 @@ fn conduct<
     let lent = LentEnds {
         intake,
         relay,
+        starter,
         caller,
         ending,
     };
     (stopped, lent, closed)
 }
 
-/// Conducts a run in a scope of its own, at whose end no thread is left.
-fn run_in_scope<'a, W: Work, S: Source, K: Sink + Send, R: Threads + Wait + AllocGlobal + Sync>(
+/// Conducts a run with so many workers in a scope of its own, at whose end no thread is left.
+fn run_in_scope<
+    'a,
+    W: Work,
+    S: Source,
+    K: Sink + Send,
+    T: Starter,
+    R: Threads + Wait + AllocGlobal + Sync,
+>(
     context: &RunContext<R, W>,
-    flags: &[AtomicBool],
-    lent: LentEnds<'a, S, K>,
-    workers: Vec<Worker<W>>,
-) -> (Stopped, LentEnds<'a, S, K>, ClosedRun)
+    count: usize,
+    lent: LentEnds<'a, S, K, T>,
+) -> (Stopped, LentEnds<'a, S, K, T>, ClosedRun)
     requires lines { CallerOn context.now.jobs.now context.now.frames.now lent.caller }
     requires hands { (lent.caller.jobs.hand ≡ hand First 0 [] []) × (lent.caller.frames.hand ≡ hand First 0 [] []) }
-    requires workers { (workers.items ≡ []) × (length flags.now ≤ vec_capacity workers) }
-    requires few { length flags.now ≤ MOST_WORKERS }
+    requires few { count ≤ MOST_WORKERS }
+    requires fresh { T.told lent.starter ≡ starts 0 0 }
     requires unmarked { lent.ending.set ≡ None }
     ensures same { (result.1.intake.ghost_name ≡ lent.entry.intake.ghost_name)
         × (result.1.relay.ghost_name ≡ lent.entry.relay.ghost_name) }
     ensures lines { CallerOn context.now.jobs.now context.now.frames.now result.1.caller }
     ensures marked { result.1.ending ≡ ended_by lent.entry.ending result.1.intake.now.received }
+    ensures starts { (made : ℕ) × AsksUpTo (1 + count) made (T.told lent.entry.starter) (T.told result.1.starter) }
     ensures conducts { Conducts (answering (W.owed context.now.work.now) W.DEFERS) result.0 lent.entry.intake.now
         result.1.intake.now (relay_of lent.entry.relay.now.outlet lent.entry.relay.now.book)
         (relay_of result.1.relay.now.outlet result.1.relay.now.book)
         result.1.caller.jobs.hand result.1.caller.frames.hand }
 {
+    let all: [AtomicBool; MOST_WORKERS] = array::from_fn(|_place| AtomicBool::new(false));
+    let flags = &all[..count];
     let flag = AtomicBool::new(false);
     let no_more = &flag;
     thread::scope(
         thread::scope_env(),
         context.rt,
-        |scope| -> (Stopped, LentEnds<S, K>, ClosedRun)
+        |scope| -> (Stopped, LentEnds<S, K, T>, ClosedRun)
             requires lines { CallerOn context.now.jobs.now context.now.frames.now lent.caller }
             requires hands { (lent.caller.jobs.hand ≡ hand First 0 [] [])
                 × (lent.caller.frames.hand ≡ hand First 0 [] []) }
-            requires workers { (workers.items ≡ []) × (length flags.now ≤ vec_capacity workers) }
             requires few { length flags.now ≤ MOST_WORKERS }
+            requires fresh { T.told lent.starter ≡ starts 0 0 }
             requires unmarked { lent.ending.set ≡ None }
             ensures same { (result.1.intake.ghost_name ≡ lent.entry.intake.ghost_name)
                 × (result.1.relay.ghost_name ≡ lent.entry.relay.ghost_name) }
             ensures lines { CallerOn context.entry.now.jobs.now context.entry.now.frames.now result.1.caller }
             ensures marked { result.1.ending ≡ ended_by lent.entry.ending result.1.intake.now.received }
+            ensures starts { (made : ℕ) × AsksUpTo (1 + length flags.entry.now) made (T.told lent.entry.starter)
+                (T.told result.1.starter) }
             ensures conducts { Conducts (answering (W.owed context.entry.now.work.now) W.DEFERS) result.0
                 lent.entry.intake.now result.1.intake.now
                 (relay_of lent.entry.relay.now.outlet lent.entry.relay.now.book)
                 (relay_of result.1.relay.now.outlet result.1.relay.now.book)
                 result.1.caller.jobs.hand result.1.caller.frames.hand }
-        { conduct(scope, context, flags, no_more, lent, workers) },
+        { conduct(scope, context, flags, no_more, lent) },
     )
 }
 
-/// So many flags, all of them down.
-fn lowered(alloc: Global, count: usize) -> Result<Vec<AtomicBool>, NoMemory>
-    ensures { IfOk result (λ flags. vec_len flags ≤ count) }
-{
-    let mut flags = Vec::with_capacity(alloc, count)?;
-    for _flag in 0..count {
-        if flags.push(AtomicBool::new(false)).is_err() {
-            return Err(NoMemory);
-        }
-    }
-    Ok(flags)
-}
-
-/// Room for so many workers: a flag for each, and a place for its handle.
-fn room_for<W: Work>(
-    alloc: Global,
-    count: usize,
-) -> Result<(Vec<AtomicBool>, Vec<Worker<W>>), NoMemory>
-    ensures { IfOk result (λ r. (r.1.items ≡ []) × (vec_len r.0 ≤ vec_capacity r.1) × (vec_len r.0 ≤ count)) }
-{
-    let flags = lowered(alloc, count)?;
-    let workers = Vec::with_capacity(alloc, count)?;
-    Ok((flags, workers))
-}
-
-/// Conducts a run with so many workers, or with none where there is no memory for them.
-fn run_with<S: Source, K: Sink + Send, W: Work, R: Threads + Wait + AllocGlobal + Sync>(
+/// Conducts a run with so many workers, and gives back what its threads were started by.
+fn run_with<S: Source, K: Sink + Send, W: Work, T: Starter, R: Threads + Wait + AllocGlobal + Sync>(
     context: &RunContext<R, W>,
     count: usize,
+    starter: T,
     parts: RunParts<S, K>,
-) -> (Stopped, RunParts<S, K>)
+) -> (Stopped, RunParts<S, K>, T)
     requires lines { CallerOn context.now.jobs.now context.now.frames.now parts.caller }
     requires few { count ≤ MOST_WORKERS }
     requires hands { (parts.caller.jobs.hand ≡ hand First 0 [] []) × (parts.caller.frames.hand ≡ hand First 0 [] []) }
+    requires fresh { T.told starter ≡ starts 0 0 }
     requires unmarked { parts.ending.set ≡ None }
     ensures lines { CallerOn context.now.jobs.now context.now.frames.now result.1.caller }
     ensures marked { result.1.ending ≡ ended_by parts.ending result.1.intake.received }
+    ensures starts { (made : ℕ) × AsksUpTo (1 + count) made (T.told starter) (T.told result.2) }
     ensures conducts { Conducts (answering (W.owed context.now.work.now) W.DEFERS) result.0 parts.intake result.1.intake
         (relay_of parts.relay.outlet parts.relay.book) (relay_of result.1.relay.outlet result.1.relay.book)
         result.1.caller.jobs.hand result.1.caller.frames.hand }
 {
-    let alloc = context.rt.alloc();
-    let (flags, workers) = match room_for(alloc, count) {
-        Ok(room) => room,
-        Err(NoMemory) => (Vec::new(alloc), Vec::new(alloc)),
-    };
     let RunParts {
         mut intake,
         mut relay,
@@ -337,13 +325,15 @@ fn run_with<S: Source, K: Sink + Send, W: Work, R: Threads + Wait + AllocGlobal 
     let lent = LentEnds {
         intake: &mut intake,
         relay: &mut relay,
+        starter,
         caller,
         ending,
     };
-    let (stopped, back, _closed) = run_in_scope(context, flags.as_slice(), lent, workers);
+    let (stopped, back, _closed) = run_in_scope(context, count, lent);
     let LentEnds {
         intake: taken,
         relay: sent,
+        starter,
         caller,
         ending,
     } = back;
@@ -354,7 +344,7 @@ fn run_with<S: Source, K: Sink + Send, W: Work, R: Threads + Wait + AllocGlobal 
         caller,
         ending,
     };
-    (stopped, parts)
+    (stopped, parts, starter)
 }
 
 /// What a run of this work did: the messages taken, and what was sent. Where no reply comes later, a late frame is none
@@ -429,14 +419,15 @@ fn ended<W: Work, S: Source, K: Sink>(
 }
 
 /// Runs on these lines, which nobody has used.
-fn run_on<W: Work, S: Source, K: Sink + Send, R: Threads + Wait + AllocGlobal + Sync>(
+fn run_on<W: Work, S: Source, K: Sink + Send, T: Starter, R: Threads + Wait + AllocGlobal + Sync>(
     rt: &R,
     work: &W,
     count: usize,
+    starter: T,
     jobs: Arc<Line<RequestJob>, Global>,
     frames: Arc<Line<Parcel>, Global>,
     parts: RunParts<S, K>,
-) -> RunEnd<S, K>
+) -> (RunEnd<S, K>, T)
     requires lines { CallerOn (arc_value jobs) (arc_value frames) parts.caller }
     requires few { count ≤ MOST_WORKERS }
     requires hands { (parts.caller.jobs.hand ≡ hand First 0 [] []) × (parts.caller.frames.hand ≡ hand First 0 [] []) }
@@ -444,18 +435,20 @@ fn run_on<W: Work, S: Source, K: Sink + Send, R: Threads + Wait + AllocGlobal + 
     requires book { IsBookOf parts.relay.book [] [] [] }
     requires own { EachWaiting is_own parts.relay.book }
     requires unmarked { parts.ending.set ≡ None }
-    ensures run { W.DEFERS ≡ false → Run (UpToOrder (W.owed work.now) IsBroken) result.end
+    requires fresh { T.told starter ≡ starts 0 0 }
+    ensures run { W.DEFERS ≡ false → Run (UpToOrder (W.owed work.now) IsBroken) result.0.end
         (progress parts.intake.source parts.relay.outlet.sink nothing_yet [])
-        (progress (S.told result.source) (K.told result.sink) result.transcript (unasked_of result.buffers)) }
-    ensures later { Run (NoneHeldBack (W.owed work.now) IsBroken (late_of result.buffers)
-        (result.transcript.unrecorded ≡ 0)) result.end
+        (progress (S.told result.0.source) (K.told result.0.sink) result.0.transcript (unasked_of result.0.buffers)) }
+    ensures later { Run (NoneHeldBack (W.owed work.now) IsBroken (late_of result.0.buffers)
+        (result.0.transcript.unrecorded ≡ 0)) result.0.end
         (progress parts.intake.source parts.relay.outlet.sink nothing_yet [])
-        (progress (S.told result.source) (K.told result.sink) result.transcript
-        (unasked_of result.buffers)) }
-    ensures recorded { W.DEFERS ≡ false → result.transcript.unrecorded ≡ 0 }
-    ensures marked { result.buffers.end ≡ ended_by parts.ending result.transcript.received }
-    ensures lines { IsOn (arc_value jobs) (arc_value frames) result.buffers }
-    ensures drained { IsDrained result.buffers }
+        (progress (S.told result.0.source) (K.told result.0.sink) result.0.transcript
+        (unasked_of result.0.buffers)) }
+    ensures recorded { W.DEFERS ≡ false → result.0.transcript.unrecorded ≡ 0 }
+    ensures marked { result.0.buffers.end ≡ ended_by parts.ending result.0.transcript.received }
+    ensures lines { IsOn (arc_value jobs) (arc_value frames) result.0.buffers }
+    ensures drained { IsDrained result.0.buffers }
+    ensures starts { (made : ℕ) × AsksUpTo (1 + count) made (T.told starter) (T.told result.1) }
 {
     let context = RunContext {
         rt,
@@ -463,8 +456,9 @@ fn run_on<W: Work, S: Source, K: Sink + Send, R: Threads + Wait + AllocGlobal + 
         jobs: &jobs,
         frames: &frames,
     };
-    let (stopped, parts) = run_with(&context, count, parts);
-    ended::<W, S, K>(stopped.end(), parts, jobs, frames)
+    let (stopped, parts, starter) = run_with(&context, count, starter, parts);
+    let run = ended::<W, S, K>(stopped.end(), parts, jobs, frames);
+    (run, starter)
 }
 
 /// Answers messages on `n` threads, but at most `MOST_WORKERS`, until the source has none left or one ends the run.
@@ -475,6 +469,90 @@ fn run_on<W: Work, S: Source, K: Sink + Send, R: Threads + Wait + AllocGlobal + 
 /// Replies are sent in any order, but the reply to DESTROY after all others that are given at once. A reply that comes
 /// later is sent once its mark, which went out in its place, has come to whoever sends; where that is the caller, which
 /// receives too, it looks for such replies once it has answered the next message.
+///
+/// Each thread is asked for first, the sender before the workers. Once one could not be started, no more are asked for.
+pub fn run_workers_by<
+    T: Starter,
+    R: Threads + Wait + AllocGlobal + Sync,
+    W: Work,
+    S: Source,
+    K: Sink + Send,
+>(rt: &R, starter: T, work: &W, source: S, sink: K, buffers: Buffers, n: usize) -> (RunEnd<S, K>, T)
+    // Buffers serve one run.
+    requires unused { IsUnused buffers }
+
+    // What lets threads be started serves one run.
+    requires fresh { T.told starter ≡ starts 0 0 }
+
+    // Where no reply comes later: what was taken, sent, lost and counted, up to order, and why it ended so.
+    ensures run { W.DEFERS ≡ false → Run (UpToOrder (W.owed work.now) IsBroken) result.0.end
+        (progress (S.told source) (K.told sink) nothing_yet [])
+        (progress (S.told result.0.source) (K.told result.0.sink) result.0.transcript (unasked_of result.0.buffers)) }
+
+    // The same where replies may come later: see `OnePerMessageLater` and `NoneHeldBack`.
+    ensures later { Run (NoneHeldBack (W.owed work.now) IsBroken (late_of result.0.buffers)
+        (result.0.transcript.unrecorded ≡ 0)) result.0.end
+        (progress (S.told source) (K.told sink) nothing_yet [])
+        (progress (S.told result.0.source) (K.told result.0.sink) result.0.transcript
+        (unasked_of result.0.buffers)) }
+
+    // All could be recorded where no reply comes later.
+    ensures recorded { W.DEFERS ≡ false → result.0.transcript.unrecorded ≡ 0 }
+
+    // The end is marked with the number of messages that were taken.
+    ensures marked { result.0.buffers.end ≡ ended_by buffers.end result.0.transcript.received }
+
+    // Where the sink refused nothing, the notices that were sent are those that were taken off the line, in order.
+    ensures notices { Quiet (K.told sink) (K.told result.0.sink) → PassesOnAll
+        (progress (S.told source) (K.told sink) nothing_yet [])
+        (progress (S.told result.0.source) (K.told result.0.sink) result.0.transcript (unasked_of result.0.buffers)) }
+
+    // The lines are those of the buffers, and what makes notifiers has a door to the line of frames.
+    ensures lines { IsOn buffers.jobs.line buffers.frames.line result.0.buffers }
+
+    // Each job and each reply that was pushed on a line was taken off it, and no worker and no sender is left.
+    ensures drained { IsDrained result.0.buffers }
+
+    // As many threads are asked for as are to answer, and one that sends; or fewer are started, and then one that could not be.
+    ensures starts { (made : ℕ) × AsksUpTo (1 + min n MOST_WORKERS) made (T.told starter) (T.told result.1) }
+{
+    let Buffers { receive, lines } = buffers;
+    let Lines {
+        frames: RunLine {
+            line: frames,
+            pass: frame_pass,
+        },
+        jobs: RunLine {
+            line: jobs,
+            pass: job_pass,
+        },
+        answerer,
+        ending,
+    } = lines;
+    let parts = RunParts {
+        intake: Intake {
+            source,
+            buffer: receive,
+            received: 0,
+        },
+        relay: Relay {
+            outlet: Outlet {
+                sink,
+                transcript: Transcript::new(),
+            },
+            book: Book::new(rt.alloc()),
+        },
+        caller: Caller {
+            jobs: job_pass,
+            frames: frame_pass,
+            answerer,
+        },
+        ending,
+    };
+    run_on(rt, work, n.min(MOST_WORKERS), starter, jobs, frames, parts)
+}
+
+/// Answers messages as `run_workers_by` does, by threads that the system alone refuses.
 pub fn run_workers<R: Threads + Wait + AllocGlobal + Sync, W: Work, S: Source, K: Sink + Send>(
     rt: &R,
     work: &W,
@@ -515,38 +593,7 @@ pub fn run_workers<R: Threads + Wait + AllocGlobal + Sync, W: Work, S: Source, K
     // Each job and each reply that was pushed on a line was taken off it, and no worker and no sender is left.
     ensures drained { IsDrained result.buffers }
 {
-    let Buffers { receive, lines } = buffers;
-    let Lines {
-        frames: RunLine {
-            line: frames,
-            pass: frame_pass,
-        },
-        jobs: RunLine {
-            line: jobs,
-            pass: job_pass,
-        },
-        answerer,
-        ending,
-    } = lines;
-    let parts = RunParts {
-        intake: Intake {
-            source,
-            buffer: receive,
-            received: 0,
-        },
-        relay: Relay {
-            outlet: Outlet {
-                sink,
-                transcript: Transcript::new(),
-            },
-            book: Book::new(rt.alloc()),
-        },
-        caller: Caller {
-            jobs: job_pass,
-            frames: frame_pass,
-            answerer,
-        },
-        ending,
-    };
-    run_on(rt, work, n.min(MOST_WORKERS), jobs, frames, parts)
+    let starter = SystemStarter::new();
+    let (run, _starter) = run_workers_by(rt, starter, work, source, sink, buffers, n);
+    run
 }

@@ -46,7 +46,7 @@ fn late<R: Wait + AllocGlobal + Abort>(rt: &R, seq: u64, id: RequestId) -> LateF
     queue_late(rt, reply.with_door(doors.door(seq)));
     drop(doors);
     match line.next(rt) {
-        Some(Parcel::Late(frame)) => frame,
+        Ok(Parcel::Late(frame)) => frame,
         _other => panic!(rt; "the frame waits"),
     }
 }
@@ -59,7 +59,7 @@ fn notice<R: Wait + AllocGlobal + Abort>(rt: &R) -> NoticeFrame {
         .poll(rt, PollHandle(4))
         .expect(rt, "the line has a place");
     match line.next(rt) {
-        Some(Parcel::Notice(frame)) => frame,
+        Ok(Parcel::Notice(frame)) => frame,
         _other => panic!(rt; "the notice waits"),
     }
 }

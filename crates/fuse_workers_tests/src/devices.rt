@@ -175,6 +175,7 @@ impl Sink for WatchedSink {
       notes = None;
       tail = None;
       faults = s.faults;
+      absences = 0;
       origin = record { bytes = None; faults = 0 };
     } };
 
@@ -182,16 +183,13 @@ impl Sink for WatchedSink {
     fn send(&mut self, header: &[u8; 16], payload: &[u8]) -> Sending {
         let may_go = self.lets_go();
         self.least = 0;
-        let sending = if may_go {
-            self.inner.send(header, payload)
-        } else {
-            Sending::Failed
-        };
+        let is_sent = may_go && self.inner.send(header, payload) == Sending::Sent;
         self.sent.fetch_add(1, Ordering::SeqCst);
-        if sending != Sending::Sent {
-            self.faults = self.faults.saturating_add(1);
+        if is_sent {
+            return Sending::Sent;
         }
-        sending
+        self.faults = self.faults.saturating_add(1);
+        Sending::Failed
     }
 
     /// Takes none.

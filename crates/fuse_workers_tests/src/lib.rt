@@ -24,6 +24,10 @@ mod run_tests;
 #[cfg(test)]
 mod runs;
 #[cfg(test)]
+mod start_tests;
+#[cfg(test)]
+mod starts;
+#[cfg(test)]
 mod telling;
 #[cfg(test)]
 mod turns;

@@ -97,6 +97,7 @@ impl Sink for Counted {
       notes = None;
       tail = None;
       faults = s.faults;
+      absences = 0;
       origin = record { bytes = None; faults = 0 };
     } };
 

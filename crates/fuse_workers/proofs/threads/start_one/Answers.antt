@@ -9,8 +9,8 @@ use Rattle.fuse_core.specs.declared.state.Job.{Job}
 use Rattle.fuse_workers.proofs.Working.{Caller-joined, Caller-split}
 use Rattle.fuse_workers.proofs.threads.start_one.Goals as goal
 
-pub returns-in-Err-clause-caller : goal.returns-in-Err-clause-caller
-returns-in-Err-clause-caller g c =
+pub returns-clause-caller : goal.returns-clause-caller
+returns-clause-caller g c =
     let owed : Owing = answering (g.W.Work.owed c.args.context.now.work.now) g.W.Work.DEFERS in
     let back = c.worker-job_pass.result in
     let j = c.args.caller.now.jobs.hand in

@@ -18,7 +18,7 @@ returns-clause-run g c never =
     let first = c.args.parts in
     let stopped = c.run_with-stopped.result.0 in
     let ends = c.run_with-stopped.result.1 in
-    let told = c.ended.result in
+    let told = c.ended-run.result in
     let taken = ends.caller.frames.hand.taken in
     let conducts = c.run_with-stopped.ensures.conducts in
     let run = Run-prompt owed g.W.Work.DEFERS stopped first.intake ends.intake (relay_of first.relay.outlet first.relay.book)
@@ -29,13 +29,13 @@ returns-clause-run g c never =
       unrecorded = told.transcript.unrecorded;
     }) (notices_in taken)
     ≡ progress (g.S.Source.told told.source) (g.K.Sink.told told.sink) told.transcript (unasked_of told.buffers) =
-    let a = sym c.ended.ensures.ends.0 in
-    let b = sym c.ended.ensures.ends.1 in
-    let t = sym c.ended.ensures.transcript in
-    let u : notices_in taken ≡ unasked_of told.buffers = ap (λ (l : LinesState). unasked_of l) (sym c.ended.ensures.buffers) in cc in
+    let a = sym c.ended-run.ensures.ends.0 in
+    let b = sym c.ended-run.ensures.ends.1 in
+    let t = sym c.ended-run.ensures.transcript in
+    let u : notices_in taken ≡ unasked_of told.buffers = ap (λ (l : LinesState). unasked_of l) (sym c.ended-run.ensures.buffers) in cc in
     let before = progress first.intake.source first.relay.outlet.sink nothing_yet [] in
     subst (λ (e : End). Run (UpToOrder owed IsBroken) e before (progress (g.S.Source.told told.source) (g.K.Sink.told told.sink) told.transcript
-    (unasked_of told.buffers))) (sym (c.ended.ensures.end ∙ c.end.ensures))
+    (unasked_of told.buffers))) (sym (c.ended-run.ensures.end ∙ c.end.ensures))
     (subst (λ (q : Progress). Run (UpToOrder owed IsBroken) (end_of stopped) before q) last run)
 
 pub returns-clause-later : goal.returns-clause-later
@@ -44,27 +44,27 @@ returns-clause-later g c =
     let first = c.args.parts in
     let stopped = c.run_with-stopped.result.0 in
     let ends = c.run_with-stopped.result.1 in
-    let told = c.ended.result in
+    let told = c.ended-run.result in
     let taken = ends.caller.frames.hand.taken in
     let conducts = c.run_with-stopped.ensures.conducts in
     let recorded : Type 0 = told.transcript.unrecorded ≡ 0 in
     let run = Run-later owed g.W.Work.DEFERS stopped first.intake ends.intake (relay_of first.relay.outlet first.relay.book)
     (relay_of ends.relay.outlet ends.relay.book) ends.caller.jobs.hand ends.caller.frames.hand
     conducts c.requires.nothing.0 c.requires.nothing.1 c.requires.book c.requires.own told.transcript.unrecorded recorded
-    (kept-by g.W.Work.DEFERS told.transcript.unrecorded ends.relay.book.unrecorded c.ended.ensures.later) in
+    (kept-by g.W.Work.DEFERS told.transcript.unrecorded ends.relay.book.unrecorded c.ended-run.ensures.later) in
     let last : progress ends.intake.source ends.relay.outlet.sink (record ends.relay.outlet.counts {
       received = ends.intake.received;
       unrecorded = told.transcript.unrecorded;
     }) (notices_in taken)
     ≡ progress (g.S.Source.told told.source) (g.K.Sink.told told.sink) told.transcript (unasked_of told.buffers) =
-    let a = sym c.ended.ensures.ends.0 in
-    let b = sym c.ended.ensures.ends.1 in
-    let t = sym c.ended.ensures.transcript in
-    let u : notices_in taken ≡ unasked_of told.buffers = ap (λ (l : LinesState). unasked_of l) (sym c.ended.ensures.buffers) in cc in
+    let a = sym c.ended-run.ensures.ends.0 in
+    let b = sym c.ended-run.ensures.ends.1 in
+    let t = sym c.ended-run.ensures.transcript in
+    let u : notices_in taken ≡ unasked_of told.buffers = ap (λ (l : LinesState). unasked_of l) (sym c.ended-run.ensures.buffers) in cc in
     let before = progress first.intake.source first.relay.outlet.sink nothing_yet [] in
-    let late : lates_in taken ≡ late_of told.buffers = ap (λ (l : LinesState). late_of l) (sym c.ended.ensures.buffers) in
+    let late : lates_in taken ≡ late_of told.buffers = ap (λ (l : LinesState). late_of l) (sym c.ended-run.ensures.buffers) in
     subst (λ (e : End). Run (NoneHeldBack owed IsBroken (late_of told.buffers) recorded) e before (progress (g.S.Source.told told.source)
-    (g.K.Sink.told told.sink) told.transcript (unasked_of told.buffers))) (sym (c.ended.ensures.end ∙ c.end.ensures))
+    (g.K.Sink.told told.sink) told.transcript (unasked_of told.buffers))) (sym (c.ended-run.ensures.end ∙ c.end.ensures))
     (subst (λ (q : Progress). Run (NoneHeldBack owed IsBroken (late_of told.buffers) recorded) (end_of stopped) before q) last
     (subst (λ (came : List LateSeen). Run (NoneHeldBack owed IsBroken came recorded) (end_of stopped) before
     (progress ends.intake.source ends.relay.outlet.sink (record ends.relay.outlet.counts {

@@ -1,5 +1,5 @@
 use Rattle.fuse_loop.proofs.Quieting.{PassesOnAll-quiet}
-use Rattle.fuse_workers.proofs.workers.run_workers.Goals as goal
+use Rattle.fuse_workers.proofs.workers.run_workers_by.Goals as goal
 
 pub returns-clause-notices : goal.returns-clause-notices
 returns-clause-notices g c quiet =
