@@ -2,3 +2,4 @@ pub mod Serving
 mod Judging
 mod Deferring
 pub mod Answering
+mod Forgetting

@@ -1,5 +1,5 @@
 -- What a call is answered where a filesystem wants nothing of its own: what the Rust crate's default methods answer.
-use Rattle.std.specs.Prelude.{◌≡◌, ℕ, zero, suc, List, Option, None, Some, length, slice_get}
+use Rattle.std.specs.Prelude.{◌≡◌, ℕ, List, [], ◌∷◌}
 use Rattle.fuse_wire.specs.ErrorNumbers.{EPERM, ENOSYS}
 use Rattle.fuse_request.specs.Call.{Call}
 use Rattle.fuse_request.specs.Call.Call.{SymLink, Link, Open, StatFs, Release, OpenDir, ReleaseDir}
@@ -22,16 +22,13 @@ default_answer c = Error ENOSYS
 abbrev pub default_mark : ℕ
 default_mark = 0
 
--- the row before a place
-abbrev pub before : {A : Type 0} → (place : ℕ) → List A → Option A
-before zero rows = None
-before (suc place) rows = slice_get rows place
+-- one call of what forgets a row: it may give this mark, and leave this for the next call
+abbrev pub Forgets : Type 0 → Type 1
+Forgets F = (forget : F) (ino nlookup mark : ℕ) (left : F) → Type 0
 
--- the mark that came of a row, or that mark where there is none
-abbrev pub IsRowMark : (Came : (ino nlookup mark : ℕ) → Type 0) → Option (ℕ × ℕ) → (mark : ℕ) → Type 0
-IsRowMark Came None mark = mark ≡ default_mark
-IsRowMark Came (Some row) mark = Came row.0 row.1 mark
-
--- the mark of a batch of forgets: what came of its last row, or that mark where there is no row
-abbrev pub IsLastMark : (Came : (ino nlookup mark : ℕ) → Type 0) → (rows : List (ℕ × ℕ)) → (mark : ℕ) → Type 0
-IsLastMark Came rows mark = IsRowMark Came (before (length rows) rows) mark
+-- The mark after a batch of forgets, where it was one before: each row is forgotten, in order, by what the row before it left, and
+-- the mark is the one that came of the last.
+abbrev pub IsMarkAfter : {F : Type 0} → Forgets F → (forget : F) → (rows : List (ℕ × ℕ)) → (before after : ℕ) → Type 0
+IsMarkAfter Calls forget [] before after = after ≡ before
+IsMarkAfter {F} Calls forget (row ∷ rows) before after =
+    (mark : ℕ) × (left : F) × Calls forget row.0 row.1 mark left × IsMarkAfter Calls left rows mark after

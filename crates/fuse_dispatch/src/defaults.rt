@@ -6,7 +6,7 @@ ghost use Rattle.fuse_reply.specs.Frame.{reply as reply_of};
 ghost use Rattle.fuse_reply.specs.declared.out.Out.{Out};
 ghost use Rattle.fuse_request.specs.Forgets.{rows_of};
 ghost use Rattle.fuse_wire.specs.ErrorNumbers.{ENOSYS, EPERM};
-ghost use Rattle.fuse_dispatch.specs.Defaults.{IsLastMark, default_mark};
+ghost use Rattle.fuse_dispatch.specs.Defaults.{IsMarkAfter, default_mark};
 
 use bitflags::Flags;
 use fuse_reply::{
@@ -297,9 +297,10 @@ pub fn poll(reply: ReplyPoll) -> Replied
 }
 
 /// Calls `forget` for each row, in order. The mark that it gave for the last one, or 0 where there is no row.
-pub fn batch_forget<F: Fn(INodeNo, u64) -> u64>(nodes: ForgetList<'_>, forget: F) -> u64
+pub fn batch_forget<F: FnMut(INodeNo, u64) -> u64>(nodes: ForgetList<'_>, mut forget: F) -> u64
     requires { F.IsAlwaysCallable forget }
-    ensures { IsLastMark (λ ino nlookup. F.post forget (record { 0 = ino }) nlookup) (rows_of nodes.entry) result }
+    ensures { IsMarkAfter (λ f ino nlookup. F.step f (record { 0 = ino }) nlookup) forget (rows_of nodes.entry)
+        default_mark result }
 {
     let mut mark = 0;
     for place in 0..nodes.len() {
