@@ -7,7 +7,7 @@ use Rattle.std.proofs.lemmas.List.Elements.{filter-append}
 use Rattle.std.proofs.lemmas.List.Folds.{concat-append}
 use Rattle.fuse_wire.specs.Frames.{IsFrame, frames}
 use Rattle.fuse_wire.specs.Numbers.{number}
-use Rattle.fuse_wire.specs.Sink.{Note, Puts}
+use Rattle.fuse_wire.specs.Sink.{Appends, Note, Sends}
 use Rattle.fuse_wire.specs.declared.sink.Sending.TheVariants.{Sent}
 use Rattle.fuse_wire.proofs.Frames.{frames-concat}
 use Rattle.fuse_wire.proofs.NumberFront.{number-append}
@@ -138,20 +138,20 @@ pub error-status : (header payload : List ℕ) (status : ℕ) → length header 
 error-status header payload status sized is =
     ap (λ (n : ℕ). nat_le (2 ^ 31) n) (number-append header payload 4 4 (omega (arith, sized)) ∙ sym is)
 
--- one more frame was put
-pub Puts-frame : (bytes frame : List ℕ) (notes : List Note) (starved : ℕ) → concat (frames bytes) ≡ bytes → AllByRecursion IsFrame (frames bytes)
+-- one more frame was sent
+pub Sends-frame : (bytes frame : List ℕ) (notes : List Note) (starved : ℕ) → concat (frames bytes) ≡ bytes → AllByRecursion IsFrame (frames bytes)
     → IsFrame frame
-    → Puts (frame ∷ []) [] (stored_told (record { frames = frames bytes; notes = notes; starved = starved }))
+    → Sends Sent frame (stored_told (record { frames = frames bytes; notes = notes; starved = starved }))
     (stored_told (record { frames = frames (bytes ++ frame); notes = notes; starved = starved }))
-Puts-frame bytes frame notes starved joined each whole = (
-  record {
-    framed = ap Some (frames-one_more bytes frame joined each whole);
-    noted = ap Some (sym (append-nil notes));
-    faults = omega arith;
-    origin = refl;
-  },
-  refl,
-)
+Sends-frame bytes frame notes starved joined each whole =
+    let appends : Appends (frame ∷ []) [] (stored_told (record { frames = frames bytes; notes = notes; starved = starved }))
+    (stored_told (record { frames = frames (bytes ++ frame); notes = notes; starved = starved })) = record {
+      framed = ap Some (frames-one_more bytes frame joined each whole);
+      noted = ap Some (sym (append-nil notes));
+      faults = omega arith;
+      origin = refl;
+    } in
+    ((appends, refl), refl)
 
 -- and is one more in the store
 pub SendsStored-frame : (bytes frame : List ℕ) (notes : List Note) (starved : ℕ) → concat (frames bytes) ≡ bytes → AllByRecursion IsFrame (frames bytes)

@@ -59,6 +59,7 @@ stored_told store = record {
   notes = Some store.notes;
   tail = None;
   faults = store.starved;
+  absences = 0;
   origin = record { bytes = None; faults = 0 };
 }
 

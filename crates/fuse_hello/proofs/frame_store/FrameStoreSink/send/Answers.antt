@@ -1,7 +1,7 @@
 use Rattle.std.proofs.Common.{◌≡◌, ◌∙◌, ◌-◌, ◌++◌, ◌≤◌, ℕ, List, Bool, true, false, leb, subst, sym, ap, length, arith, length-append, if◌then◌else◌}
 use mir.Val.{bool_byte}
 use Rattle.fuse_hello.specs.Store.{IsStored}
-use Rattle.fuse_hello.proofs.Storing.{IsFrame-parts, IsStored-aside, IsStored-reply, IsStored-small, Puts-frame, SendsStored-frame, aside-status, error-status}
+use Rattle.fuse_hello.proofs.Storing.{IsFrame-parts, IsStored-aside, IsStored-reply, IsStored-small, Sends-frame, SendsStored-frame, aside-status, error-status}
 use Rattle.fuse_hello.proofs.frame_store.FrameStoreSink.send.Goals as goal
 
 pub invariant_of-self-then-is_notice : goal.invariant_of-self-then-is_notice
@@ -20,7 +20,7 @@ returns-then-is_notice c =
     let payload = c.args.payload.now in
     let whole = IsFrame-parts header payload c.told-header c.requires in
     record {
-      sends = rw (← c.self.view_is) (rw c.in-Ok.ensures.ok (Puts-frame c.self.inside.bytes.items (header ++ payload) _ c.self.inside.starved
+      sends = rw (← c.self.view_is) (rw c.in-Ok.ensures.ok (Sends-frame c.self.inside.bytes.items (header ++ payload) _ c.self.inside.starved
           c.self.invariant.joined c.self.invariant.each whole));
       exactly = rw (← c.self.view_is) (rw c.in-Ok.ensures.ok (SendsStored-frame c.self.inside.bytes.items (header ++ payload) _ c.self.inside.starved
           c.self.invariant.joined c.self.invariant.each whole));
@@ -72,7 +72,7 @@ returns c =
     let payload = c.args.payload.now in
     let whole = IsFrame-parts header payload c.told-header c.requires in
     record {
-      sends = rw (← c.self.view_is) (rw c.in-Ok.ensures.ok (Puts-frame c.self.inside.bytes.items (header ++ payload) _ c.self.inside.starved
+      sends = rw (← c.self.view_is) (rw c.in-Ok.ensures.ok (Sends-frame c.self.inside.bytes.items (header ++ payload) _ c.self.inside.starved
           c.self.invariant.joined c.self.invariant.each whole));
       exactly = rw (← c.self.view_is) (rw c.in-Ok.ensures.ok (SendsStored-frame c.self.inside.bytes.items (header ++ payload) _ c.self.inside.starved
           c.self.invariant.joined c.self.invariant.each whole));
