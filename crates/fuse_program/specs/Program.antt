@@ -1,5 +1,5 @@
 -- What the program reads and writes where its words are a form: a session over the bytes of its input and output.
-use Rattle.std.specs.Prelude.{◌≡◌, ◌≢◌, ◌⊎◌, ◌<◌, ◌++◌, ℕ, Bool, true, false, not, List, [], ◌∷◌, Some, IfSome, Err, length, filter}
+use Rattle.std.specs.Prelude.{◌≡◌, ◌≢◌, ◌⊎◌, ◌<◌, ◌++◌, ℕ, Bool, true, false, not, List, [], ◌∷◌, None, Some, IfSome, Err, length, filter}
 use Rattle.std.specs.List.{concat, AllByRecursion}
 use Rattle.std.specs.Option.{MatchOption}
 use Rattle.fuse_wire.specs.Faults.{last_count, Rose}
@@ -130,3 +130,17 @@ pub record InputWell (form : ServeForm) (input input' : ByteSourceState) (output
   pub served : 0 < form.threads
   pub input_still : Still input.faults input'.faults
   pub output_still : Still output.faults output'.faults
+
+-- an input that tells none of its bytes, of which so many reads failed
+abbrev pub untold_input : ℕ → ByteSourceState
+untold_input failed = record { bytes = None; faults = failed }
+
+-- an output that tells none of its bytes, of which so many writes failed
+abbrev pub untold_output : ℕ → ByteSinkState
+untold_output failed = record { bytes = None; faults = failed }
+
+-- A session over an input and an output that tell none of their bytes, and had failed nowhere before: its outcome gives the status.
+pub record UntoldSession (form : ServeForm) (exit : ℕ) : Type 0 where
+  pub failed_reads : ℕ
+  pub failed_writes : ℕ
+  pub exchange : ByteExchange form exit (untold_input 0) (untold_input failed_reads) (untold_output 0) (untold_output failed_writes)

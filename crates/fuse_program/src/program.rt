@@ -3,7 +3,7 @@ ghost use Rattle.std.specs.Prelude.{◌≡◌, ◌≢◌, ◌↔◌, ◌⊎◌, 
 ghost use Rattle.fuse_program.specs.Form.{IsNoForm, form_of, gen_form_of, load_form_of};
 ghost use Rattle.fuse_program.specs.Generated.{Generates};
 ghost use Rattle.fuse_program.specs.Load.{Loads, WritesOneLine};
-ghost use Rattle.fuse_program.specs.Program.{AnsweredInOrder, ByteExchange, EachAnswered, InputWell, Still};
+ghost use Rattle.fuse_program.specs.Program.{AnsweredInOrder, ByteExchange, EachAnswered, InputWell, Still, UntoldSession};
 ghost use Rattle.fuse_program.specs.Status.{IsExit, IsGenStatus, IsLoadStatus, IsSessionStatus};
 
 use crate::arguments::{GenForm, LoadForm, ServeForm, gen_form, load_form, serve_form};
@@ -193,6 +193,9 @@ pub fn run<R: Threads + Wait + AllocGlobal + Sync, I: Read + Drop, O: Write + Se
 ) -> u8
     ensures form { (result ≡ 2) ↔ IsNoForm (map (λ w. w.now) words.now) }
     ensures statuses { IsExit result }
+
+    // For `serve`, but for 9: it is that of the outcome of a session: see `UntoldSession`.
+    ensures session { result ≢ 9 → IfSome (form_of (map (λ w. w.now) words.now)) (λ form. UntoldSession form result) }
     ensures generated { IfSome (gen_form_of (map (λ w. w.now) words.now)) (λ form. IsGenStatus result) }
     ensures loaded { IfSome (load_form_of (map (λ w. w.now) words.now)) (λ form. IsLoadStatus form.threads result) }
 {

@@ -6,3 +6,4 @@ mod Headlining
 mod Completing
 mod SessionParts
 mod Opening
+mod Handing

@@ -62,7 +62,7 @@ Accounted-many owed threads defers never many end p q run = Run-accounted run (r
 })
 
 -- a session that ended so, and all that is left of it
-pub Ran-ends : {F : Type 0} (promise : Promise F) (session seen : Opened F) (fs' : F) (outcome found : Outcome) (shaken counts found_counts : Transcript)
+pub Ran-ends : {F S K : Type 0} (promise : Promise F) (session seen : Opened F S K) (fs' : F) (outcome found : Outcome) (shaken counts found_counts : Transcript)
     (source : SourceState) (sink : SinkState) (source' source'' : SourceState) (sink' sink'' : SinkState)
     → session ≡ seen → seen.progress ≡ progress source sink shaken []
     → ((unasked : List (List ℕ)) × LaterServed promise seen.filesystem seen.acl seen.owner seen.threads found (progress source sink shaken [])

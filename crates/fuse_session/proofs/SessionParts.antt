@@ -27,7 +27,7 @@ use Rattle.fuse_session.proofs.Exchanging.{Exchange-ran, Exchange-unserved}
 use Rattle.fuse_session.proofs.Headlining.{Headline-from_exchange, LaterHeadline-from_exchange, OrderedHeadline-from_exchange}
 
 -- a handshake that was accepted and a run after it are a session
-pub Exchange-opened : {F : Type 0} (promise : Promise F) (page : ℕ) (fs : F) (source : SourceState) (sink : SinkState) (session : Opened F)
+pub Exchange-opened : {F S K : Type 0} (promise : Promise F) (page : ℕ) (fs : F) (source : SourceState) (sink : SinkState) (session : Opened F S K)
     (outcome : Outcome) (after : Progress) → IsOpened promise page fs source sink session
     → LaterServed promise session.filesystem session.acl session.owner session.threads outcome session.progress after
     → Exchange (setup_for promise page session) fs session.filesystem outcome (progress source sink nothing_yet []) after
@@ -40,8 +40,8 @@ Exchange-opened {F} promise page fs source sink session outcome after opened (in
     subst (λ (o : Outcome). Exchange (setup_for promise page session) fs session.filesystem o (progress source sink nothing_yet []) after)
     (sym ran.1.1) (Exchange-ran {setup = setup_for promise page session} ran.0 opened ran.1.2)
 
-pub Mounted-ran : {F : Type 0} (promise : Promise F) (page : ℕ) (fs fs' : F) (source source' : SourceState) (sink sink' : SinkState)
-    (session : Opened F) (outcome : Outcome) (counts : Transcript) → IsOpened promise page fs source sink session
+pub Mounted-ran : {F S K : Type 0} (promise : Promise F) (page : ℕ) (fs fs' : F) (source source' : SourceState) (sink sink' : SinkState)
+    (session : Opened F S K) (outcome : Outcome) (counts : Transcript) → IsOpened promise page fs source sink session
     → Ran promise session fs' outcome source' sink' counts
     → Mounted (setup_for promise page session) fs fs' outcome source source' sink sink' counts
 Mounted-ran promise page fs fs' source source' sink sink' session outcome counts opened ran = record {
@@ -52,8 +52,8 @@ Mounted-ran promise page fs fs' source source' sink sink' session outcome counts
 }
 
 -- a session that ended well has its one reply for each message
-pub Headline-ran : {F : Type 0} (promise : Promise F) (page : ℕ) (fs fs' : F) (source source' : SourceState) (sink sink' : SinkState)
-    (session : Opened F) (outcome : Outcome) (counts : Transcript) → NeverLater session.threads promise.defers → IsOpened promise page fs source sink session
+pub Headline-ran : {F S K : Type 0} (promise : Promise F) (page : ℕ) (fs fs' : F) (source source' : SourceState) (sink sink' : SinkState)
+    (session : Opened F S K) (outcome : Outcome) (counts : Transcript) → NeverLater session.threads promise.defers → IsOpened promise page fs source sink session
     → Ran promise session fs' outcome source' sink' counts → outcome ≡ Ok tt → Lossless sink sink' counts
     → Headline promise page session.acl session.owner fs source source' sink sink'
 Headline-ran promise page fs fs' source source' sink sink' session outcome counts never opened ran ok lossless =
@@ -65,8 +65,8 @@ Headline-ran promise page fs fs' source source' sink sink' session outcome count
     (Exchange-opened promise page fs source sink session outcome q opened ran.ends)) refl lossless
 
 -- in order, where no more than one thread serves
-pub OrderedHeadline-ran : {F : Type 0} (promise : Promise F) (page : ℕ) (fs fs' : F) (source source' : SourceState) (sink sink' : SinkState)
-    (session : Opened F) (outcome : Outcome) (counts : Transcript) → ¬ (ManyThreads session.threads) → IsOpened promise page fs source sink session
+pub OrderedHeadline-ran : {F S K : Type 0} (promise : Promise F) (page : ℕ) (fs fs' : F) (source source' : SourceState) (sink sink' : SinkState)
+    (session : Opened F S K) (outcome : Outcome) (counts : Transcript) → ¬ (ManyThreads session.threads) → IsOpened promise page fs source sink session
     → Ran promise session fs' outcome source' sink' counts → outcome ≡ Ok tt → Lossless sink sink' counts
     → OrderedHeadline promise page session.acl session.owner fs source source' sink sink'
 OrderedHeadline-ran promise page fs fs' source source' sink sink' session outcome counts one opened ran ok lossless =
@@ -78,8 +78,8 @@ OrderedHeadline-ran promise page fs fs' source source' sink sink' session outcom
     (Exchange-opened promise page fs source sink session outcome q opened ran.ends)) refl lossless
 
 -- or the mark of one that came later
-pub LaterHeadline-ran : {F : Type 0} (promise : Promise F) (page : ℕ) (fs fs' : F) (source source' : SourceState) (sink sink' : SinkState)
-    (session : Opened F) (outcome : Outcome) (counts : Transcript) → IsOpened promise page fs source sink session
+pub LaterHeadline-ran : {F S K : Type 0} (promise : Promise F) (page : ℕ) (fs fs' : F) (source source' : SourceState) (sink sink' : SinkState)
+    (session : Opened F S K) (outcome : Outcome) (counts : Transcript) → IsOpened promise page fs source sink session
     → Ran promise session fs' outcome source' sink' counts → outcome ≡ Ok tt → Lossless sink sink' counts
     → LaterHeadline promise page session.acl session.owner fs source source' sink sink'
 LaterHeadline-ran promise page fs fs' source source' sink sink' session outcome counts opened ran ok lossless =
@@ -107,7 +107,7 @@ Ok-from_end accounting (Broken e) p q turns run told good unfailing =
     (subst GoodHeaders heard good)))
 Ok-from_end accounting Failed p q turns run told good unfailing = absurd (no-failure p.source q.source unfailing.same unfailing.counts run.ended.2)
 
-pub Ok-from_run : {F : Type 0} (promise : Promise F) (session : Opened F) (fs' : F) (outcome : Outcome) (source' : SourceState) (sink' : SinkState)
+pub Ok-from_run : {F S K : Type 0} (promise : Promise F) (session : Opened F S K) (fs' : F) (outcome : Outcome) (source' : SourceState) (sink' : SinkState)
     (counts : Transcript) → Ran promise session fs' outcome source' sink' counts → RunWell session source' → outcome ≡ Ok tt
 Ok-from_run promise session fs' outcome source' sink' counts ran well =
     by_end ran.ends
@@ -127,9 +127,9 @@ ends_run-outcome (Broken e) = (e, refl)
 ends_run-outcome Failed = tt
 
 -- the outcome of a run is one of few
-pub EndsRun-ran : {F : Type 0} {promise : Promise F} {session : Opened F} {fs' : F} {outcome : Outcome} {source' : SourceState} {sink' : SinkState}
+pub EndsRun-ran : {F S K : Type 0} {promise : Promise F} {session : Opened F S K} {fs' : F} {outcome : Outcome} {source' : SourceState} {sink' : SinkState}
     {counts : Transcript} → Ran promise session fs' outcome source' sink' counts → EndsRun outcome
-EndsRun-ran {F} {promise} {session} {fs'} {outcome} {source'} {sink'} {counts} ran =
+EndsRun-ran {F} {S} {K} {promise} {session} {fs'} {outcome} {source'} {sink'} {counts} ran =
     by_end ran.ends
   where
     by_end : LaterServed promise session.filesystem session.acl session.owner session.threads outcome session.progress
@@ -144,9 +144,9 @@ not_threads-outcome (Broken e) is = cc
 not_threads-outcome Failed is = cc
 
 -- and it is that no thread is to serve exactly where their number is 0
-pub Threads-ran : {F : Type 0} {promise : Promise F} {session : Opened F} {fs' : F} {outcome : Outcome} {source' : SourceState} {sink' : SinkState}
+pub Threads-ran : {F S K : Type 0} {promise : Promise F} {session : Opened F S K} {fs' : F} {outcome : Outcome} {source' : SourceState} {sink' : SinkState}
     {counts : Transcript} → Ran promise session fs' outcome source' sink' counts → (outcome ≡ Err Threads) ↔ (session.threads ≡ Some 0)
-Threads-ran {F} {promise} {session} {fs'} {outcome} {source'} {sink'} {counts} ran =
+Threads-ran {F} {S} {K} {promise} {session} {fs'} {outcome} {source'} {sink'} {counts} ran =
     by_end ran.ends
   where
     by_end : LaterServed promise session.filesystem session.acl session.owner session.threads outcome session.progress

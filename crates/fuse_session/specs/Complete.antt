@@ -66,7 +66,7 @@ pub record HandshakeWell {F : Type 0} (may_init : MayInit F) (fs : F) (before af
   pub unfailing : Unfailing before after
 
 -- For a run after it: the source tells good headers up to the first DESTROY, and did not fail; and some thread is to serve.
-pub record RunWell {F : Type 0} (session : Opened F) (after : SourceState) : Type 0 where
+pub record RunWell {F S K : Type 0} (session : Opened F S K) (after : SourceState) : Type 0 where
   pub turns : List (List ℕ)
   pub told : session.progress.source.turns ≡ Some turns
   pub good : GoodHeaders (map message turns)

@@ -14,10 +14,12 @@ use Rattle.fuse_session.specs.Accounted.{Accounted, NeverLater}
 use Rattle.fuse_session.specs.SessionEnd.{Outcome, run_outcome}
 use Rattle.fuse_session.specs.declared.error.SessionError.TheVariants.{Threads}
 
--- what a contract sees of a session: the filesystem after the handshake, who is served and by how many threads, how far it is, and
--- the line of notices that it sends
-pub record Opened (F : Type 0) : Type 0 where
+-- what a contract sees of a session: the filesystem after the handshake, the source, the sink, who is served and by how many threads,
+-- how far it is, and the line of notices that it sends
+pub record Opened (F S K : Type 0) : Type 0 where
   pub filesystem : F
+  pub source : S
+  pub sink : K
   pub acl : SessionACL
   pub owner : ℕ
   pub threads : Option ℕ
@@ -32,7 +34,7 @@ LaterServed promise fs acl owner threads outcome before after =
     × Run (Accounted threads promise.defers (OwedByPromise promise fs acl owner)) end before after))
 
 -- it was run to its end, at which `destroy` was called once; and all could be recorded, where no reply comes later
-pub record Ran {F : Type 0} (promise : Promise F) (session : Opened F) (fs' : F) (outcome : Outcome)
+pub record Ran {F S K : Type 0} (promise : Promise F) (session : Opened F S K) (fs' : F) (outcome : Outcome)
     (source' : SourceState) (sink' : SinkState) (counts : Transcript) : Type 0 where
   pub unasked : List (List ℕ)
   pub ends : LaterServed promise session.filesystem session.acl session.owner session.threads outcome session.progress

@@ -1,7 +1,7 @@
 -- Starting sessions in the background.
-use Rattle.std.specs.Prelude.{◌≡◌, ℕ, Result, Err}
+use Rattle.std.specs.Prelude.{◌≡◌, ℕ, Bool, true, false, Result, Err}
 use Rattle.fuse_session.specs.Ran.{Opened}
-use Rattle.fuse_session.specs.Starts.{CountsRefusal, StartsInline}
+use Rattle.fuse_session.specs.Starts.{CountsRefusal, StartsInline, StartsThread}
 use Rattle.fuse_session.specs.declared.ended.Ended.{Ended as End}
 use Rattle.fuse_session.specs.declared.background.SpawnError.{SpawnError}
 use Rattle.fuse_session.specs.declared.background.SpawnError.TheVariants as spawn
@@ -13,9 +13,14 @@ abbrev pub refused_by : Spawner → ℕ
 refused_by (spawner.Thread threads) = threads.refused
 refused_by (spawner.Inline inline) = inline.refused
 
--- a spawner stays of its kind, and one that runs sessions at once refuses exactly the starts that are listed
+-- whether it starts a thread for each session; else it runs each at once
+abbrev pub starts_threads : Spawner → Bool
+starts_threads (spawner.Thread threads) = true
+starts_threads (spawner.Inline inline) = false
+
+-- a spawner stays of its kind, and starts none that is listed; one that runs sessions at once refuses no other
 abbrev pub StartsByItsKind : {T E : Type 0} → Result T E → (before after : Spawner) → Type 0
-StartsByItsKind result (spawner.Thread before) (spawner.Thread after) = Unit {0}
+StartsByItsKind result (spawner.Thread before) (spawner.Thread after) = StartsThread result before after
 StartsByItsKind result (spawner.Inline before) (spawner.Inline after) = StartsInline result before after
 StartsByItsKind result before after = ⊥
 
@@ -39,6 +44,6 @@ IfEnded holds (spawn.Ended e) = holds e
 IfEnded holds (spawn.Refused session) = Unit {0}
 
 -- this holds of the session, if it was opened and not started
-abbrev pub IfRefused : {F S K : Type 0} → (Opened F → Type 0) → SpawnError F S K → Type 0
+abbrev pub IfRefused : {F S K : Type 0} → (Opened F S K → Type 0) → SpawnError F S K → Type 0
 IfRefused holds (spawn.Ended e) = Unit {0}
 IfRefused holds (spawn.Refused session) = holds session

@@ -8,7 +8,7 @@ ghost use Rattle.fuse_session.specs.Headline.{Headline, LaterHeadline, Lossless,
 ghost use Rattle.fuse_session.specs.Refused.{IsUntouched, OfOptions, OptionsWell, RefusedAs, Untouched};
 ghost use Rattle.fuse_session.specs.Session.{EndsRun, IsOpened, OpensNone, Serves, setup_for};
 ghost use Rattle.fuse_session.specs.Ran.{Ran};
-ghost use Rattle.fuse_session.specs.Spawning.{HasEnded, IfEnded, IfRefused, StartsOpened, refused_by};
+ghost use Rattle.fuse_session.specs.Spawning.{HasEnded, IfEnded, IfRefused, StartsOpened, refused_by, starts_threads};
 ghost use Rattle.fuse_wire.specs.Faults.{Rose};
 ghost use Rattle.fuse_wire.specs.Sink.{SinkState};
 ghost use Rattle.fuse_wire.specs.Source.{SourceState};
@@ -23,63 +23,62 @@ use std::sync::Wait;
 use std::thread::Threads;
 
 /// A session that runs in the background. It must be spent: `join` waits for its end. A contract sees the session that was
-/// started.
+/// started, and whether a thread runs it.
 pub struct BackgroundSession<FS: Filesystem, S: Source, K: Sink> {
     pub(crate) running: Running<FS, S, K>,
 }
 
 impl<FS: Filesystem, S: Source, K: Sink> Model for BackgroundSession<FS, S, K> {
-    ghost use Rattle.fuse_session.specs.Started.{started};
-    ghost use Rattle.fuse_session.specs.Ran.{Opened};
+    ghost use Rattle.fuse_session.specs.Started.{Background, is_on_thread, started};
 
-    ghost Value = { Opened FS };
+    ghost Value = { Background FS S K };
 
-    ghost view = { λ b. started b.running };
+    ghost view = { λ b. record { session = started b.running; on_thread = is_on_thread b.running } };
 }
 
-impl<FS: Filesystem, S: Source, K: Sink + Send> BackgroundSession<FS, S, K> {
+impl<FS: Filesystem + Drop, S: Source + Drop, K: Sink + Send + Drop> BackgroundSession<FS, S, K> {
     /// Waits for the end of the session.
     pub fn join<R: Threads + Wait + AllocGlobal + Sync>(self, rt: &R) -> Ended<FS, S, K>
         // What was taken, sent, lost and counted after the handshake, why it ended so, and that `destroy` was called once.
-        ensures ran { Ran FS.promise self result.filesystem result.outcome
+        ensures ran { Ran FS.promise self.session result.filesystem result.outcome
             (S.told result.source) (K.told result.sink) result.transcript }
 
         // With the handshake that opened it, it is a whole session.
         ensures session { (page : ℕ) (fs : _) (source : SourceState) (sink : SinkState) →
-            IsOpened FS.promise page fs source sink self →
-            Mounted (setup_for FS.promise page self) fs result.filesystem result.outcome
+            IsOpened FS.promise page fs source sink self.session →
+            Mounted (setup_for FS.promise page self.session) fs result.filesystem result.outcome
             source (S.told result.source) sink (K.told result.sink) result.transcript }
 
         // One reply for each message, where none comes later: see `Headline`.
-        ensures headline { NeverLater self.threads FS.promise.defers →
+        ensures headline { NeverLater self.session.threads FS.promise.defers →
             (page : ℕ) (fs : _) (source : SourceState) (sink : SinkState) →
-            IsOpened FS.promise page fs source sink self →
+            IsOpened FS.promise page fs source sink self.session →
             result.outcome ≡ Ok tt → Lossless sink (K.told result.sink) result.transcript →
-            Headline FS.promise page self.acl self.owner fs source (S.told result.source) sink (K.told result.sink) }
+            Headline FS.promise page self.session.acl self.session.owner fs source (S.told result.source) sink (K.told result.sink) }
 
         // These are in the order of the messages, where no more than one thread serves: see `OrderedHeadline`.
-        ensures in_order { ¬ (ManyThreads self.threads) →
+        ensures in_order { ¬ (ManyThreads self.session.threads) →
             (page : ℕ) (fs : _) (source : SourceState) (sink : SinkState) →
-            IsOpened FS.promise page fs source sink self →
+            IsOpened FS.promise page fs source sink self.session →
             result.outcome ≡ Ok tt → Lossless sink (K.told result.sink) result.transcript →
-            OrderedHeadline FS.promise page self.acl self.owner fs source (S.told result.source) sink
+            OrderedHeadline FS.promise page self.session.acl self.session.owner fs source (S.told result.source) sink
             (K.told result.sink) }
 
         // One reply for each message, at once or later: see `LaterHeadline`.
         ensures later { (page : ℕ) (fs : _) (source : SourceState) (sink : SinkState) →
-            IsOpened FS.promise page fs source sink self →
+            IsOpened FS.promise page fs source sink self.session →
             result.outcome ≡ Ok tt → Lossless sink (K.told result.sink) result.transcript →
-            LaterHeadline FS.promise page self.acl self.owner fs source (S.told result.source) sink
+            LaterHeadline FS.promise page self.session.acl self.session.owner fs source (S.told result.source) sink
             (K.told result.sink) }
 
         // Where no reply comes later, all could be recorded.
-        ensures recorded { NeverLater self.threads FS.promise.defers → result.transcript.unrecorded ≡ 0 }
+        ensures recorded { NeverLater self.session.threads FS.promise.defers → result.transcript.unrecorded ≡ 0 }
 
         // It ends well where nothing is amiss.
-        ensures complete { RunWell self (S.told result.source) → result.outcome ≡ Ok tt }
+        ensures complete { RunWell self.session (S.told result.source) → result.outcome ≡ Ok tt }
 
         // No thread served exactly where their number was 0.
-        ensures threads { (result.outcome ≡ Err SessionError.Threads) ↔ (self.threads ≡ Some 0) }
+        ensures threads { (result.outcome ≡ Err SessionError.Threads) ↔ (self.session.threads ≡ Some 0) }
 
         // It has no other outcome but Ok, a header that is not good, and a fault of the source.
         ensures causes { EndsRun result.outcome }
@@ -92,7 +91,7 @@ impl<FS: Filesystem, S: Source, K: Sink + Send> BackgroundSession<FS, S, K> {
     /// `NoMemory` comes as there.
     pub fn notifier(&mut self) -> Result<Notifier, NoMemory>
         ensures same { self.new ≡ self.old }
-        ensures fresh { IfOk result (λ n. n ≡ fresh_door self.old.line) }
+        ensures fresh { IfOk result (λ n. n ≡ fresh_door self.old.session.line) }
     {
         self.running.notifier()
     }
@@ -125,8 +124,11 @@ pub fn spawn_mount<
     requires page { 0 < page_size }
 
     // A handshake that was accepted opened it.
-    ensures opened { IfOk result (λ s. IsOpened FS.promise page_size filesystem (S.told source) (K.told sink) s
-        × Serves config.now.acl owner config.now.n_threads s) }
+    ensures opened { IfOk result (λ b. IsOpened FS.promise page_size filesystem (S.told source) (K.told sink) b.session
+        × Serves config.now.acl owner config.now.n_threads b.session) }
+
+    // A thread runs it where the spawner starts threads, and else it is at its end.
+    ensures place { IfOk result (λ b. b.on_thread ≡ starts_threads spawner.old) }
 
     // So it did where it was refused, and then the spawner's count rose.
     ensures refused { IfErr result (IfRefused (λ s.

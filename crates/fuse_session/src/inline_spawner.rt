@@ -1,9 +1,10 @@
 // Sessions that run at once.
-ghost use Rattle.std.specs.Prelude.{◌≡◌, MatchResult};
-ghost use Rattle.fuse_session.specs.Started.{started};
+ghost use Rattle.std.specs.Prelude.{◌≡◌, false, IfOk, MatchResult};
+ghost use Rattle.fuse_session.specs.Started.{is_on_thread, started};
 ghost use Rattle.fuse_wire.specs.Faults.{Rose};
 ghost use Rattle.fuse_session.specs.Starts.{CountsRefusal, StartsInline};
 
+use crate::starts::Starts;
 use crate::{Filesystem, Running, Session};
 use fuse_wire::{Sink, Source};
 use std::alloc::AllocGlobal;
@@ -14,17 +15,15 @@ use std::thread::Threads;
 /// Runs each session at once, on the thread that starts it, and refuses some starts. It is for tests.
 #[derive(Drop)]
 pub struct InlineSpawner {
-    refusals: Vec<u64>,
-    starts: u64,
-    refused: u64,
+    starts: Starts,
 }
 
 impl Model for InlineSpawner {
-    ghost use Rattle.fuse_session.specs.Starts.{InlineStarts};
+    ghost use Rattle.fuse_session.specs.Starts.{StartsSeen};
 
-    ghost Value = { InlineStarts };
+    ghost Value = { StartsSeen };
 
-    ghost view = { λ s. record { listed = s.refusals.items; starts = s.starts; refused = s.refused } };
+    ghost view = { λ s. s.starts };
 }
 
 impl InlineSpawner {
@@ -34,9 +33,7 @@ impl InlineSpawner {
         ensures { result ≡ record { listed = refusals.items; starts = 0; refused = 0 } }
     {
         InlineSpawner {
-            refusals,
-            starts: 0,
-            refused: 0,
+            starts: Starts::new(Some(refusals)),
         }
     }
 
@@ -50,11 +47,11 @@ impl InlineSpawner {
         ensures counted { CountsRefusal result self.old.refused self.new.refused }
         ensures started { MatchResult result (λ running. started running ≡ session)
             (λ back. (back ≡ session) × Rose self.old.refused self.new.refused) }
+        ensures place { IfOk result (λ running. is_on_thread running ≡ false) }
         ensures exactly { StartsInline result self.old self.new }
     {
-        self.starts = self.starts.saturating_add(1);
-        if self.refusals.contains(&self.starts) {
-            self.refused = self.refused.saturating_add(1);
+        if self.starts.next_is_listed() {
+            self.starts.count_refusal();
             return Err(session);
         }
         let Session { runnable, notifier } = session;

@@ -18,6 +18,7 @@ mod running;
 mod session;
 mod spawner;
 mod starting;
+mod starts;
 mod steps;
 mod thread_spawner;
 

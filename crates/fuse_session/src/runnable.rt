@@ -12,7 +12,7 @@ use crate::ended::{destroyed, run_outcome};
 use crate::options::several;
 use crate::{Ended, SessionError};
 use fuse_dispatch::{Asking, Filesystem, Service, Shared};
-use fuse_loop::{Buffers, Channel, Lines, RunEnd, Transcript, run_inline};
+use fuse_loop::{Buffers, RunEnd, Transcript, run_inline};
 use fuse_wire::{Sink, Source};
 use fuse_workers::run_workers;
 use std::alloc::AllocGlobal;
@@ -27,28 +27,36 @@ pub(crate) struct Runnable<FS, S: Source, K: Sink> {
     pub shared: Shared<Asking<FS>>,
     /// How many threads are to serve. None is one.
     pub n_threads: Option<usize>,
-    /// The source and the sink, with the buffer and the counts of the handshake.
-    pub channel: Channel<S, K>,
-    /// The lines of the run, of which nobody used one yet.
-    pub lines: Lines,
+    /// The source, with the messages after the handshake.
+    pub source: S,
+    /// The sink, with the frames of the handshake.
+    pub sink: K,
+    /// What the handshake did, in numbers.
+    pub shaken: Transcript,
+    /// The memory of the run, which nobody used yet.
+    pub buffers: Buffers,
 }
 
 impl<FS, S: Source, K: Sink> Model for Runnable<FS, S, K> {
+    ghost use Rattle.std.specs.Prelude.{◌≡◌, []};
     ghost use Rattle.fuse_loop.specs.Lines.{IsUnused};
+    ghost use Rattle.fuse_loop.specs.Progress.{progress};
     ghost use Rattle.fuse_session.specs.Ran.{Opened};
 
-    ghost Value = { Opened FS };
+    ghost Value = { Opened FS S K };
 
     ghost view = { λ s. record {
       filesystem = s.shared.service.handler.filesystem;
+      source = s.source;
+      sink = s.sink;
       acl = s.shared.service.rule.acl;
       owner = s.shared.service.rule.owner;
       threads = s.n_threads;
-      progress = s.channel.progress;
-      line = s.lines.frames.line;
+      progress = progress (S.told s.source) (K.told s.sink) s.shaken [];
+      line = s.buffers.frames.line;
     } };
 
-    ghost invariant = { λ s. IsUnused s.lines };
+    ghost invariant = { λ s. IsUnused s.buffers × (s.shaken.unrecorded ≡ 0) };
 }
 
 /// How the later messages were served.
@@ -143,10 +151,11 @@ impl<FS: Filesystem, S: Source, K: Sink + Send> Runnable<FS, S, K> {
         let Runnable {
             shared,
             n_threads,
-            channel,
-            lines,
+            source,
+            sink,
+            shaken,
+            buffers,
         } = self;
-        let (source, sink, buffers, shaken) = channel.close(lines);
         let ServedRun {
             outcome,
             transcript,
@@ -168,11 +177,14 @@ impl<FS: Drop, S: Source + Drop, K: Sink + Drop> Runnable<FS, S, K> {
         let Runnable {
             shared,
             n_threads: _,
-            channel,
-            lines,
+            source,
+            sink,
+            shaken: _,
+            buffers,
         } = self;
         drop(shared);
-        drop(channel);
-        drop(lines);
+        drop(source);
+        drop(sink);
+        drop(buffers);
     }
 }

@@ -1,13 +1,12 @@
 // Sessions that were started.
-ghost use Rattle.std.specs.Prelude.{◌≡◌, IfOk, MatchResult};
-ghost use Rattle.fuse_session.specs.Started.{started};
+ghost use Rattle.std.specs.Prelude.{◌≡◌, true, false, IfOk, MatchResult};
+ghost use Rattle.fuse_session.specs.Started.{is_on_thread, started};
 ghost use Rattle.fuse_notify.specs.Queueing.{fresh_door};
 ghost use Rattle.fuse_session.specs.Ran.{Ran};
 
 use crate::Ended;
-use crate::carried::{Came, Handle};
 use crate::runnable::Runnable;
-use crate::starting::start_thread;
+use crate::starting::{Handed, start_thread};
 use fuse_dispatch::Filesystem;
 use fuse_notify::Notifier;
 use fuse_wire::{NoMemory, Sink, Source};
@@ -19,7 +18,7 @@ use std::thread::Threads;
 
 /// A session that a thread runs. A contract sees the session that was started.
 pub struct OnThread<FS: Filesystem, S: Source, K: Sink> {
-    pub(crate) handle: Handle<FS, S, K>,
+    pub(crate) handed: Handed<FS, S, K>,
     pub(crate) notifier: Notifier,
 }
 
@@ -28,11 +27,11 @@ impl<FS: Filesystem, S: Source, K: Sink> Model for OnThread<FS, S, K> {
     ghost use Rattle.fuse_notify.specs.Queueing.{fresh_door};
     ghost use Rattle.fuse_session.specs.Ran.{Opened};
 
-    ghost Value = { Opened FS };
+    ghost Value = { Opened FS S K };
 
-    ghost view = { λ t. t.handle.promise.session.value };
+    ghost view = { λ t. t.handed };
 
-    ghost invariant = { λ t. t.notifier ≡ fresh_door t.handle.promise.session.value.line };
+    ghost invariant = { λ t. t.notifier ≡ fresh_door t.handed.line };
 }
 
 /// A session that ran. A contract sees the session that was started.
@@ -47,7 +46,7 @@ impl<FS: Filesystem, S: Source, K: Sink> Model for AtEnd<FS, S, K> {
     ghost use Rattle.fuse_notify.specs.Queueing.{fresh_door};
     ghost use Rattle.fuse_session.specs.Ran.{Opened, Ran};
 
-    ghost Value = { Opened FS };
+    ghost Value = { Opened FS S K };
 
     ghost view = { λ o. o.session.value };
 
@@ -76,23 +75,18 @@ impl<
         notifier: Notifier,
     ) -> Result<Running<FS, S, K>, (Runnable<FS, S, K>, Notifier)>
         requires { notifier ≡ fresh_door runnable.line }
-        ensures { MatchResult result (λ running. started running ≡ runnable)
+        ensures started { MatchResult result (λ running. started running ≡ runnable)
             (λ back. (back.0 ≡ runnable) × (back.1 ≡ notifier)) }
+        ensures place { IfOk result (λ running. is_on_thread running ≡ true) }
     {
-        let session = Snapshot::of(&runnable);
         match start_thread(rt, runnable) {
-            Ok(handle) => Ok(Running::OnThread(OnThread { handle, notifier })),
-            Err(Came::Ended(ended)) => Ok(Running::AtEnd(AtEnd {
-                session,
-                ended,
-                notifier,
-            })),
-            Err(Came::Held(carried)) => Err((carried.into_runnable(), notifier)),
+            Ok(handed) => Ok(Running::OnThread(OnThread { handed, notifier })),
+            Err(runnable) => Err((runnable, notifier)),
         }
     }
 }
 
-impl<FS: Filesystem, S: Source, K: Sink + Send> Running<FS, S, K> {
+impl<FS: Filesystem + Drop, S: Source + Drop, K: Sink + Send + Drop> Running<FS, S, K> {
     /// Runs the session to its end, on this thread.
     pub(crate) fn at_once<R: Threads + Wait + AllocGlobal + Sync>(
         rt: &R,
@@ -100,7 +94,8 @@ impl<FS: Filesystem, S: Source, K: Sink + Send> Running<FS, S, K> {
         notifier: Notifier,
     ) -> Running<FS, S, K>
         requires { notifier ≡ fresh_door runnable.line }
-        ensures { started result ≡ runnable }
+        ensures started { started result ≡ runnable }
+        ensures place { is_on_thread result ≡ false }
     {
         let session = Snapshot::of(&runnable);
         let ended = runnable.run(rt);
@@ -112,20 +107,17 @@ impl<FS: Filesystem, S: Source, K: Sink + Send> Running<FS, S, K> {
     }
 
     /// Waits for the end of the session. It is an end that `Runnable::run` may come to.
-    pub fn join<R: Threads + Wait + AllocGlobal + Sync>(self, rt: &R) -> Ended<FS, S, K>
+    pub fn join<R: Threads + Wait>(self, rt: &R) -> Ended<FS, S, K>
         ensures { Ran FS.promise (started self) result.filesystem result.outcome
             (S.told result.source) (K.told result.sink) result.transcript }
     {
         match self {
             Running::OnThread(thread) => {
                 let OnThread {
-                    handle,
+                    handed,
                     notifier: _,
                 } = thread;
-                match handle.join(rt) {
-                    Came::Ended(ended) => ended,
-                    Came::Held(carried) => carried.into_runnable().run(rt),
-                }
+                handed.join(rt)
             }
             Running::AtEnd(end) => {
                 let AtEnd {

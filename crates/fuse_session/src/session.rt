@@ -9,7 +9,7 @@ ghost use Rattle.fuse_session.specs.Headline.{Headline, LaterHeadline, Lossless,
 ghost use Rattle.fuse_session.specs.HandshakeStep.{HandshakeRun};
 ghost use Rattle.fuse_session.specs.Refused.{ClonesDevice, IsTaken, IsUntouched, OfOptions, OptionsWell};
 ghost use Rattle.fuse_session.specs.Refused.{RefusedAs, Untouched};
-ghost use Rattle.fuse_session.specs.Spawning.{StartsOne, refused_by};
+ghost use Rattle.fuse_session.specs.Spawning.{StartsOne, refused_by, starts_threads};
 ghost use Rattle.fuse_session.specs.Session.{EndsRun, IsOpened, OpensNone, Serves, setup_for};
 ghost use Rattle.fuse_session.specs.Ran.{Ran};
 ghost use Rattle.fuse_session.specs.declared.steps.HandshakeOutcome.TheVariants.{Accepted};
@@ -44,7 +44,7 @@ impl<FS, S: Source, K: Sink> Model for Session<FS, S, K> {
     ghost use Rattle.fuse_notify.specs.Queueing.{fresh_door};
     ghost use Rattle.fuse_session.specs.Ran.{Opened};
 
-    ghost Value = { Opened FS };
+    ghost Value = { Opened FS S K };
 
     ghost view = { λ s. s.runnable };
 
@@ -100,11 +100,14 @@ fn open<R: Wait + AllocGlobal, FS: Filesystem, S: Source, K: Sink>(
         Ok(()) => {
             let handler = Asking { filesystem };
             let service = Service { handler, rule };
+            let (source, sink, buffers, shaken) = channel.close(lines);
             let runnable = Runnable {
                 shared: Shared { service },
                 n_threads,
-                channel,
-                lines,
+                source,
+                sink,
+                shaken,
+                buffers,
             };
             Ok(Session { runnable, notifier })
         }
@@ -311,7 +314,7 @@ impl<FS: Filesystem, S: Source, K: Sink + Send> Session<FS, S, K> {
         ensures same { self.new ≡ self.old }
         ensures fresh { IfOk result (λ n. n ≡ fresh_door self.old.line) }
     {
-        self.runnable.lines.notifier()
+        self.runnable.buffers.notifier()
     }
 }
 
@@ -326,8 +329,9 @@ impl<
         rt: &R,
         spawner: &mut Spawner,
     ) -> Result<BackgroundSession<FS, S, K>, Session<FS, S, K>>
-        ensures started { MatchResult result (λ background. background ≡ self)
+        ensures started { MatchResult result (λ background. background.session ≡ self)
             (λ back. (back ≡ self) × Rose (refused_by spawner.old) (refused_by spawner.new)) }
+        ensures place { IfOk result (λ background. background.on_thread ≡ starts_threads spawner.old) }
         ensures counted { StartsOne result spawner.old spawner.new }
     {
         match spawner.start(rt, self) {

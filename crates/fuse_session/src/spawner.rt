@@ -1,7 +1,7 @@
 // What runs sessions in the background.
-ghost use Rattle.std.specs.Prelude.{◌≡◌, MatchResult};
-ghost use Rattle.fuse_session.specs.Started.{started};
-ghost use Rattle.fuse_session.specs.Spawning.{StartsOne, refused_by};
+ghost use Rattle.std.specs.Prelude.{◌≡◌, IfOk, MatchResult};
+ghost use Rattle.fuse_session.specs.Started.{is_on_thread, started};
+ghost use Rattle.fuse_session.specs.Spawning.{StartsOne, refused_by, starts_threads};
 ghost use Rattle.fuse_wire.specs.Faults.{Rose};
 
 use crate::{Filesystem, InlineSpawner, Running, Session, ThreadSpawner};
@@ -30,6 +30,7 @@ impl Spawner {
         ensures counted { StartsOne result self.old self.new }
         ensures started { MatchResult result (λ running. started running ≡ session)
             (λ back. (back ≡ session) × Rose (refused_by self.old) (refused_by self.new)) }
+        ensures place { IfOk result (λ running. is_on_thread running ≡ starts_threads self.old) }
     {
         match self {
             Spawner::Thread(threads) => threads.start(rt, session),

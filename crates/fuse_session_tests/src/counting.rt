@@ -16,23 +16,24 @@ use std::sync::{Arc, Wait};
 use std::thread;
 use std::thread::Threads;
 
-/// How often a lookup looks at most whether it may go on.
-const MOST_TURNS: u64 = 1_000_000;
+/// How often a lookup looks at most whether it may go on, where it does not wait in vain.
+pub(crate) const MOST_TURNS: u64 = 1_000_000;
 
 /// What a read gives where no other contents are said: more than a frame holds without memory.
 pub(crate) const CONTENTS: &[u8] = &[0x2a; 200];
 
-/// A count that others share, and how high it has to be before a lookup goes on.
+/// A count that others share, how high it has to be before a lookup goes on, and how often that looks at most.
 #[derive(Drop)]
 struct Gate {
     count: Arc<AtomicU64, Global>,
     awaited: u64,
+    most_turns: u64,
 }
 
 impl Gate {
     /// Whether the count was as high in time. Where it was not, it is made so, and the others wait no longer.
     fn opens(&self) -> bool {
-        for _turn in 0..MOST_TURNS {
+        for _turn in 0..self.most_turns {
             if self.count.load(Ordering::SeqCst) >= self.awaited {
                 return true;
             }
@@ -144,8 +145,21 @@ impl Counting {
 
     /// It counts its calls here too, and its lookups wait until this count is so high.
     pub(crate) fn waiting(count: Arc<AtomicU64, Global>, awaited: u64) -> Counting {
+        Counting::waiting_for_turns(count, awaited, MOST_TURNS)
+    }
+
+    /// The same, but its lookups look no more often than this.
+    pub(crate) fn waiting_for_turns(
+        count: Arc<AtomicU64, Global>,
+        awaited: u64,
+        most_turns: u64,
+    ) -> Counting {
         let mut counting = Counting::new(None);
-        counting.gate = Some(Gate { count, awaited });
+        counting.gate = Some(Gate {
+            count,
+            awaited,
+            most_turns,
+        });
         counting
     }
 

@@ -25,15 +25,16 @@ impl Sink for RefusingOnce {
       notes = None;
       tail = None;
       faults = s.faults;
+      absences = 0;
       origin = record { bytes = None; faults = 0 };
     } };
 
     fn send(&mut self, header: &[u8; 16], payload: &[u8]) -> Sending {
         match self.inner.send(header, payload) {
             Sending::Sent => Sending::Sent,
-            refused => {
+            Sending::Absent | Sending::Failed => {
                 self.faults = self.faults.saturating_add(1);
-                refused
+                Sending::Failed
             }
         }
     }

@@ -50,6 +50,7 @@ impl Sink for Answering<'_> {
       notes = None;
       tail = None;
       faults = 0;
+      absences = 0;
       origin = record { bytes = None; faults = 0 };
     } };
 

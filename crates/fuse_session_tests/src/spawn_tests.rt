@@ -1,6 +1,6 @@
 // Sessions in the background.
 use crate::asserts::{expect_same, frames_of, source_of};
-use crate::counting::{Counting, counts};
+use crate::counting::{Counting, MOST_TURNS, counts};
 use fuse_config::{Config, SessionACL};
 use fuse_notify::Notifier;
 use fuse_session::{
@@ -19,9 +19,6 @@ use std::sync::atomic::{AtomicU64, Ordering};
 use std::sync::{Arc, Wait};
 use std::thread;
 use std::thread::Threads;
-
-/// How often is looked, at most, whether a session has begun.
-const MOST_TURNS: u64 = 1_000_000;
 
 /// How high a count is once whoever looks has seen a call: more than any of these sessions has calls.
 const SEEN: u64 = 1000;
@@ -58,7 +55,7 @@ fn spawn<R: Threads + Wait + AllocGlobal + Abort + Send + Sync + Copy + 'static>
     spawn_mount(rt, spawner, filesystem, source, sink, 0, 4096, &config)
 }
 
-/// Whether a filesystem was called in time, which tells its calls.
+/// Whether a filesystem was called in time, which tells its calls. It is looked as often as a lookup looks.
 fn is_called(calls: &AtomicU64) -> bool {
     for _turn in 0..MOST_TURNS {
         if calls.load(Ordering::SeqCst) > 0 {
@@ -318,16 +315,21 @@ fn what_is_queued_while_a_session_runs_is_sent(rt: HostRuntime) {
     sends_notices(&rt, Some(2));
 }
 
-/// What comes of a session on so many threads of so many LOOKUPs, each of which waits until all are called.
+/// How often a lookup looks that waits in vain.
+const TURNS_IN_VAIN: u64 = 20_000;
+
+/// What comes of a session on so many threads of so many LOOKUPs, each of which waits until all are called, and looks so
+/// often at most.
 fn over_waiting<R: Threads + Wait + AllocGlobal + Abort + Send + Sync + Copy + 'static>(
     rt: &R,
     n_threads: usize,
     count: u64,
+    most_turns: u64,
 ) -> Over {
     let (calls, share) = shared_count(rt);
     drop(calls);
     let mut spawner = spawner_of(rt, Some(&[]));
-    let waiting = Counting::waiting(share, count);
+    let waiting = Counting::waiting_for_turns(share, count, most_turns);
     let lookups = vec![in rt.alloc(); Given::Asked(2, 0, LOOKUP); count as usize];
     let mut given = lookups.expect(rt, "there is memory");
     given
@@ -347,7 +349,7 @@ fn times_sent<R: AllocGlobal + Abort>(rt: &R, over: &Over, errno: u8) -> usize {
 /// As many threads serve as there can be at most.
 #[test]
 fn as_many_calls_run_at_once_as_threads_serve(rt: HostRuntime) {
-    let over = over_waiting(&rt, 64, 64);
+    let over = over_waiting(&rt, 64, 64, MOST_TURNS);
     let received = over.transcript.received;
     let found = (over.outcome, received, times_sent(&rt, &over, ENOENT));
     drop(over);
@@ -357,7 +359,7 @@ fn as_many_calls_run_at_once_as_threads_serve(rt: HostRuntime) {
 /// Two threads serve, so that the first of three to give up has waited in vain.
 #[test]
 fn no_more_calls_run_at_once_than_threads_serve(rt: HostRuntime) {
-    let over = over_waiting(&rt, 2, 3);
+    let over = over_waiting(&rt, 2, 3, TURNS_IN_VAIN);
     let found = (over.sink.frames().len(), times_sent(&rt, &over, EIO) > 0);
     drop(over);
     expect_same(&rt, &found, &(4, true));
@@ -371,15 +373,28 @@ fn refused<R: Abort>(rt: &R, spawned: Result<Background, Refusal>) -> Opened {
     }
 }
 
-/// The end of a session that this spawner starts now, and whether a notifier was made of it.
+/// The end of a session that this spawner starts now, and whether this was seen of it before.
 fn over_later<R: Threads + Wait + AllocGlobal + Abort + Send + Sync + Copy + 'static>(
     rt: &R,
     spawner: &mut Spawner,
     session: Opened,
+    look: Look<'_>,
 ) -> (Over, bool) {
     match session.spawn(rt, spawner) {
-        Ok(background) => joined(rt, background, Look::Notifier),
-        Err(_) => panic!(rt; "refused twice"),
+        Ok(background) => joined(rt, background, look),
+        Err(_) => panic!(rt; "refused once more"),
+    }
+}
+
+/// The session that this spawner refuses to start now.
+fn refused_now<R: Threads + Wait + AllocGlobal + Abort + Send + Sync + Copy + 'static>(
+    rt: &R,
+    spawner: &mut Spawner,
+    session: Opened,
+) -> Opened {
+    match session.spawn(rt, spawner) {
+        Ok(_) => panic!(rt; "not refused"),
+        Err(session) => session,
     }
 }
 
@@ -387,9 +402,47 @@ fn over_later<R: Threads + Wait + AllocGlobal + Abort + Send + Sync + Copy + 'st
 fn a_session_that_is_refused_can_be_started_later(rt: HostRuntime) {
     let mut spawner = spawner_of(&rt, Some(&[1]));
     let spawned = spawn(&rt, &mut spawner, None, Counting::new(None), MESSAGES);
-    let (over, notified) = over_later(&rt, &mut spawner, refused(&rt, spawned));
+    let session = refused(&rt, spawned);
+    let (over, notified) = over_later(&rt, &mut spawner, session, Look::Notifier);
     is_answered(&rt, "started later", over);
     expect_same(&rt, &notified, &true);
+}
+
+/// A spawner that starts threads, but for these starts.
+fn threads_but_for<R: AllocGlobal + Abort>(rt: &R, refusals: &[u64]) -> Spawner {
+    let refusals = refusals.to_vec(rt.alloc()).expect(rt, "there is memory");
+    Spawner::Thread(ThreadSpawner::refusing(refusals))
+}
+
+#[test]
+fn a_session_whose_thread_is_refused_can_be_run_here(rt: HostRuntime) {
+    let mut spawner = threads_but_for(&rt, &[1]);
+    let spawned = spawn(&rt, &mut spawner, None, Counting::new(None), MESSAGES);
+    let over = refused(&rt, spawned).run(&rt);
+    is_answered(&rt, "without its thread", over);
+}
+
+/// Its lookup waits for whoever started it, so that a thread runs it.
+#[test]
+fn a_session_whose_thread_is_refused_twice_has_one_later(rt: HostRuntime) {
+    let (calls, share) = shared_count(&rt);
+    let mut spawner = threads_but_for(&rt, &[1, 2]);
+    let waiting = Counting::waiting(share, SEEN);
+    let spawned = spawn(&rt, &mut spawner, None, waiting, MESSAGES);
+    let session = refused_now(&rt, &mut spawner, refused(&rt, spawned));
+    let (over, called) = over_later(&rt, &mut spawner, session, Look::Calls(&calls));
+    is_answered(&rt, "with a thread later", over);
+    expect_same(&rt, &called, &true);
+}
+
+#[test]
+fn sessions_have_threads_before_and_after_one_that_is_refused(rt: HostRuntime) {
+    let mut spawner = threads_but_for(&rt, &[2]);
+    for (what, expected) in [("first", true), ("refused", false), ("last", true)] {
+        let (over, is_started) = started_by(&rt, &mut spawner);
+        is_answered(&rt, what, over);
+        expect_same(&rt, &(what, is_started), &(what, expected));
+    }
 }
 
 type OverStreams = BackgroundSession<
