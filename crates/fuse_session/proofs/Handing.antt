@@ -42,5 +42,8 @@ handed-found {F} {S} {K} handed found last is settled =
 pub none-left : {F S K : Type 0} (handed found : Opened F S K) (last : Hand (Carried F S K)) (item : Carried F S K) (rest : List (Carried F S K))
     → last ≡ both_hands handed found → Tells (λ _. true) last (item ∷ rest) → ⊥
 none-left {F} {S} {K} handed found last item rest is tells =
-    absurd (omega (arith, length_permutation (carried handed ∷ []) (carried found ∷ item ∷ filter (λ _. true) rest)
-    (subst (λ (v : Hand (Carried F S K)). Tells (λ _. true) v (item ∷ rest)) is tells refl refl)))
+    absurd (omega (
+      arith,
+      length_permutation (carried handed ∷ []) (carried found ∷ item ∷ filter (λ _. true) rest)
+          (subst (λ (v : Hand (Carried F S K)). Tells (λ _. true) v (item ∷ rest)) is tells refl refl),
+    ))

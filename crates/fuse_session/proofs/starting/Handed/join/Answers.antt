@@ -16,8 +16,8 @@ pub returns : goal.returns
 returns g c =
     let ended = c.join-ended.result.ended in
     let same = handed-found c.self.inside.session.value c.join-ended.ensures.session c.join.new.pass.hand
-        (both_hands-joined c.self.inside.session.value c.join-ended.ensures.session _ _ c.self.inside.giver.pass c.join-ended.result.pass
-        c.join.new.pass.hand c.join.ensures.hand c.self.invariant.1 c.join-ended.ensures.took)
-        (subst (λ (v : _). IsSettled (λ _. true) v) c.in-None.ensures.hand c.in-None.ensures.settled) in
+    (both_hands-joined c.self.inside.session.value c.join-ended.ensures.session _ _ c.self.inside.giver.pass c.join-ended.result.pass
+    c.join.new.pass.hand c.join.ensures.hand c.self.invariant.1 c.join-ended.ensures.took)
+    (subst (λ (v : _). IsSettled (λ _. true) v) c.in-None.ensures.hand c.in-None.ensures.settled) in
     subst (λ (s : _). Ran g.FS.Filesystem.promise s ended.filesystem ended.outcome (g.S.Source.told ended.source)
     (g.K.Sink.told ended.sink) ended.transcript) (same ∙ c.self.view_is) c.join-ended.ensures.ran
