@@ -2,11 +2,13 @@
 //! send to it, or serves these from memory and says what that came to.
 #![tactic(auto)]
 
-ghost use Rattle.std.specs.Prelude.{◌≡◌, IfNone, IfSome, map};
+ghost use Rattle.std.specs.Prelude.{◌≡◌, ◌⊎◌, IfNone, IfSome, map};
 ghost use Rattle.fuse_program.specs.Form.{form_of};
 
+use fuse_device::{DeviceReader, FrameWriter};
 use fuse_program::{failure_status, run, serve_form};
 use fuse_session::SessionError;
+use fuse_wire::consts::BUFFER_SIZE;
 use std::alloc::{AllocError, Global};
 use std::io::{BufReader, Read, Write};
 use std::process::ExitCode;
@@ -47,6 +49,33 @@ fn bytes_of(alloc: Global, words: &[String]) -> Result<Vec<&[u8]>, AllocError> {
     Ok(arguments)
 }
 
+/// How many bytes are read ahead of this input: so many, or room for the longest message where a read gives a whole one.
+fn room_for<I: Read>(input: &mut DeviceReader<I>, ahead: usize) -> usize
+    ensures { (result ≡ ahead) ⊎ (result ≡ 16781312) }
+{
+    if input.gives_whole_messages() {
+        BUFFER_SIZE
+    } else {
+        ahead
+    }
+}
+
+/// Runs on an input that is read, which may be the kernel's device. The error is that there was no memory for the input's
+/// buffer or for a header that is held back.
+fn run_device<R: Threads + Wait + AllocGlobal + Sync, I: Read + Drop, O: Write + Send + Drop>(
+    rt: &R,
+    arguments: &[&[u8]],
+    ahead: usize,
+    input: I,
+    output: O,
+) -> io::Result<u8> {
+    let mut input = DeviceReader::new(input);
+    let room = room_for(&mut input, ahead);
+    let input = BufReader::with_capacity(rt.alloc(), room, input)?;
+    let output = FrameWriter::new(rt.alloc(), output)?;
+    Ok(run(rt, arguments, input, output))
+}
+
 /// The same on the arguments of the process, with the input read ahead where it is read. The error is that there was no
 /// memory for the arguments or the input's buffer, and then nothing is read, or that the arguments can't be had.
 fn run_process<
@@ -56,9 +85,10 @@ fn run_process<
 >(rt: &R, input: I, output: O) -> io::Result<u8> {
     let words = words_of(rt)?;
     let arguments = bytes_of(rt.alloc(), &words)?;
-    let ahead = read_ahead(&arguments);
-    let input = BufReader::with_capacity(rt.alloc(), ahead, input)?;
-    Ok(run(rt, &arguments, input, output))
+    match read_ahead(&arguments) {
+        0 => Ok(run(rt, &arguments, input, output)),
+        ahead => run_device(rt, &arguments, ahead, input, output),
+    }
 }
 
 fn main(rt: HostRuntime) -> ExitCode {
