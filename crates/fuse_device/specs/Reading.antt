@@ -13,12 +13,13 @@ device_below device = device.reader
 abbrev pub is_gone : {R : Type 0} → DeviceReader R → Bool
 is_gone device = device.gone
 
--- Not ENOENT, EINTR or EAGAIN, after which a read is tried again, and not ENODEV, which is the end.
+-- Not ENOENT, EINTR or EAGAIN, after which a read is tried again, and not ENODEV or ECONNABORTED, which are the end.
 pub record IsFault (error : Error) : Type 0 where
   pub not_taken_back : raw_os_error error ≢ Some (pos 2)
   pub not_interrupted : raw_os_error error ≢ Some (pos 4)
   pub not_empty : raw_os_error error ≢ Some (pos 11)
   pub not_gone : raw_os_error error ≢ Some (pos 19)
+  pub not_aborted : raw_os_error error ≢ Some (pos 103)
 
 -- a read takes from below what it gives; it gives nothing at the end of what is below, or once the device is gone
 abbrev pub ReadsThrough : Result ℕ Error → (piece : List ℕ) → (below below' : Option (List ℕ)) → (gone' : Bool) → Type 0

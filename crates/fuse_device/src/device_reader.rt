@@ -21,6 +21,9 @@ const EINVAL: i32 = 22;
 /// The folder was unmounted, or the connection aborted.
 const ENODEV: i32 = 19;
 
+/// The connection was aborted while a request was read.
+const ECONNABORTED: i32 = 103;
+
 /// A reader of the kernel's device, which ends where the device is gone and tries again where a read brought no request.
 /// Each other error is passed on. It tells none of its bytes: what is left below when the device goes is never read.
 #[derive(Debug, Drop)]
@@ -71,7 +74,7 @@ impl<R: Read> Read for DeviceReader<R> {
         ensures below { ReadsThrough result piece.new
             (R.remaining (device_below self.old)) (R.remaining (device_below self.new)) (is_gone self.new) }
 
-        // What is not passed on: ENODEV, ENOENT, EINTR and EAGAIN.
+        // What is not passed on: ENODEV, ECONNABORTED, ENOENT, EINTR and EAGAIN.
         ensures faults { IfErr result IsFault }
 
         // The device stays gone.
@@ -81,7 +84,7 @@ impl<R: Read> Read for DeviceReader<R> {
             match self.reader.read(piece) {
                 Ok(count) => return Ok(count),
                 Err(error) => match error.raw_os_error() {
-                    Some(ENODEV) => {
+                    Some(ENODEV | ECONNABORTED) => {
                         self.gone = true;
                         return Ok(0);
                     }

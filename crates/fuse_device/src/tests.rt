@@ -102,6 +102,7 @@ const READINGS: &[(&[Does], Came, bool)] = &[
         false,
     ),
     (&[Does::Fails(4), Does::Fails(19)], Came::Moved(0), true),
+    (&[Does::Fails(2), Does::Fails(103)], Came::Moved(0), true),
     (&[Does::Fails(5)], Came::Failed(Some(5)), false),
     (&[Does::Fails(9)], Came::Failed(Some(9)), false),
     (
