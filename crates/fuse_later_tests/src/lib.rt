@@ -20,6 +20,8 @@ mod putting_off;
 #[cfg(test)]
 mod serving;
 #[cfg(test)]
+mod starved_tests;
+#[cfg(test)]
 mod telling;
 #[cfg(test)]
 mod worker_tests;
