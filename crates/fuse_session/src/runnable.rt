@@ -1,12 +1,14 @@
 // What runs of a session.
-ghost use Rattle.std.specs.Prelude.{◌≡◌, ℕ, List, [], Some};
-ghost use Rattle.fuse_session.specs.Accounted.{Accounted, NeverLater};
+ghost use Rattle.std.specs.Prelude.{◌≡◌, ◌<◌, ◌+◌, ℕ, List, [], Some, min};
+ghost use Rattle.fuse_session.specs.Accounted.{Accounted, ManyThreads, NeverLater};
 ghost use Rattle.fuse_dispatch.specs.OwedMessage.{OwedByPromise};
 ghost use Rattle.fuse_session.specs.Ran.{LaterServed, Ran};
 ghost use Rattle.fuse_session.specs.SessionEnd.{run_outcome};
 ghost use Rattle.fuse_loop.specs.EventLoop.{Run};
 ghost use Rattle.fuse_loop.specs.Lines.{IsUnused, unasked_of};
 ghost use Rattle.fuse_loop.specs.Progress.{added, nothing_yet, progress};
+ghost use Rattle.fuse_workers.specs.Starting.{AsksUpTo, starts};
+ghost use Rattle.fuse_workers.specs.declared.threads.TheConstants.{MOST_WORKERS};
 
 use crate::ended::{destroyed, run_outcome};
 use crate::options::several;
@@ -14,7 +16,7 @@ use crate::{Ended, SessionError};
 use fuse_dispatch::{Asking, Filesystem, Service, Shared};
 use fuse_loop::{Buffers, RunEnd, Transcript, run_inline};
 use fuse_wire::{Sink, Source};
-use fuse_workers::run_workers;
+use fuse_workers::{SystemStarter, run_workers_by};
 use std::alloc::AllocGlobal;
 use std::marker::Model;
 use std::sync::Wait;
@@ -67,7 +69,8 @@ struct ServedRun<S, K> {
     sink: K,
 }
 
-/// Answers the later messages: on this thread, or on so many others where more than one is asked for.
+/// Answers the later messages: on this thread, or on so many others where more than one is asked for. What started these
+/// knows how many it was asked for.
 fn answer_all<R: Threads + Wait + AllocGlobal + Sync, FS: Filesystem, S: Source, K: Sink + Send>(
     rt: &R,
     shared: &Shared<Asking<FS>>,
@@ -75,17 +78,24 @@ fn answer_all<R: Threads + Wait + AllocGlobal + Sync, FS: Filesystem, S: Source,
     source: S,
     sink: K,
     buffers: Buffers,
-) -> RunEnd<S, K>
+) -> (RunEnd<S, K>, SystemStarter)
     requires unused { IsUnused buffers }
     ensures run { Run (Accounted n_threads FS.promise.defers (OwedByPromise FS.promise shared.now.service.handler.filesystem
-        shared.now.service.rule.acl shared.now.service.rule.owner)) result.end
+        shared.now.service.rule.acl shared.now.service.rule.owner)) result.0.end
         (progress (S.told source) (K.told sink) nothing_yet [])
-        (progress (S.told result.source) (K.told result.sink) result.transcript (unasked_of result.buffers)) }
-    ensures recorded { NeverLater n_threads FS.promise.defers → result.transcript.unrecorded ≡ 0 }
+        (progress (S.told result.0.source) (K.told result.0.sink) result.0.transcript (unasked_of result.0.buffers)) }
+    ensures recorded { NeverLater n_threads FS.promise.defers → result.0.transcript.unrecorded ≡ 0 }
+    ensures several { (n : ℕ) → n_threads ≡ Some n → 1 < n →
+        (made : ℕ) × AsksUpTo (1 + min n MOST_WORKERS) made (starts 0 0) result.1 }
+    ensures alone { ¬ ManyThreads n_threads → result.1 ≡ starts 0 0 }
 {
+    let starter = SystemStarter::new();
     match several(n_threads) {
-        Some(count) => run_workers(rt, shared, source, sink, buffers, count),
-        None => run_inline(rt, &shared.service, source, sink, buffers),
+        Some(count) => run_workers_by(rt, starter, shared, source, sink, buffers, count),
+        None => (
+            run_inline(rt, &shared.service, source, sink, buffers),
+            starter,
+        ),
     }
 }
 
@@ -138,7 +148,7 @@ fn serve<R: Threads + Wait + AllocGlobal + Sync, FS: Filesystem, S: Source, K: S
             sink,
         };
     }
-    let run = answer_all(rt, shared, n_threads, source, sink, buffers);
+    let (run, _starter) = answer_all(rt, shared, n_threads, source, sink, buffers);
     conclude(shaken, run)
 }
 

@@ -18,4 +18,4 @@ returns-in-Some-clause-run g c =
     let rule = c.args.shared.now.service.rule in
     let promise = g.FS.Filesystem.promise in
     Accounted-many (OwedByPromise promise fs rule.acl rule.owner) c.args.n_threads promise.defers (OwedByPromise-at_once promise fs rule.acl rule.owner)
-    c.in-Some.ensures.1 _ _ _ c.run_workers.ensures.later
+    c.in-Some.ensures.1 _ _ _ c.run_workers_by.ensures.later

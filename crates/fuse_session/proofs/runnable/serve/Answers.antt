@@ -11,7 +11,7 @@ use Rattle.fuse_session.proofs.runnable.serve.Goals as goal
 
 pub returns-clause-ends : goal.returns-clause-ends
 returns-clause-ends g c =
-    let run = c.answer_all-run.result in
+    let run = c.answer_all-run.result.0 in
     let left = c.conclude.result in
     let last = unasked_of run.buffers in
     let accounted : Accounting = Accounted c.args.n_threads g.FS.Filesystem.promise.defers (OwedByPromise g.FS.Filesystem.promise
