@@ -12,6 +12,9 @@ use std::io::{Error, Result, Write};
 /// How long the header of a frame is.
 const HEADER_SIZE: usize = 16;
 
+/// How long the longest reply of fixed size is, with its header: these are joined without more memory.
+const FIXED_REPLY_SIZE: usize = 160;
+
 /// Nobody waits for this reply any more.
 const ENOENT: i32 = 2;
 
@@ -65,7 +68,7 @@ fn drop_front(bytes: &mut Vec<u8>, count: usize)
 }
 
 impl<W: Write> FrameWriter<W> {
-    /// Writes to this device. The error is that there is no memory for a header.
+    /// Writes to this device. The error is that there is no memory for a reply of fixed size.
     pub fn new(alloc: Global, writer: W) -> std::result::Result<FrameWriter<W>, AllocError>
     where
         W: Drop,
@@ -73,7 +76,7 @@ impl<W: Write> FrameWriter<W> {
         ensures none_held { IfOk result (λ frames. held_back frames ≡ []) }
         ensures fresh { IfOk result (λ frames. passed_over frames ≡ 0) }
     {
-        let held = Vec::with_capacity(alloc, HEADER_SIZE)?;
+        let held = Vec::with_capacity(alloc, FIXED_REPLY_SIZE)?;
         Ok(FrameWriter {
             writer,
             held,
