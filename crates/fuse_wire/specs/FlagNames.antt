@@ -1,6 +1,7 @@
 -- Sets of flags (`fuse.h`): each name and its bit.
 use Rattle.std.specs.Prelude.{ℕ, List, [], ◌∷◌, codes, ◌^◌}
-use Rattle.fuse_wire.specs.Flags.{FUSE_ASYNC_READ, FUSE_POSIX_LOCKS, FUSE_BIG_WRITES, FUSE_MAX_PAGES, FUSE_INIT_EXT, FUSE_PASSTHROUGH}
+use Rattle.fuse_wire.specs.Flags.{FUSE_ASYNC_READ, FUSE_POSIX_LOCKS, FUSE_BIG_WRITES, FUSE_MAX_PAGES, FUSE_SETXATTR_EXT}
+use Rattle.fuse_wire.specs.Flags.{FUSE_INIT_EXT, FUSE_PASSTHROUGH}
 use Rattle.fuse_wire.specs.Flags.{FOPEN_PASSTHROUGH, FUSE_GETATTR_FH, FATTR_MODE, FATTR_UID, FATTR_GID, FATTR_SIZE, FATTR_ATIME, FATTR_MTIME}
 use Rattle.fuse_wire.specs.Flags.{FATTR_FH, FATTR_ATIME_NOW, FATTR_MTIME_NOW, FATTR_CTIME, FUSE_READ_LOCKOWNER, FUSE_WRITE_LOCKOWNER}
 use Rattle.fuse_wire.specs.Flags.{FUSE_RELEASE_FLUSH, FUSE_RELEASE_FLOCK_UNLOCK, FUSE_FSYNC_FDATASYNC, FUSE_IOCTL_UNRESTRICTED}
@@ -37,7 +38,7 @@ init_flags_table =
     ∷ (codes "FUSE_MAP_ALIGNMENT", 2 ^ 26)
     ∷ (codes "FUSE_SUBMOUNTS", 2 ^ 27)
     ∷ (codes "FUSE_HANDLE_KILLPRIV_V2", 2 ^ 28)
-    ∷ (codes "FUSE_SETXATTR_EXT", 2 ^ 29)
+    ∷ (codes "FUSE_SETXATTR_EXT", FUSE_SETXATTR_EXT)
     ∷ (codes "FUSE_INIT_EXT", FUSE_INIT_EXT)
     ∷ (codes "FUSE_INIT_RESERVED", 2 ^ 31)
     ∷ (codes "FUSE_SECURITY_CTX", 2 ^ 32)
@@ -100,6 +101,12 @@ write_flags_table =
     (codes "FUSE_WRITE_CACHE", 2 ^ 0)
     ∷ (codes "FUSE_WRITE_LOCKOWNER", FUSE_WRITE_LOCKOWNER)
     ∷ (codes "FUSE_WRITE_KILL_SUIDGID", 2 ^ 2)
+    ∷ []
+
+-- what setting an extended attribute does beside: `setxattr_flags` of `struct fuse_setxattr_in`
+abbrev pub setxattr_flags_table : List (List ℕ × ℕ)
+setxattr_flags_table =
+    (codes "FUSE_SETXATTR_ACL_KILL_SGID", 2 ^ 0)
     ∷ []
 
 -- what else a release does: `release_flags` of `struct fuse_release_in`

@@ -14,6 +14,9 @@ FUSE_BIG_WRITES = 2 ^ 5
 abbrev pub FUSE_MAX_PAGES : ℕ
 FUSE_MAX_PAGES = 2 ^ 22
 
+abbrev pub FUSE_SETXATTR_EXT : ℕ
+FUSE_SETXATTR_EXT = 2 ^ 29
+
 abbrev pub FUSE_INIT_EXT : ℕ
 FUSE_INIT_EXT = 2 ^ 30
 

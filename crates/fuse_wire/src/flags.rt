@@ -12,6 +12,7 @@ pub(crate) mod ioctl_flags;
 pub(crate) mod poll_flags;
 pub(crate) mod read_flags;
 pub(crate) mod release_flags;
+pub(crate) mod setxattr_flags;
 pub(crate) mod write_flags;
 
 // The flags of this set that have these names. Each text is made of the name of its constant, so that what

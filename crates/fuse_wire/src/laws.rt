@@ -22,7 +22,7 @@ use crate::{
     Errno, FattrFlags, FileAttr, FileHandle, FileType, FopenFlags, FsyncFlags, Generation,
     GetattrFlags, INodeNo, InitFlags, IoctlFlags, Items, LockOwner, NoMemory, Noting, OpenAccMode,
     OpenFlags, PollEvents, PollFlags, PollHandle, ReadFlags, Received, ReleaseFlags, RenameFlags,
-    RequestId, Sending, SystemTime, TimeOrNow, Version, WriteFlags,
+    RequestId, Sending, SetxattrFlags, SystemTime, TimeOrNow, Version, WriteFlags,
 };
 use std::cmp::Ordering;
 use std::hash::Hash;
@@ -80,6 +80,8 @@ pub fn sets_compared_by_their_bits()
         ⟦<ReadFlags as PartialEq>⟧.eq ⟦<ReadFlags as Hash>⟧.hash_input }
     ensures write_flags { AsBits (λ f. f.0) nat_eq fed.u32
         ⟦<WriteFlags as PartialEq>⟧.eq ⟦<WriteFlags as Hash>⟧.hash_input }
+    ensures setxattr_flags { AsBits (λ f. f.0) nat_eq fed.u32
+        ⟦<SetxattrFlags as PartialEq>⟧.eq ⟦<SetxattrFlags as Hash>⟧.hash_input }
     ensures release_flags { AsBits (λ f. f.0) nat_eq fed.u32
         ⟦<ReleaseFlags as PartialEq>⟧.eq ⟦<ReleaseFlags as Hash>⟧.hash_input }
     ensures getattr_flags { AsBits (λ f. f.0) nat_eq fed.u32

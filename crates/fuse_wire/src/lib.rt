@@ -53,6 +53,7 @@ pub use flags::ioctl_flags::IoctlFlags;
 pub use flags::poll_flags::PollFlags;
 pub use flags::read_flags::ReadFlags;
 pub use flags::release_flags::ReleaseFlags;
+pub use flags::setxattr_flags::SetxattrFlags;
 pub use flags::write_flags::WriteFlags;
 pub use items::Items;
 pub use memory_bytes::MemoryBytes;
