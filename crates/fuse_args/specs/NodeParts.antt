@@ -52,9 +52,13 @@ rename2_at = fixed 16 (λ b. record { newdir = number b 0 8; flags = number b 8 
 abbrev pub access_at : List ℕ → Option (AccessArguments × List ℕ)
 access_at = fixed 8 (λ b. record { mask = signed w32 b 0 })
 
--- SETXATTR: size4 flags4i (the front of `struct fuse_setxattr_in`, `FUSE_COMPAT_SETXATTR_IN_SIZE`)
+-- SETXATTR: size4 flags4i (the front of `struct fuse_setxattr_in`, `FUSE_COMPAT_SETXATTR_IN_SIZE`); what it lacks is zero
 abbrev pub setxattr_at : List ℕ → Option (SetXAttrArguments × List ℕ)
-setxattr_at = fixed 8 (λ b. record { size = number b 0 4; flags = signed w32 b 4 })
+setxattr_at = fixed 8 (λ b. record { size = number b 0 4; flags = signed w32 b 4; setxattr_flags = 0 })
+
+-- SETXATTR where FUSE_SETXATTR_EXT was granted: size4 flags4i setxattr_flags4 _4 (`struct fuse_setxattr_in`)
+abbrev pub setxattr_ext_at : List ℕ → Option (SetXAttrArguments × List ℕ)
+setxattr_ext_at = fixed 16 (λ b. record { size = number b 0 4; flags = signed w32 b 4; setxattr_flags = number b 8 4 })
 
 -- GETXATTR and LISTXATTR: size4 _4 (`struct fuse_getxattr_in`)
 abbrev pub getxattr_at : List ℕ → Option (GetXAttrArguments × List ℕ)

@@ -82,7 +82,7 @@ same-body m others itself there =
 
 -- the law
 pub unread_after : (m others : List ℕ) → UnreadAfter m others
-unread_after m others h good =
+unread_after m others h granted good =
     let b = bounds m h good in
     let long : length (take (number m 0 4) m) ≡ number m 0 4 = length-take-le (number m 0 4) m b.1 in
     let counted : number (with_after m others) 0 4 ≡ number m 0 4 = same-number m others 0 4 (omega (arith, b.0)) b.1 in
@@ -91,5 +91,5 @@ unread_after m others h good =
       good-header (with_after m others) (omega (arith, counted, b.0)) (omega (arith, counted, total, long))
           ∙ ap (λ (f : Header). Ok f) (same-fields m others b.0 b.1 ∙ b.2),
       same,
-      ap (λ (bytes : List ℕ). operation h.opcode bytes) same,
+      ap (λ (bytes : List ℕ). operation granted h.opcode bytes) same,
     )

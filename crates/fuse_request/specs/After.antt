@@ -11,7 +11,7 @@ with_after m others = take (number m 0 4) m ++ others
 
 -- where the header is good, header, body and operation are the same whatever stands after
 abbrev pub UnreadAfter : (m others : List ℕ) → Type 0
-UnreadAfter m others = (h : Header) → header m ≡ Ok h
+UnreadAfter m others = (h : Header) (granted : ℕ) → header m ≡ Ok h
     → (header (with_after m others) ≡ Ok h)
     × (body (with_after m others) ≡ body m)
-    × (operation h.opcode (body (with_after m others)) ≡ operation h.opcode (body m))
+    × (operation granted h.opcode (body (with_after m others)) ≡ operation granted h.opcode (body m))

@@ -31,7 +31,7 @@ pub data Call : Type 0 where
   StatFs : (ino : ℕ) → Call
   Release : (ino fh : ℕ) (flags : ℤ) (lock_owner : Option ℕ) (flush : Bool) → Call
   FSync : (ino fh : ℕ) (datasync : Bool) → Call
-  SetXAttr : (ino : ℕ) (name value : List ℕ) (flags : ℤ) (position : ℕ) → Call
+  SetXAttr : (ino : ℕ) (name value : List ℕ) (flags : ℤ) (position setxattr_flags : ℕ) → Call
   GetXAttr : (ino : ℕ) (name : List ℕ) (size : ℕ) → Call
   ListXAttr : (ino size : ℕ) → Call
   RemoveXAttr : (ino : ℕ) (name : List ℕ) → Call
@@ -88,7 +88,7 @@ call node (Op.Write a written) = Some (Write node a.fh (unsigned a.offset) writt
 call node Op.StatFs = Some (StatFs node)
 call node (Op.Release a) = Some (Release node a.fh a.flags (release_lock_owner a) (flushes a))
 call node (Op.FSync a) = Some (FSync node a.fh (contents_alone a))
-call node (Op.SetXAttr a name value) = Some (SetXAttr node name value a.flags 0)
+call node (Op.SetXAttr a name value) = Some (SetXAttr node name value a.flags 0 a.setxattr_flags)
 call node (Op.GetXAttr a name) = Some (GetXAttr node name a.size)
 call node (Op.ListXAttr a) = Some (ListXAttr node a.size)
 call node (Op.RemoveXAttr name) = Some (RemoveXAttr node name)

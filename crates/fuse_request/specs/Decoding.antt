@@ -1,4 +1,5 @@
--- What a message asks, by its opcode and body (`enum fuse_opcode` of `fuse.h`, and the struct of each).
+-- What a message asks, by its opcode and body (`enum fuse_opcode` of `fuse.h`, and the struct of each), under the capabilities that
+-- the handshake granted.
 use Rattle.std.specs.Prelude.{◌≡◌, ◌==◌, ⊤, ℕ, true, false, List, Option, None, Some, Result, Ok, Err}
 use Rattle.std.specs.Prelude.{IfSome, nat_lt, if◌then◌else◌}
 use Rattle.fuse_wire.specs.declared.newtypes.INodeNo.{INodeNo}
@@ -7,7 +8,7 @@ use Rattle.fuse_args.specs.DeviceParts.{bmap_at, getlk_at, ioctl_at, poll_at}
 use Rattle.fuse_args.specs.FileParts.{copy_file_range_at, create_at, fallocate_at, flush_at, fsync_at, lseek_at}
 use Rattle.fuse_args.specs.FileParts.{open_at, read_at, release_at, write_at}
 use Rattle.fuse_args.specs.NodeParts.{access_at, batch_forget_at, getattr_at, getxattr_at, mkdir_at, mknod_at}
-use Rattle.fuse_args.specs.NodeParts.{rename2_at, setattr_at, setxattr_at}
+use Rattle.fuse_args.specs.NodeParts.{rename2_at, setattr_at, setxattr_at, setxattr_ext_at}
 use Rattle.fuse_args.specs.declared.fixed.nodes.SetXAttrArguments.{SetXAttrArguments}
 use Rattle.fuse_header.specs.Opcode.{CUSE_INIT, FUSE_ACCESS, FUSE_BATCH_FORGET, FUSE_BMAP, FUSE_COPY_FILE_RANGE}
 use Rattle.fuse_header.specs.Opcode.{FUSE_CREATE, FUSE_DESTROY, FUSE_FALLOCATE, FUSE_FLUSH, FUSE_FORGET, FUSE_FSYNC}
@@ -20,6 +21,8 @@ use Rattle.fuse_header.specs.Opcode.{FUSE_SETATTR, FUSE_SETLK, FUSE_SETLKW, FUSE
 use Rattle.fuse_header.specs.Opcode.{FUSE_UNLINK, FUSE_WRITE}
 use Rattle.fuse_header.specs.declared.error.RequestError.{RequestError}
 use Rattle.fuse_header.specs.declared.error.RequestError.TheVariants.{UnknownOperation, InsufficientData}
+use Rattle.fuse_wire.specs.Flags.{FUSE_SETXATTR_EXT}
+use Rattle.fuse_request.specs.Fields.{has_flag}
 use Rattle.fuse_request.specs.declared.operation.Operation.{Operation}
 use Rattle.fuse_request.specs.Operation.{Op, kept_node, plain}
 use Rattle.fuse_request.specs.Operation.Op.{Lookup, Forget, GetAttr, SetAttr, ReadLink, SymLink, MkNod, MkDir}
@@ -70,16 +73,20 @@ lookup_to_link opcode body =
     else if opcode == FUSE_LINK then once_named (u64_first body) (λ oldnodeid name. Link oldnodeid name)
     else Err (UnknownOperation opcode)
 
+-- the fixed part of SETXATTR, which is longer where FUSE_SETXATTR_EXT was granted
+abbrev pub setxattr_by : (granted : ℕ) → List ℕ → Option (SetXAttrArguments × List ℕ)
+setxattr_by granted body = if has_flag FUSE_SETXATTR_EXT granted then setxattr_ext_at body else setxattr_at body
+
 -- what the opcodes from OPEN to FLUSH ask
-unfoldable pub open_to_flush : ℕ → List ℕ → Result Op RequestError
-open_to_flush opcode body =
+unfoldable pub open_to_flush : (granted opcode : ℕ) → List ℕ → Result Op RequestError
+open_to_flush granted opcode body =
     if opcode == FUSE_OPEN then taking (open_at body) (λ opening. Open opening)
     else if opcode == FUSE_READ then taking (read_at body) (λ read. Read read)
     else if opcode == FUSE_WRITE then after (write_at body) (λ write rest. taking (exactly write.size rest) (λ written. Write write written))
     else if opcode == FUSE_STATFS then Ok StatFs
     else if opcode == FUSE_RELEASE then taking (release_at body) (λ release. Release release)
     else if opcode == FUSE_FSYNC then taking (fsync_at body) (λ fsync. FSync fsync)
-    else if opcode == FUSE_SETXATTR then valued (setxattr_at body) (λ setxattr name value. SetXAttr setxattr name value)
+    else if opcode == FUSE_SETXATTR then valued (setxattr_by granted body) (λ setxattr name value. SetXAttr setxattr name value)
     else if opcode == FUSE_GETXATTR then once_named (getxattr_at body) (λ getxattr name. GetXAttr getxattr name)
     else if opcode == FUSE_LISTXATTR then taking (getxattr_at body) (λ listxattr. ListXAttr listxattr)
     else if opcode == FUSE_REMOVEXATTR then taking (name_at body) (λ name. RemoveXAttr name)
@@ -119,11 +126,11 @@ destroy_to_cuse_init opcode body =
     else if opcode == CUSE_INIT then taking (cuse_init_at body) (λ nothing. CuseInit)
     else Err (UnknownOperation opcode)
 
--- what an opcode asks of its body
-abbrev pub operation : ℕ → List ℕ → Result Op RequestError
-operation opcode body =
+-- what an opcode asks of its body under these capabilities
+abbrev pub operation : (granted opcode : ℕ) → List ℕ → Result Op RequestError
+operation granted opcode body =
     if nat_lt opcode FUSE_OPEN then lookup_to_link opcode body
-    else if nat_lt opcode FUSE_INIT then open_to_flush opcode body
+    else if nat_lt opcode FUSE_INIT then open_to_flush granted opcode body
     else if nat_lt opcode FUSE_DESTROY then init_to_bmap opcode body
     else destroy_to_cuse_init opcode body
 

@@ -6,9 +6,10 @@ ghost use Rattle.fuse_request.specs.Message.{Decodes, body_of, header_of};
 
 use crate::Operation;
 use crate::decoding::{destroy_to_cuse_init, init_to_bmap, lookup_to_link, open_to_flush};
+use bitflags::Flags;
 use fuse_header::opcode::{FUSE_DESTROY, FUSE_INIT, FUSE_OPEN};
 use fuse_header::{Header, Request, RequestError, body};
-use fuse_wire::{INodeNo, RequestId};
+use fuse_wire::{INodeNo, InitFlags, RequestId};
 
 /// A message with a good header, whose body is borrowed from it.
 #[derive(Clone, Copy)]
@@ -96,13 +97,23 @@ impl<'a> AnyRequest<'a> {
         self.header.request()
     }
 
-    /// What is asked. An operation that has a place in the node of the request keeps that node.
+    /// What is asked where no capability was granted, as in the handshake: see `operation_with`.
+    pub fn operation(&self) -> Result<Operation<'a>, RequestError>
+        ensures operation { Is result (operation 0 (header_of self.now).opcode (body_of self.now)) }
+        ensures node { Keeps result (header_of self.now).nodeid }
+    {
+        self.operation_with(InitFlags::empty())
+    }
+
+    /// What is asked in a session whose handshake granted these capabilities: where `FUSE_SETXATTR_EXT` is among them
+    /// the fixed part of SETXATTR has 16 bytes, and else 8. An operation that has a place in the node of the request
+    /// keeps that node.
     ///
     /// `UnknownOperation` where no operation has the opcode, and `InsufficientData` where the body is cut short, or the
     /// value of WRITE or SETXATTR is not as long as its fixed part says.
     #[inline(always)]
-    pub fn operation(&self) -> Result<Operation<'a>, RequestError>
-        ensures operation { Is result (operation (header_of self.now).opcode (body_of self.now)) }
+    pub fn operation_with(&self, granted: InitFlags) -> Result<Operation<'a>, RequestError>
+        ensures operation { Is result (operation granted.0 (header_of self.now).opcode (body_of self.now)) }
         ensures node { Keeps result (header_of self.now).nodeid }
     {
         let Header { opcode, nodeid, .. } = self.header;
@@ -110,7 +121,7 @@ impl<'a> AnyRequest<'a> {
             return lookup_to_link(opcode, nodeid, self.body);
         }
         if opcode < FUSE_INIT {
-            return open_to_flush(opcode, self.body);
+            return open_to_flush(granted, opcode, self.body);
         }
         if opcode < FUSE_DESTROY {
             return init_to_bmap(opcode, self.body);

@@ -1,6 +1,7 @@
 // What a body asks, by its opcode.
+ghost use Rattle.fuse_args.specs.Arguments.{Fetches};
 ghost use Rattle.fuse_request.specs.Decoding.{Is, Keeps, lookup_to_link, open_to_flush, init_to_bmap};
-ghost use Rattle.fuse_request.specs.Decoding.{destroy_to_cuse_init};
+ghost use Rattle.fuse_request.specs.Decoding.{destroy_to_cuse_init, setxattr_by};
 ghost use Rattle.fuse_wire.specs.declared.newtypes.INodeNo.{INodeNo};
 
 use crate::{
@@ -10,7 +11,8 @@ use crate::{
     ReadDirPlus, ReadLink, Release, ReleaseDir, RemoveXAttr, Rename, Rename2, RmDir, SetAttr,
     SetLk, SetXAttr, StatFs, SymLink, Unlink, Write,
 };
-use fuse_args::ArgumentIterator;
+use bitflags::Flags;
+use fuse_args::{ArgumentIterator, SetXAttrArguments};
 use fuse_header::RequestError;
 use fuse_header::opcode::{
     CUSE_INIT, FUSE_ACCESS, FUSE_BATCH_FORGET, FUSE_BMAP, FUSE_COPY_FILE_RANGE, FUSE_CREATE,
@@ -21,7 +23,7 @@ use fuse_header::opcode::{
     FUSE_RELEASEDIR, FUSE_REMOVEXATTR, FUSE_RENAME, FUSE_RENAME2, FUSE_RMDIR, FUSE_SETATTR,
     FUSE_SETLK, FUSE_SETLKW, FUSE_SETXATTR, FUSE_STATFS, FUSE_SYMLINK, FUSE_UNLINK, FUSE_WRITE,
 };
-use fuse_wire::INodeNo;
+use fuse_wire::{INodeNo, InitFlags};
 use std::marker::PhantomData;
 
 /// A part of a body, by a name. The decoding ends with `InsufficientData` where it is not all there.
@@ -84,11 +86,30 @@ pub(crate) fn lookup_to_link<'a>(
     Ok(operation)
 }
 
-/// What the opcodes from OPEN to FLUSH ask.
+/// The fixed part of SETXATTR under these capabilities.
+#[inline(always)]
+fn fetch_setxattr_by(
+    parts: &mut ArgumentIterator<'_>,
+    granted: InitFlags,
+) -> Option<SetXAttrArguments>
+    ensures { Fetches result parts.old parts.new (setxattr_by granted.0 parts.old) }
+{
+    if granted.contains(InitFlags::FUSE_SETXATTR_EXT) {
+        parts.fetch_setxattr_ext()
+    } else {
+        parts.fetch_setxattr()
+    }
+}
+
+/// What the opcodes from OPEN to FLUSH ask under these capabilities.
 #[inline(always)]
 #[tactic(auto, unfolding(crate::specs::Decoding::open_to_flush))]
-pub(crate) fn open_to_flush(opcode: u32, body: &[u8]) -> Result<Operation<'_>, RequestError>
-    ensures { Is result (open_to_flush opcode body.now) × ((node : INodeNo) → Keeps result node) }
+pub(crate) fn open_to_flush(
+    granted: InitFlags,
+    opcode: u32,
+    body: &[u8],
+) -> Result<Operation<'_>, RequestError>
+    ensures { Is result (open_to_flush granted.0 opcode body.now) × ((node : INodeNo) → Keeps result node) }
 {
     let mut parts = ArgumentIterator::new(body);
     let operation = match opcode {
@@ -104,11 +125,14 @@ pub(crate) fn open_to_flush(opcode: u32, body: &[u8]) -> Result<Operation<'_>, R
             kind: PhantomData
         }),
         FUSE_FSYNC => operation!(parts => FSync { arguments: fetch_fsync(); kind: PhantomData }),
-        FUSE_SETXATTR => operation!(parts => SetXAttr {
-            arguments: fetch_setxattr(),
-            name: fetch_str(),
-            value: fetch_exactly(arguments.size)
-        }),
+        FUSE_SETXATTR => {
+            whole!(arguments = fetch_setxattr_by(&mut parts, granted));
+            operation!(parts => SetXAttr {
+                name: fetch_str(),
+                value: fetch_exactly(arguments.size);
+                arguments
+            })
+        }
         FUSE_GETXATTR => operation!(parts => GetXAttr {
             arguments: fetch_getxattr(),
             name: fetch_str()

@@ -1,7 +1,9 @@
 // What is asked about extended attributes.
 ghost use Rattle.std.specs.Prelude.{◌≡◌};
 
+use bitflags::Flags;
 use fuse_args::{GetXAttrArguments, SetXAttrArguments};
+use fuse_wire::SetxattrFlags;
 use std::marker::Model;
 use std::num::NonZeroU32;
 
@@ -64,6 +66,13 @@ impl<'a> SetXAttr<'a> {
         ensures { result ≡ 0 }
     {
         0
+    }
+
+    /// What else to do. It is empty where `FUSE_SETXATTR_EXT` was not granted.
+    pub fn setxattr_flags(&self) -> SetxattrFlags
+        ensures { result.0 ≡ self.now.arguments.setxattr_flags }
+    {
+        SetxattrFlags::from_bits_retain(self.arguments.setxattr_flags)
     }
 }
 

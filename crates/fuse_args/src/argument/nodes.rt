@@ -1,7 +1,7 @@
 // The fetches of the parts of requests of nodes and their names.
 ghost use Rattle.fuse_args.specs.Arguments.{Fetches};
 ghost use Rattle.fuse_args.specs.NodeParts.{access_at, batch_forget_at, getattr_at, getxattr_at, mkdir_at, mknod_at};
-ghost use Rattle.fuse_args.specs.NodeParts.{rename2_at, setattr_at, setxattr_at};
+ghost use Rattle.fuse_args.specs.NodeParts.{rename2_at, setattr_at, setxattr_at, setxattr_ext_at};
 
 use crate::{
     AccessArguments, ArgumentIterator, BatchForgetArguments, GetAttrArguments, GetXAttrArguments,
@@ -87,7 +87,8 @@ impl<'a> ArgumentIterator<'a> {
         })
     }
 
-    /// The arguments of SETXATTR, of 8 bytes. None where fewer bytes are left; nothing is taken then.
+    /// The arguments of SETXATTR, of 8 bytes, with no `setxattr_flags`. None where fewer bytes are left; nothing is
+    /// taken then.
     pub fn fetch_setxattr(&mut self) -> Option<SetXAttrArguments>
         ensures { Fetches result self.old self.new (setxattr_at self.old) }
     {
@@ -95,6 +96,20 @@ impl<'a> ArgumentIterator<'a> {
         Some(SetXAttrArguments {
             size: u32_at(all, 0),
             flags: i32_at(all, 4),
+            setxattr_flags: 0,
+        })
+    }
+
+    /// The arguments of SETXATTR where `FUSE_SETXATTR_EXT` was granted, of 16 bytes. None where fewer bytes are left;
+    /// nothing is taken then.
+    pub fn fetch_setxattr_ext(&mut self) -> Option<SetXAttrArguments>
+        ensures { Fetches result self.old self.new (setxattr_ext_at self.old) }
+    {
+        let all = self.fixed(16)?;
+        Some(SetXAttrArguments {
+            size: u32_at(all, 0),
+            flags: i32_at(all, 4),
+            setxattr_flags: u32_at(all, 8),
         })
     }
 

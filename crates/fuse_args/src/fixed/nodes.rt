@@ -76,13 +76,16 @@ pub struct AccessArguments {
     pub mask: i32,
 }
 
-/// The arguments of SETXATTR: the front of `struct fuse_setxattr_in`, which is sent without `FUSE_SETXATTR_EXT`.
+/// The arguments of SETXATTR: `struct fuse_setxattr_in`, of which a kernel sends the front alone unless
+/// `FUSE_SETXATTR_EXT` was granted.
 #[derive(Clone, Copy)]
 pub struct SetXAttrArguments {
     /// How many bytes the value has.
     pub size: u32,
     /// The flags of `setxattr(2)`.
     pub flags: i32,
+    /// What else to do: the bits `FUSE_SETXATTR_`. It is 0 where they are not sent.
+    pub setxattr_flags: u32,
 }
 
 /// The arguments of GETXATTR and LISTXATTR: `struct fuse_getxattr_in`.
