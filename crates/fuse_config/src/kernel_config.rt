@@ -179,10 +179,10 @@ impl KernelConfig {
     /// Requests capabilities that the kernel offers, beside those requested before. Where some are not offered nothing
     /// is requested, and the error has those of them that this library knows, which may be none.
     ///
-    /// Some change messages in ways that are not decoded here. With `FUSE_SETXATTR_EXT` each SETXATTR is longer, and
-    /// gets ENOSYS; with `FUSE_HANDLE_KILLPRIV_V2` a write alone says that the bits of set-user-id are to be cleared,
-    /// and not SETATTR, OPEN or CREATE. `FUSE_ALLOW_IDMAP`, `FUSE_OVER_IO_URING` and `FUSE_REQUEST_TIMEOUT` are of
-    /// versions after 7.40.
+    /// With `FUSE_SETXATTR_EXT` each SETXATTR is longer, and `setxattr` gets the flags that it then has. Others change
+    /// messages in ways that are not decoded here: with `FUSE_HANDLE_KILLPRIV_V2` a write alone says that the bits of
+    /// set-user-id are to be cleared, and not SETATTR, OPEN or CREATE. `FUSE_ALLOW_IDMAP`, `FUSE_OVER_IO_URING` and
+    /// `FUSE_REQUEST_TIMEOUT` are of versions after 7.40.
     pub fn add_capabilities(&mut self, capabilities: InitFlags) -> Result<(), InitFlags>
         ensures { (self.new, result) ≡ add_capabilities capabilities self.old }
     {
@@ -282,8 +282,9 @@ impl KernelConfig {
         (payload, length)
     }
 
-    /// What is granted of the capabilities offered: what was requested, and the word that there are more.
-    fn granted(&self, offered: InitFlags) -> InitFlags
+    /// What the INIT reply grants a kernel that offered these capabilities: of them what was requested, and
+    /// `FUSE_INIT_EXT`.
+    pub fn granted(&self, offered: InitFlags) -> InitFlags
         ensures { result.0 ≡ granted_of self.now offered.0 }
     {
         self.requested
