@@ -2,7 +2,7 @@
 use Rattle.std.proofs.Common.{◌≡◌, ℕ, List, length, subst, Bool, true, false, inl, inr, nat_lt, Result, Ok, Err}
 use Rattle.std.specs.Prelude.{if◌then◌else◌}
 use Rattle.fuse_wire.specs.Numbers.{number}
-use Rattle.fuse_config.specs.declared.session_acl.SessionACL.{SessionACL}
+use Rattle.fuse_dispatch.specs.declared.access.Terms.{Terms}
 use Rattle.fuse_header.specs.declared.error.RequestError.{RequestError}
 use Rattle.fuse_header.specs.declared.error.RequestError.TheVariants.{ShortReadHeader, ShortRead, InsufficientData}
 use Rattle.fuse_header.specs.declared.header.Header.{Header}
@@ -45,14 +45,14 @@ no-mark promise fs request (Calls c) seq id number of never (inl answered) = by_
 no-mark promise fs request (Calls c) seq id number of never (inr (inl poll)) = let is = poll.1 in let bad : ⊥ = cc in bad
 no-mark promise fs request (Calls c) seq id number of never (inr (inr later)) = let is = later.0 in let bad : ⊥ = cc in bad
 
-pub OwedByPromise-at_once : {F : Type 0} (promise : Promise F) (fs : F) (acl : SessionACL) (owner : ℕ) → promise.defers ≡ false
-    → (seq : ℕ) (m : List ℕ) (number : ℕ) (of : RequestId) → OwedByPromise promise fs acl owner seq m (Deferred number of) → ⊥
-OwedByPromise-at_once promise fs acl owner never seq m number of owed =
-    no-mark promise fs (request_of (header_fields m)) (verdict acl owner m) seq (id_of m) number of never owed
+pub OwedByPromise-at_once : {F : Type 0} (promise : Promise F) (fs : F) (agreed : Terms) → promise.defers ≡ false
+    → (seq : ℕ) (m : List ℕ) (number : ℕ) (of : RequestId) → OwedByPromise promise fs agreed seq m (Deferred number of) → ⊥
+OwedByPromise-at_once promise fs agreed never seq m number of owed =
+    no-mark promise fs (request_of (header_fields m)) (verdict agreed m) seq (id_of m) number of never owed
 
 -- nothing is owed to a message without a good header
-pub OwedByPromise-broken : {F : Type 0} (promise : Promise F) (fs : F) (acl : SessionACL) (owner seq : ℕ) (m : List ℕ) (out : Out)
-    → OwedByPromise promise fs acl owner seq m out → IsBroken m → ⊥
-OwedByPromise-broken promise fs acl owner seq m out owed broken =
-    subst (λ (r : Result Header RequestError). OwedBy promise fs (request_of (header_fields m)) (verdict_by acl owner r (body m)) seq (id_of m) out)
+pub OwedByPromise-broken : {F : Type 0} (promise : Promise F) (fs : F) (agreed : Terms) (seq : ℕ) (m : List ℕ) (out : Out)
+    → OwedByPromise promise fs agreed seq m out → IsBroken m → ⊥
+OwedByPromise-broken promise fs agreed seq m out owed broken =
+    subst (λ (r : Result Header RequestError). OwedBy promise fs (request_of (header_fields m)) (verdict_by agreed r (body m)) seq (id_of m) out)
     broken.1 owed

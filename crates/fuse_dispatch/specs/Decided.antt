@@ -19,15 +19,15 @@ Decides node (Fixed errno) v = v ≡ IsFixed errno
 Decides node (Forget op) v = (c : Asked) × (call node (plain op) ≡ Some c) × (v ≡ Forgets c)
 Decides node (Call op) v = (c : Asked) × (call node (plain op) ≡ Some c) × (v ≡ Calls c)
 
--- this operation is what a request of that header and body asks, and keeps its node
-abbrev pub IsAskedBy : Header → List ℕ → Operation → Type 0
-IsAskedBy h rest op = Is (Ok op) (operation h.opcode rest) × Keeps (Ok op) h.nodeid
+-- this operation is what a request of that header and body asks under these capabilities, and keeps its node
+abbrev pub IsAskedBy : (granted : ℕ) → Header → List ℕ → Operation → Type 0
+IsAskedBy granted h rest op = Is (Ok op) (operation granted h.opcode rest) × Keeps (Ok op) h.nodeid
 
 -- the operation of a forget or a call is what the message asks, whole
-abbrev pub AsksFor : Verdict → List ℕ → Type 0
-AsksFor (Forget op) m = IsAskedBy (header_fields m) (body m) op
-AsksFor (Call op) m = IsAskedBy (header_fields m) (body m) op
-AsksFor v m = ⊤
+abbrev pub AsksFor : Verdict → (granted : ℕ) → List ℕ → Type 0
+AsksFor (Forget op) granted m = IsAskedBy granted (header_fields m) (body m) op
+AsksFor (Call op) granted m = IsAskedBy granted (header_fields m) (body m) op
+AsksFor v granted m = ⊤
 
 -- the operation of a forget or a call is this one
 abbrev pub IsOf : Verdict → Operation → Type 0

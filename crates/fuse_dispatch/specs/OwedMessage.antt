@@ -18,7 +18,7 @@ use Rattle.fuse_reply.specs.Frame.{reply}
 use Rattle.fuse_reply.specs.declared.door.NoDoor.{NoDoor}
 use Rattle.fuse_reply.specs.declared.out.Out.{Out}
 use Rattle.fuse_reply.specs.declared.out.Out.TheVariants.{Frame, Note, Deferred}
-use Rattle.fuse_config.specs.declared.session_acl.SessionACL.{SessionACL}
+use Rattle.fuse_dispatch.specs.declared.access.Terms.{Terms}
 use Rattle.fuse_dispatch.specs.Kind.{IsOfKind}
 use Rattle.fuse_dispatch.specs.Promise.{Promise, MayAnswer}
 use Rattle.fuse_loop.specs.Incoming.{incoming, incoming_by, id_of}
@@ -76,35 +76,35 @@ OwedBy promise fs request (Forgets c) seq id out =
 OwedBy promise fs request (Calls c) seq id out = OwedCall promise fs request c seq id out
 
 -- what a message is owed is what its request is owed by its verdict
-abbrev pub OwedMessage : Owes → SessionACL → (owner : ℕ) → (seq : ℕ) → (m : List ℕ) → Out → Type 0
-OwedMessage owes acl owner seq m out = owes (request_of (header_fields m)) (verdict acl owner m) seq (id_of m) out
+abbrev pub OwedMessage : Owes → Terms → (seq : ℕ) → (m : List ℕ) → Out → Type 0
+OwedMessage owes agreed seq m out = owes (request_of (header_fields m)) (verdict agreed m) seq (id_of m) out
 
-abbrev pub OwedByPromise : {F : Type 0} → Promise F → F → SessionACL → (owner : ℕ) → (seq : ℕ) → (m : List ℕ) → Out → Type 0
+abbrev pub OwedByPromise : {F : Type 0} → Promise F → F → Terms → (seq : ℕ) → (m : List ℕ) → Out → Type 0
 OwedByPromise promise fs = OwedMessage (OwedBy promise fs)
 
 -- where the header says DESTROY, the verdict is that the run ends
-ends-destroy : (acl : SessionACL) (owner : ℕ) (r : Result Header RequestError) (rest : List ℕ)
-    → incoming_by r ≡ Destroy → verdict_by acl owner r rest ≡ Ends
-ends-destroy acl owner (Err e) rest is = absurd (let no : ⊥ = cc in no)
-ends-destroy acl owner (Ok h) rest is = by_test (h.opcode == FUSE_DESTROY) is where
+ends-destroy : (agreed : Terms) (r : Result Header RequestError) (rest : List ℕ)
+    → incoming_by r ≡ Destroy → verdict_by agreed r rest ≡ Ends
+ends-destroy agreed (Err e) rest is = absurd (let no : ⊥ = cc in no)
+ends-destroy agreed (Ok h) rest is = by_test (h.opcode == FUSE_DESTROY) is where
   by_test : (destroy : Bool) → (if destroy then Destroy else IsRequest) ≡ Destroy
-      → (if destroy then Ends else serving h.nodeid.0 (admitted_operation acl owner h (operation h.opcode rest))) ≡ Ends
+      → (if destroy then Ends else serving h.nodeid.0 (admitted_operation agreed.rule h (operation agreed.granted.0 h.opcode rest))) ≡ Ends
   by_test true is = refl
   by_test false is = absurd (let no : ⊥ = cc in no)
 
 -- DESTROY is owed an empty reply
 pub OwedMessage-destroy : (owes : Owes) → ((request : Request) (seq id : ℕ) → owes request Ends seq id (Frame (reply id Empty)))
-    → (acl : SessionACL) (owner seq : ℕ) (m : List ℕ) → incoming m ≡ Destroy
-    → OwedMessage owes acl owner seq m (Frame (reply (id_of m) Empty))
-OwedMessage-destroy owes owes_end acl owner seq m is =
+    → (agreed : Terms) (seq : ℕ) (m : List ℕ) → incoming m ≡ Destroy
+    → OwedMessage owes agreed seq m (Frame (reply (id_of m) Empty))
+OwedMessage-destroy owes owes_end agreed seq m is =
     subst (λ (v : Verdict). owes (request_of (header_fields m)) v seq (id_of m) (Frame (reply (id_of m) Empty)))
-    (sym (ends-destroy acl owner (header m) (body m) is)) (owes_end (request_of (header_fields m)) seq (id_of m))
+    (sym (ends-destroy agreed (header m) (body m) is)) (owes_end (request_of (header_fields m)) seq (id_of m))
 
 -- and nothing else
 pub OwedMessage-destroy-alone : (owes : Owes)
     → ((request : Request) (seq id : ℕ) (out : Out) → owes request Ends seq id out → out ≡ Frame (reply id Empty))
-    → (acl : SessionACL) (owner seq : ℕ) (m : List ℕ) (out : Out) → incoming m ≡ Destroy
-    → OwedMessage owes acl owner seq m out → out ≡ Frame (reply (id_of m) Empty)
-OwedMessage-destroy-alone owes end_alone acl owner seq m out is owed =
+    → (agreed : Terms) (seq : ℕ) (m : List ℕ) (out : Out) → incoming m ≡ Destroy
+    → OwedMessage owes agreed seq m out → out ≡ Frame (reply (id_of m) Empty)
+OwedMessage-destroy-alone owes end_alone agreed seq m out is owed =
     end_alone (request_of (header_fields m)) seq (id_of m) out
-    (subst (λ (v : Verdict). owes (request_of (header_fields m)) v seq (id_of m) out) (ends-destroy acl owner (header m) (body m) is) owed)
+    (subst (λ (v : Verdict). owes (request_of (header_fields m)) v seq (id_of m) out) (ends-destroy agreed (header m) (body m) is) owed)

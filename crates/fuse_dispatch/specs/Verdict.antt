@@ -1,11 +1,14 @@
 -- What the library itself fixes about a message after the handshake, before any filesystem is asked.
 use Rattle.std.specs.Prelude.{◌==◌, ◌||◌, ℕ, Bool, true, false, List, [], ◌∷◌, Option, None, Some, Result, Ok, Err, if◌then◌else◌}
 use Rattle.fuse_wire.specs.ErrorNumbers.{EIO, EACCES, ENOSYS}
+use Rattle.fuse_wire.specs.declared.flags.init_flags.InitFlags.{InitFlags}
 use Rattle.fuse_config.specs.declared.session_acl.SessionACL.{SessionACL}
 use Rattle.fuse_config.specs.declared.session_acl.SessionACL.TheVariants.{All, RootAndOwner, Owner}
 use Rattle.fuse_header.specs.declared.error.RequestError.{RequestError}
 use Rattle.fuse_header.specs.declared.header.Header.{Header}
 use Rattle.fuse_header.specs.Header.{header, body}
+use Rattle.fuse_dispatch.specs.declared.access.AccessRule.{AccessRule}
+use Rattle.fuse_dispatch.specs.declared.access.Terms.{Terms}
 use Rattle.fuse_request.specs.Call.{Call, call}
 use Rattle.fuse_request.specs.Fields.{file_offset, signed_offset, is_unrestricted}
 use Rattle.fuse_header.specs.Opcode.{FUSE_FORGET, FUSE_READ, FUSE_WRITE, FUSE_RELEASE, FUSE_FSYNC, FUSE_INIT}
@@ -95,19 +98,23 @@ served node op = fixed_or (fixed_error op) (asking (is_forget op) (call node op)
 
 -- the operation that is served, or the error of a request that is not: ENOSYS where it does not decode, EACCES where its user is
 -- not served
-abbrev pub admitted_operation : SessionACL → (owner : ℕ) → Header → Result Op RequestError → Result Op ℕ
-admitted_operation acl owner h (Err e) = Err ENOSYS
-admitted_operation acl owner h (Ok op) = if admitted acl owner h.uid h.opcode then Ok op else Err EACCES
+abbrev pub admitted_operation : AccessRule → Header → Result Op RequestError → Result Op ℕ
+admitted_operation rule h (Err e) = Err ENOSYS
+admitted_operation rule h (Ok op) = if admitted rule.acl rule.owner h.uid h.opcode then Ok op else Err EACCES
 
 abbrev pub serving : (node : ℕ) → Result Op ℕ → Verdict
 serving node (Err errno) = Fixed errno
 serving node (Ok op) = served node op
 
--- DESTROY ends the run
-abbrev pub verdict_by : SessionACL → (owner : ℕ) → Result Header RequestError → (rest : List ℕ) → Verdict
-verdict_by acl owner (Err e) rest = Broken e
-verdict_by acl owner (Ok h) rest = if h.opcode == FUSE_DESTROY then Ends
-    else serving h.nodeid.0 (admitted_operation acl owner h (operation h.opcode rest))
+-- the terms of a session that serves these users, and whose handshake granted these capabilities
+abbrev pub terms : SessionACL → (owner : ℕ) → (granted : InitFlags) → Terms
+terms acl owner granted = record { rule = record { acl = acl; owner = owner }; granted = granted }
 
-abbrev pub verdict : SessionACL → (owner : ℕ) → List ℕ → Verdict
-verdict acl owner m = verdict_by acl owner (header m) (body m)
+-- DESTROY ends the run; any other request decodes under the capabilities that were granted
+abbrev pub verdict_by : Terms → Result Header RequestError → (rest : List ℕ) → Verdict
+verdict_by agreed (Err e) rest = Broken e
+verdict_by agreed (Ok h) rest = if h.opcode == FUSE_DESTROY then Ends
+    else serving h.nodeid.0 (admitted_operation agreed.rule h (operation agreed.granted.0 h.opcode rest))
+
+abbrev pub verdict : Terms → List ℕ → Verdict
+verdict agreed m = verdict_by agreed (header m) (body m)

@@ -1,4 +1,4 @@
-// The access rule: whose requests are served.
+// On what terms messages are answered: whose requests are served, and how a message decodes.
 ghost use Rattle.std.specs.Prelude.{◌≡◌, IfOk};
 ghost use Rattle.fuse_request.specs.Message.{body_of, header_of};
 ghost use Rattle.fuse_request.specs.Decoding.{operation};
@@ -11,7 +11,7 @@ use fuse_request::opcode::{
     FUSE_READDIR, FUSE_READDIRPLUS, FUSE_RELEASE, FUSE_RELEASEDIR, FUSE_WRITE,
 };
 use fuse_request::{AnyRequest, Operation};
-use fuse_wire::Errno;
+use fuse_wire::{Errno, InitFlags};
 
 /// Whose requests are served.
 #[derive(Clone, Copy)]
@@ -20,6 +20,15 @@ pub struct AccessRule {
     pub acl: SessionACL,
     /// The user whose session it is.
     pub owner: u32,
+}
+
+/// The terms on which the messages after the handshake are answered.
+#[derive(Clone, Copy)]
+pub struct Terms {
+    /// Whose requests are served.
+    pub rule: AccessRule,
+    /// The capabilities that the handshake granted: a message decodes as they say.
+    pub granted: InitFlags,
 }
 
 /// Whether requests of this opcode pass whoever sends them.
@@ -56,20 +65,22 @@ impl AccessRule {
             SessionACL::Owner => uid == self.owner || always_passes(opcode),
         }
     }
+}
 
+impl Terms {
     /// The operation of a request whose user is served. ENOSYS where it does not decode, whoever sends it, and EACCES
     /// where its user is not served.
     #[inline(always)]
     pub(crate) fn operation<'a>(self, request: &AnyRequest<'a>) -> Result<Operation<'a>, Errno>
-        ensures admitted { plain_result result ≡ admitted_operation self.acl self.owner (header_of request.now)
-            (operation (header_of request.now).opcode (body_of request.now)) }
-        ensures asked { IfOk result (IsAskedBy (header_of request.now) (body_of request.now)) }
+        ensures admitted { plain_result result ≡ admitted_operation self.rule (header_of request.now)
+            (operation self.granted.0 (header_of request.now).opcode (body_of request.now)) }
+        ensures asked { IfOk result (IsAskedBy self.granted.0 (header_of request.now) (body_of request.now)) }
     {
-        let operation = match request.operation() {
+        let operation = match request.operation_with(self.granted) {
             Ok(operation) => operation,
             Err(_) => return Err(Errno::ENOSYS),
         };
-        if !self.admits(request.uid(), request.opcode()) {
+        if !self.rule.admits(request.uid(), request.opcode()) {
             return Err(Errno::EACCES);
         }
         Ok(operation)

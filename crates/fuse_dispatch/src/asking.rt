@@ -291,6 +291,7 @@ impl<FS: Filesystem> Handler for Asking<FS> {
     fn setxattr<G: Giving>(&self, asked: &Asked, giving: G, operation: &SetXAttr<'_>) -> Out {
         let (name, value) = (operation.name(), operation.value());
         let (flags, position) = (operation.flags(), operation.position());
+        let setxattr_flags = operation.setxattr_flags();
         let reply = giving.reply(asked);
         self.filesystem
             .setxattr(
@@ -300,6 +301,7 @@ impl<FS: Filesystem> Handler for Asking<FS> {
                 value,
                 flags,
                 position,
+                setxattr_flags,
                 reply,
             )
             .into_out()

@@ -7,7 +7,7 @@ ghost use Rattle.fuse_dispatch.specs.Verdict.{verdict};
 ghost use Rattle.fuse_loop.specs.Answering.{IsRequest};
 ghost use Rattle.fuse_loop.specs.Incoming.{id_of};
 
-use crate::access::AccessRule;
+use crate::access::Terms;
 use crate::asked::Asked;
 use crate::error_reply::refusal;
 use crate::giving::{AtOnce, ByDoor, Giving};
@@ -25,8 +25,8 @@ use std::sync::Wait;
 pub struct Service<H> {
     /// The handler.
     pub handler: H,
-    /// Whose requests it is asked.
-    pub rule: AccessRule,
+    /// Whose requests it is asked, and how they decode.
+    pub terms: Terms,
 }
 
 /// That service as several threads run it: a reply may come after its method has returned, where `DEFERS` of the
@@ -117,12 +117,12 @@ impl<H: Handler> Service<H> {
     ) -> Out
         requires message { IsRequest message.now }
         ensures owed { ComesBy (H.owes self.now.handler) (G.door giving) (request_of (header_fields message.now))
-            (verdict self.now.rule.acl self.now.rule.owner message.now) (id_of message.now) result }
+            (verdict self.now.terms message.now) (id_of message.now) result }
         ensures line { notifier.new.line ≡ notifier.old.line }
     {
         let request = AnyRequest::from_checked(message);
         let id = request.unique();
-        let operation = match self.rule.operation(&request) {
+        let operation = match self.terms.operation(&request) {
             Ok(operation) => operation,
             Err(error) => {
                 giving.unused();
@@ -145,7 +145,7 @@ impl<H: Handler> Service<H> {
 fn let_go(_door: Door) {}
 
 impl<H: Handler + Sync> Work for Service<H> {
-    ghost owed = { λ service. OwedMessage (H.owes service.handler) service.rule.acl service.rule.owner };
+    ghost owed = { λ service. OwedMessage (H.owes service.handler) service.terms };
 
     const DEFERS: bool = false;
 
@@ -167,16 +167,15 @@ impl<H: Handler + Sync> Work for Service<H> {
 
     ghost owed_to_destroy = { λ service seq m is.
         OwedMessage-destroy (H.owes service.handler) (H.owes_end service.handler)
-        service.rule.acl service.rule.owner seq m is };
+        service.terms seq m is };
 
     ghost alone_to_destroy = { λ service seq m out is owed.
         OwedMessage-destroy-alone (H.owes service.handler) (H.owes_end_alone service.handler)
-        service.rule.acl service.rule.owner seq m out is owed };
+        service.terms seq m out is owed };
 }
 
 impl<H: Handler + Sync> Work for Shared<H> {
-    ghost owed = { λ shared. OwedMessage (H.owes shared.service.handler)
-        shared.service.rule.acl shared.service.rule.owner };
+    ghost owed = { λ shared. OwedMessage (H.owes shared.service.handler) shared.service.terms };
 
     const DEFERS: bool = H::DEFERS;
 
@@ -200,9 +199,9 @@ impl<H: Handler + Sync> Work for Shared<H> {
 
     ghost owed_to_destroy = { λ shared seq m is.
         OwedMessage-destroy (H.owes shared.service.handler) (H.owes_end shared.service.handler)
-        shared.service.rule.acl shared.service.rule.owner seq m is };
+        shared.service.terms seq m is };
 
     ghost alone_to_destroy = { λ shared seq m out is owed.
         OwedMessage-destroy-alone (H.owes shared.service.handler) (H.owes_end_alone shared.service.handler)
-        shared.service.rule.acl shared.service.rule.owner seq m out is owed };
+        shared.service.terms seq m out is owed };
 }

@@ -15,7 +15,8 @@ use fuse_reply::{
 use fuse_request::{ForgetList, Request};
 use fuse_wire::{
     AccessFlags, BsdFileFlags, CopyFileRangeFlags, Errno, FileHandle, INodeNo, IoctlFlags,
-    LockOwner, OpenFlags, PollEvents, PollFlags, RenameFlags, SystemTime, TimeOrNow, WriteFlags,
+    LockOwner, OpenFlags, PollEvents, PollFlags, RenameFlags, SetxattrFlags, SystemTime, TimeOrNow,
+    WriteFlags,
 };
 
 /// A filesystem, as a session serves it. The session calls `init` at most once and before any request, then a method
@@ -307,8 +308,10 @@ pub trait Filesystem: Send + Sync {
     /// SETXATTR: gives this inode the extended attribute `name`, which has its prefix (`user.` and the like). `value`
     /// may be empty. `flags` are those of `setxattr(2)`: with `XATTR_CREATE` (1) an attribute that is there already is
     /// EEXIST, and with `XATTR_REPLACE` (2) one that is not there is ENODATA. `position` belongs to other systems, and
-    /// is 0 on Linux. ENOSYS is remembered: this caller and all later ones get EOPNOTSUPP, and no SETXATTR is sent
-    /// again. EOPNOTSUPP itself is not remembered. `defaults::setxattr` answers ENOSYS.
+    /// is 0 on Linux. `setxattr_flags` come where `FUSE_SETXATTR_EXT` was granted, and are empty else: with
+    /// `FUSE_SETXATTR_ACL_KILL_SGID`, which comes with `system.posix_acl_access`, the bit of set-group-id is to be
+    /// cleared. ENOSYS is remembered: this caller and all later ones get EOPNOTSUPP, and no SETXATTR is sent again.
+    /// EOPNOTSUPP itself is not remembered. `defaults::setxattr` answers ENOSYS.
     fn setxattr(
         &self,
         request: &Request,
@@ -317,10 +320,11 @@ pub trait Filesystem: Send + Sync {
         value: &[u8],
         flags: i32,
         position: u32,
+        setxattr_flags: SetxattrFlags,
         reply: ReplyEmpty,
     ) -> Replied
         ensures { Answers promise.may_answer self.now request.now
-            (Call.SetXAttr ino.0 name.now value.now flags position) reply.id reply.door result };
+            (Call.SetXAttr ino.0 name.now value.now flags position setxattr_flags.0) reply.id reply.door result };
 
     /// GETXATTR: the value of the extended attribute `name` of this inode. Where `size` is 0 the answer is how many
     /// bytes it has, by `ReplyXattr::size`. Else it is the bytes, by `ReplyXattr::data`, and `size` is how many the

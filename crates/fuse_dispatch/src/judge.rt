@@ -3,14 +3,14 @@ ghost use Rattle.std.specs.Prelude.{◌≡◌, ℕ};
 ghost use Rattle.fuse_header.specs.Header.{header_fields};
 ghost use Rattle.fuse_request.specs.Operation.{plain};
 ghost use Rattle.fuse_dispatch.specs.Decided.{AsksFor, Decides, IsOf};
-ghost use Rattle.fuse_dispatch.specs.Verdict.{fixed_error, is_forget, served, verdict};
+ghost use Rattle.fuse_dispatch.specs.Verdict.{fixed_error, is_forget, served, terms, verdict};
 
 use crate::Verdict;
-use crate::access::AccessRule;
+use crate::access::{AccessRule, Terms};
 use fuse_config::SessionACL;
 use fuse_loop::Incoming;
 use fuse_request::{AnyRequest, Operation};
-use fuse_wire::Errno;
+use fuse_wire::{Errno, InitFlags};
 
 /// The error of an operation that no filesystem is asked.
 fn fixed_error(operation: &Operation<'_>) -> Option<Errno>
@@ -54,12 +54,12 @@ fn judge(operation: Operation<'_>) -> Verdict<'_>
     }
 }
 
-/// The verdict on a message after the handshake, of a session of this owner that serves these users. It asks no
-/// filesystem and takes no memory. The first of these that applies:
+/// The verdict on a message after the handshake, of a session of this owner that serves these users and whose handshake
+/// granted these capabilities. It asks no filesystem and takes no memory. The first of these that applies:
 ///
 /// - a header that is not good: `Broken`;
 /// - DESTROY: `Ends`;
-/// - what does not decode: ENOSYS, whoever sends it;
+/// - what does not decode under these capabilities: ENOSYS, whoever sends it;
 /// - a user who is not served: EACCES. INIT, DESTROY, READ, WRITE, READDIR, READDIRPLUS, FSYNC, FSYNCDIR, RELEASE,
 ///   RELEASEDIR, FORGET and BATCH_FORGET pass, whoever sends them;
 /// - another INIT: EIO;
@@ -67,9 +67,9 @@ fn judge(operation: Operation<'_>) -> Verdict<'_>
 /// - an offset or a length that is in no file, of READ, WRITE, FALLOCATE or COPY_FILE_RANGE: EINVAL;
 /// - FORGET and BATCH_FORGET: `Forget`;
 /// - all else: `Call`.
-pub fn verdict(acl: SessionACL, owner: u32, message: &[u8]) -> Verdict<'_>
-    ensures decides { Decides (header_fields message.now).nodeid.0 result (verdict acl owner message.now) }
-    ensures operation { AsksFor result message.now }
+pub fn verdict(acl: SessionACL, owner: u32, granted: InitFlags, message: &[u8]) -> Verdict<'_>
+    ensures decides { Decides (header_fields message.now).nodeid.0 result (verdict (terms acl owner granted) message.now) }
+    ensures operation { AsksFor result granted.0 message.now }
 {
     match Incoming::of(message) {
         Incoming::Broken(error) => return Verdict::Broken(error),
@@ -77,7 +77,8 @@ pub fn verdict(acl: SessionACL, owner: u32, message: &[u8]) -> Verdict<'_>
         Incoming::Request => {}
     }
     let request = AnyRequest::from_checked(message);
-    match (AccessRule { acl, owner }).operation(&request) {
+    let rule = AccessRule { acl, owner };
+    match (Terms { rule, granted }).operation(&request) {
         Ok(operation) => judge(operation),
         Err(error) => Verdict::Fixed(error),
     }

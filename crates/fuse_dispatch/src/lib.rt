@@ -15,7 +15,7 @@ mod giving;
 mod handler;
 mod judge;
 
-pub use access::AccessRule;
+pub use access::{AccessRule, Terms};
 pub use asking::Asking;
 pub use decision::Verdict;
 pub use dispatch::{Service, Shared};

@@ -16,7 +16,7 @@ use fuse_request::{ForgetList, Request};
 use fuse_wire::{
     AccessFlags, BsdFileFlags, CopyFileRangeFlags, Duration, Errno, FileAttr, FileHandle, FileType,
     Generation, INodeNo, IoctlFlags, LockOwner, OpenFlags, PollEvents, PollFlags, RenameFlags,
-    SystemTime, TimeOrNow, WriteFlags,
+    SetxattrFlags, SystemTime, TimeOrNow, WriteFlags,
 };
 
 /// What `hello.txt` holds.
@@ -378,6 +378,7 @@ impl Filesystem for Hello {
         _value: &[u8],
         _flags: i32,
         _position: u32,
+        _setxattr_flags: SetxattrFlags,
         reply: ReplyEmpty,
     ) -> Replied {
         defaults::setxattr(reply)

@@ -18,7 +18,7 @@ use fuse_request::{ForgetList, Request};
 use fuse_wire::{
     AccessFlags, BsdFileFlags, CopyFileRangeFlags, Errno, FileHandle, FileType, Generation,
     INodeNo, IoctlFlags, LockOwner, NoMemory, OpenAccMode, OpenFlags, PollEvents, PollFlags,
-    RenameFlags, SystemTime, TimeOrNow, WriteFlags,
+    RenameFlags, SetxattrFlags, SystemTime, TimeOrNow, WriteFlags,
 };
 use std::marker::Model;
 
@@ -313,6 +313,7 @@ impl<T: Files + Send + Sync> Filesystem for ReadOnly<T> {
         _value: &[u8],
         _flags: i32,
         _position: u32,
+        _setxattr_flags: SetxattrFlags,
         reply: ReplyEmpty,
     ) -> Replied {
         reply.error(Errno::EROFS)

@@ -19,8 +19,8 @@ use fuse_reply::{
 use fuse_request::{ForgetList, Request};
 use fuse_wire::{
     AccessFlags, BsdFileFlags, CopyFileRangeFlags, Errno, FileHandle, INodeNo, InitFlags,
-    IoctlFlags, LockOwner, OpenFlags, PollEvents, PollFlags, RenameFlags, SystemTime, TimeOrNow,
-    WriteFlags,
+    IoctlFlags, LockOwner, OpenFlags, PollEvents, PollFlags, RenameFlags, SetxattrFlags,
+    SystemTime, TimeOrNow, WriteFlags,
 };
 use std::alloc::{AllocFailed, Global};
 use std::collections::VecDeque;
@@ -418,6 +418,7 @@ impl<R: Wait + Send + Sync> Filesystem for OneLock<R> {
         _value: &[u8],
         _flags: i32,
         _position: u32,
+        _setxattr_flags: SetxattrFlags,
         reply: ReplyEmpty,
     ) -> Replied {
         defaults::setxattr(reply)

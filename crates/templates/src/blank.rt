@@ -13,7 +13,8 @@ use fuse_reply::{
 use fuse_request::{ForgetList, Request};
 use fuse_wire::{
     AccessFlags, BsdFileFlags, CopyFileRangeFlags, Errno, FileHandle, INodeNo, IoctlFlags,
-    LockOwner, OpenFlags, PollEvents, PollFlags, RenameFlags, SystemTime, TimeOrNow, WriteFlags,
+    LockOwner, OpenFlags, PollEvents, PollFlags, RenameFlags, SetxattrFlags, SystemTime, TimeOrNow,
+    WriteFlags,
 };
 
 /// Nothing of its own: each call is answered by default. A filesystem of one's own begins as a copy of this file and of
@@ -236,6 +237,7 @@ impl Filesystem for Blank {
         _value: &[u8],
         _flags: i32,
         _position: u32,
+        _setxattr_flags: SetxattrFlags,
         reply: ReplyEmpty,
     ) -> Replied {
         defaults::setxattr(reply)

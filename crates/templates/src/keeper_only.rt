@@ -14,7 +14,8 @@ use fuse_reply::{
 use fuse_request::{ForgetList, Request};
 use fuse_wire::{
     AccessFlags, BsdFileFlags, CopyFileRangeFlags, Errno, FileHandle, INodeNo, IoctlFlags,
-    LockOwner, OpenFlags, PollEvents, PollFlags, RenameFlags, SystemTime, TimeOrNow, WriteFlags,
+    LockOwner, OpenFlags, PollEvents, PollFlags, RenameFlags, SetxattrFlags, SystemTime, TimeOrNow,
+    WriteFlags,
 };
 
 /// A filesystem over another, in which one user alone, its keeper, takes names away or changes them: UNLINK, RMDIR and
@@ -272,10 +273,19 @@ impl<FS: Filesystem> Filesystem for KeeperOnly<FS> {
         value: &[u8],
         flags: i32,
         position: u32,
+        setxattr_flags: SetxattrFlags,
         reply: ReplyEmpty,
     ) -> Replied {
-        self.below
-            .setxattr(request, ino, name, value, flags, position, reply)
+        self.below.setxattr(
+            request,
+            ino,
+            name,
+            value,
+            flags,
+            position,
+            setxattr_flags,
+            reply,
+        )
     }
 
     fn getxattr(

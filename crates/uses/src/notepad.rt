@@ -18,7 +18,7 @@ use fuse_session::{Filesystem, defaults};
 use fuse_wire::{
     AccessFlags, BsdFileFlags, CopyFileRangeFlags, Errno, FileAttr, FileHandle, Generation,
     INodeNo, IoctlFlags, LockOwner, NoMemory, OpenFlags, PollEvents, PollFlags, RenameFlags,
-    SystemTime, TimeOrNow, WriteFlags,
+    SetxattrFlags, SystemTime, TimeOrNow, WriteFlags,
 };
 use std::alloc::Global;
 use std::sync::{Mutex, Wait};
@@ -338,6 +338,7 @@ impl<R: Wait + Send + Sync> Filesystem for Notepad<R> {
         _value: &[u8],
         _flags: i32,
         _position: u32,
+        _setxattr_flags: SetxattrFlags,
         reply: ReplyEmpty,
     ) -> Replied {
         defaults::setxattr(reply)

@@ -10,5 +10,5 @@ pub returns-clause-owed : goal.returns-clause-owed
 returns-clause-owed g c =
     let service = c.args.self.now in
     let m = c.args.message.now in
-    owed-at-once (g.H.Handler.owes service.handler) (request_of (header_fields m)) (verdict service.rule.acl service.rule.owner m)
+    owed-at-once (g.H.Handler.owes service.handler) (request_of (header_fields m)) (verdict service.terms m)
     c.args._seq (id_of m) Shut c.answer_by.result c.answer_by.ensures.owed

@@ -12,6 +12,6 @@ returns-then-DEFERS-clause-owed g c =
     let request = request_of (header_fields c.args.message.now) in
     let id = id_of c.args.message.now in
     let later : g.H.Handler.DEFERS ≡ true = search rules in
-    owed-comes (g.H.Handler.owes service.handler) request (verdict service.rule.acl service.rule.owner c.args.message.now)
+    owed-comes (g.H.Handler.owes service.handler) request (verdict service.terms c.args.message.now)
     g.H.Handler.DEFERS c.args.notifier.now.line c.args.seq id c.args.door c.answer_by.result
     (λ call. g.met.H.Handler.owes_later service.handler request call c.args.seq id later) c.requires.door c.answer_by.ensures.owed
