@@ -17,8 +17,8 @@ use Rattle.fuse_dispatch.specs.Promise.{MayInit}
 use Rattle.fuse_loop.specs.Incoming.{incoming, incoming_by, AllGoOn}
 use Rattle.fuse_loop.specs.Incoming.Incoming.{Broken, Request}
 use Rattle.fuse_session.specs.Handshake.{greeting, greeting_by_header, greeting_by_operation, greeting_by_version, offer_of, is_old, Greets}
-use Rattle.fuse_session.specs.Handshake.{NegotiationReply, Handshake, HandshakeEnd}
-use Rattle.fuse_session.specs.Handshake.HandshakeEnd.{Open, Accepted, Failed}
+use Rattle.fuse_session.specs.Handshake.{NegotiationReply, Handshake, HandshakeEnd, IsAccepted}
+use Rattle.fuse_session.specs.Handshake.HandshakeEnd.{Open, Failed}
 use Rattle.fuse_session.specs.Exchange.{Setup, EndedBy, Dialogue, Exchange, Unopened}
 use Rattle.fuse_session.specs.SessionEnd.{Outcome}
 use Rattle.fuse_session.specs.Complete.{AcceptsAll, GoodHeaders, HandshakeWell, IsInit, Opens, OpensAtLeast, OpensWell, SessionWell}
@@ -60,16 +60,16 @@ by_version-offered h i major minor =
 
 -- a handshake of messages that open well is open, or accepted
 abbrev GoesWell : (Later : List (List ℕ) → Type 0) → HandshakeEnd → (rest : List (List ℕ)) → Type 0
-GoesWell Later end rest = ((end ≡ Open) × Opens Later rest) ⊎ ((end ≡ Accepted) × Later rest)
+GoesWell Later end rest = ((end ≡ Open) × Opens Later rest) ⊎ (IsAccepted end × Later rest)
 
 negotiates-well : {F : Type 0} (may_init : MayInit F) (page : ℕ) (fs fs1 : F) (request : Asker) (offer : Offer)
     (config : Configuration) (r : Result (Unit {0}) ℕ)
     (frames : List (List ℕ)) (end : HandshakeEnd)
     → AcceptsAll may_init fs → may_init fs request (start offer.capabilities.0 offer.max_readahead offer.version) r fs1 config
-    → NegotiationReply request.unique.0 offer page config r frames end → end ≡ Accepted
+    → NegotiationReply request.unique.0 offer page config r frames end → IsAccepted end
 negotiates-well may_init page fs fs1 request offer config (Err e) frames end accepts allowed p =
     absurd (accepts request (start offer.capabilities.0 offer.max_readahead offer.version) config e fs1 allowed)
-negotiates-well may_init page fs fs1 request offer config (Ok u) frames end accepts allowed p = p.1
+negotiates-well may_init page fs fs1 request offer config (Ok u) frames end accepts allowed p = (_, p.1)
 
 greets-well : {F : Type 0} (Later : List (List ℕ) → Type 0)
     (may_init : MayInit F) (page : ℕ) (fs fs1 : F) (h : Header) (i : InitArguments) (ms rest frames : List (List ℕ)) (end : HandshakeEnd)
@@ -110,8 +110,8 @@ refused-greeting may_init page fs fs1 (Old id v) ms frames n later accepts more 
 refused-greeting may_init page fs fs1 (Newer id) ms frames n later accepts more greets = more greets.0 greets.2
 refused-greeting may_init page fs fs1 (Offered request offer) ms frames n later accepts more greets =
     let p = greets.1 in
-    let is : Failed (Init n) ≡ Accepted =
-    negotiates-well may_init page fs fs1 request offer p.config p.result frames (Failed (Init n)) accepts p.allowed p.replies in cc
+    let accepted : IsAccepted (Failed (Init n)) =
+    negotiates-well may_init page fs fs1 request offer p.config p.result frames (Failed (Init n)) accepts p.allowed p.replies in let is = accepted.1 in cc
 
 refused-handshake : {F : Type 0} (may_init : MayInit F) (page : ℕ) (fs fs1 : F) (ms frames : List (List ℕ)) (n : ℕ)
     → AcceptsAll may_init fs → Handshake may_init page fs ms frames fs1 (Failed (Init n)) → ⊥
@@ -146,14 +146,14 @@ never-broken (m ∷ ms) last rest e go broken good =
 
 not-failed : (Later : List (List ℕ) → Type 0) (e : HandshakeError) (end : HandshakeEnd) (rest : List (List ℕ)) → end ≡ Failed e → GoesWell Later end rest → ⊥
 not-failed Later e end rest failed (inl w) = let is = w.0 in cc
-not-failed Later e end rest failed (inr w) = let is = w.0 in cc
+not-failed Later e end rest failed (inr w) = let is = w.0.1 in cc
 
 not-open : (Later : List (List ℕ) → Type 0) (end : HandshakeEnd) → end ≡ Open → GoesWell Later end [] → ⊥
 not-open Later end is_open (inl w) = w.1
-not-open Later end is_open (inr w) = let is = w.0 in cc
+not-open Later end is_open (inr w) = let is = w.0.1 in cc
 
-accepted-good : (end : HandshakeEnd) (rest : List (List ℕ)) → end ≡ Accepted → GoesWell GoodHeaders end rest → GoodHeaders rest
-accepted-good end rest accepted (inl w) = absurd (let is = w.0 in let no : ⊥ = cc in no)
+accepted-good : (end : HandshakeEnd) (rest : List (List ℕ)) → IsAccepted end → GoesWell GoodHeaders end rest → GoodHeaders rest
+accepted-good end rest accepted (inl w) = absurd (let is = w.0 in let other = accepted.1 in let no : ⊥ = cc in no)
 accepted-good end rest accepted (inr w) = w.1
 
 -- what is told after the turns taken

@@ -3,6 +3,7 @@ use Rattle.std.proofs.Common.{◌≡◌, ◌≢◌, ◌++◌, ℕ, List, [], ◌
 use Rattle.std.proofs.Common.{refl, map, Option, Some, Err, inl, inr, append-nil}
 use Rattle.std.proofs.lemmas.List.{map-append}
 use Rattle.fuse_wire.specs.Source.{Takes, message, NothingLeft, SourceFailed}
+use Rattle.fuse_wire.specs.declared.flags.init_flags.InitFlags.{InitFlags}
 use Rattle.fuse_wire.proofs.Devices.{Takes-then}
 use Rattle.fuse_reply.specs.declared.out.Out.TheVariants.{Frame}
 use Rattle.fuse_loop.specs.Incoming.{Incoming, EndsAfter, EndsWell, AllGoOn, incoming}
@@ -10,10 +11,11 @@ use Rattle.fuse_loop.specs.Incoming.Incoming.{Destroy}
 use Rattle.fuse_workers.proofs.Accounts.{OnePerMessageLater-none}
 use Rattle.fuse_session.specs.Accounted.{Accounted}
 use Rattle.fuse_dispatch.specs.OwedMessage.{OwedByPromise}
+use Rattle.fuse_dispatch.specs.Verdict.{terms}
 use Rattle.fuse_session.specs.Handshake.{HandshakeEnd}
 use Rattle.fuse_session.specs.HandshakeStep.{HandshakeRun}
 use Rattle.fuse_loop.specs.EventLoop.{Run, RunEnds}
-use Rattle.fuse_session.specs.Exchange.{Setup, RunFollows, EndedBy, Exchange, Unopened}
+use Rattle.fuse_session.specs.Exchange.{Setup, RunFollows, EndedBy, Exchange, Unopened, terms_after}
 use Rattle.fuse_session.specs.SessionEnd.{Outcome, handshake_error, run_outcome}
 use Rattle.fuse_loop.specs.Progress.{Progress}
 use Rattle.fuse_session.specs.declared.error.SessionError.TheVariants.{NotConnected, Threads, Receive}
@@ -75,15 +77,15 @@ alone {F} {setup} {fs} {fs1} {found} {p} {q} result shook takes ends = record {
 
 -- the handshake was accepted, but no thread was to serve
 pub Exchange-unserved : {F : Type 0} {setup : Setup F} {fs fs1 : F} {p q : Progress} → setup.threads ≡ Some 0
-    → HandshakeRun setup.promise.may_init setup.page outcome.Accepted fs fs1 p q → Exchange setup fs fs1 (Err Threads) p q
-Exchange-unserved none shook = alone (Err Threads) shook (λ _. shook.taken (λ is. cc)) ((shook.ended, refl, refl), none)
+    → {granted : InitFlags} → HandshakeRun setup.promise.may_init setup.page (outcome.Accepted granted) fs fs1 p q → Exchange setup fs fs1 (Err Threads) p q
+Exchange-unserved none shook = alone (Err Threads) shook (λ _. shook.taken (λ is. cc)) (((_, shook.ended), refl, refl), none)
 
 -- no message was left in the handshake
 pub Unopened-gone : {F : Type 0} {setup : Setup F} {fs fs1 : F} {p q : Progress}
     → HandshakeRun setup.promise.may_init setup.page outcome.Gone fs fs1 p q → Unopened setup fs fs1 (Err NotConnected) p q
 Unopened-gone shook = record {
   exchange = alone (Err NotConnected) shook (λ _. shook.taken (λ is. cc)) ((shook.ended.0, refl, refl), shook.ended.1);
-  unaccepted = λ is. let open' = shook.ended.0 in cc;
+  unaccepted = λ accepted. let is = accepted.1 in let open' = shook.ended.0 in cc;
 }
 
 -- the source failed in the handshake
@@ -91,7 +93,7 @@ pub Unopened-failed : {F : Type 0} {setup : Setup F} {fs fs1 : F} {p q : Progres
     → HandshakeRun setup.promise.may_init setup.page outcome.Failed fs fs1 p q → Unopened setup fs fs1 (Err Receive) p q
 Unopened-failed shook = record {
   exchange = alone (Err Receive) shook (λ other. absurd (other refl)) (shook.ended.1, inl (shook.ended.0, refl, refl));
-  unaccepted = λ is. let open' = shook.ended.0 in cc;
+  unaccepted = λ accepted. let is = accepted.1 in let open' = shook.ended.0 in cc;
 }
 
 -- a message was refused in the handshake
@@ -106,7 +108,7 @@ pub Unopened-refused : {F : Type 0} {setup : Setup F} {fs fs1 : F} {p q : Progre
     → HandshakeRun setup.promise.may_init setup.page (outcome.Refused e) fs fs1 p q → Unopened setup fs fs1 (Err (handshake_error e)) p q
 Unopened-refused {setup = setup} e shook = record {
   exchange = alone (Err (handshake_error e)) shook (λ _. shook.taken (λ is. cc)) (refused-by setup e shook);
-  unaccepted = λ is. let failed = shook.ended in cc;
+  unaccepted = λ accepted. let is = accepted.1 in let failed = shook.ended in cc;
 }
 
 -- why a session ended whose run ended so
@@ -126,11 +128,11 @@ ended-run (Broken r) threads shook answered refused none_left failed failed' ser
 ended-run Failed threads shook answered refused none_left failed failed' served longer e = (longer e.2, inr (served, e.1, e.0))
 
 -- a session with a run after its handshake
-pub Exchange-ran : {F : Type 0} {setup : Setup F} {fs fs1 : F} {end : End} {p q r : Progress} → setup.threads ≢ Some 0
-    → HandshakeRun setup.promise.may_init setup.page outcome.Accepted fs fs1 p q
-    → Run (Accounted setup.threads setup.promise.defers (OwedByPromise setup.promise fs1 setup.acl setup.owner)) end q r
+pub Exchange-ran : {F : Type 0} {setup : Setup F} {fs fs1 : F} {end : End} {p q r : Progress} (granted : InitFlags) → setup.threads ≢ Some 0
+    → HandshakeRun setup.promise.may_init setup.page (outcome.Accepted granted) fs fs1 p q
+    → Run (Accounted setup.threads setup.promise.defers (OwedByPromise setup.promise fs1 (terms setup.acl setup.owner granted))) end q r
     → Exchange setup fs fs1 (run_outcome end) p r
-Exchange-ran {F} {setup} {fs} {fs1} {end} {p} {q} {r} some shook run = record {
+Exchange-ran {F} {setup} {fs} {fs1} {end} {p} {q} {r} granted some shook run = record {
   turns = shook.turns ++ run.turns;
   sent = shook.sent ++ run.sent;
   notes = run.notes;
@@ -148,12 +150,13 @@ Exchange-ran {F} {setup} {fs} {fs1} {end} {p} {q} {r} some shook run = record {
     heard = map-append message shook.turns run.turns ∙ ap (λ (ms : List (List ℕ)). map message shook.turns ++ ms) run.heard;
     handshake = shook.handshake;
     left_out = shook.left_out;
-    accounted = run.order;
+    accounted = subst (λ (e : HandshakeEnd). Accounted setup.threads setup.promise.defers (OwedByPromise setup.promise fs1 (terms_after setup e))
+        run.answered run.sent run.notes run.lost) (sym shook.ended) run.order;
     said = refl;
     missed = refl;
     ended = ended-run end setup.threads shook.end run.answered run.refused
         (NothingLeft r.source) (SourceFailed q.source r.source)
-        (SourceFailed p.source r.source) (shook.ended, some) (SourceFailed-after p.source q.source r.source took.faults) run.ended;
+        (SourceFailed p.source r.source) ((granted, shook.ended), some) (SourceFailed-after p.source q.source r.source took.faults) run.ended;
   };
   begins = Begins-after shook.turns run.turns p.source q.source took run.begins;
   taken = λ other. Takes-then shook.turns run.turns p.source q.source r.source took (run.taken (λ is. other (ap run_outcome is)));

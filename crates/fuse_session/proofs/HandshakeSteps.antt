@@ -3,6 +3,7 @@ use Rattle.std.proofs.Common.{◌≡◌, ◌≢◌, ◌++◌, ℕ, List, [], ◌
 use Rattle.std.proofs.Common.{take, append_assoc, Result, Ok, Err, inl, inr, pos}
 use Rattle.std.proofs.lemmas.List.{map-append}
 use Rattle.fuse_wire.specs.Source.{SourceState, Takes, message, NothingLeft, SourceFailed}
+use Rattle.fuse_wire.specs.declared.flags.init_flags.InitFlags.{InitFlags}
 use Rattle.fuse_wire.specs.declared.newtypes.RequestId.{RequestId}
 use Rattle.fuse_wire.proofs.Devices.{Takes-none, Takes-then}
 use Rattle.fuse_config.specs.Configuration.{version_payload}
@@ -153,13 +154,13 @@ HandshakeRun-refused may_init page fs g id errno e n a b c next is hands greets 
     refl
 
 -- how what `init` answered ends the handshake
-abbrev pub accepted_outcome : Result (Unit {0}) HandshakeError → HandshakeOutcome
-accepted_outcome (Ok u) = outcome.Accepted
+abbrev pub accepted_outcome : Result InitFlags HandshakeError → HandshakeOutcome
+accepted_outcome (Ok granted) = outcome.Accepted granted
 accepted_outcome (Err e) = outcome.Refused e
 
 -- what `init` answered ended the handshake
 pub HandshakeRun-offered : {F : Type 0} (may_init : MayInit F) (page : ℕ) (fs fs1 : F) (request : Request) (offer : Offer) (f : List ℕ)
-    (accepted : Result (Unit {0}) HandshakeError) (n : ℕ) (a b c : ChannelState)
+    (accepted : Result InitFlags HandshakeError) (n : ℕ) (a b c : ChannelState)
     → TakesNext (Message n) a b → Offered request offer ≡ greeting (take n b.buffer)
     → Negotiates may_init page fs request offer (f ∷ []) fs1 (end_after_init accepted) → DeliversOnce (Frame f) b c
     → HandshakeRun may_init page (accepted_outcome accepted) fs fs1 a.progress c.progress
@@ -169,9 +170,9 @@ HandshakeRun-offered {F} may_init page fs fs1 request offer f accepted n a b c n
     (is ∙ ap greeting next.0.bytes) (refl, negotiates))
     (ends accepted)
   where
-    ends : (accepted : Result (Unit {0}) HandshakeError)
+    ends : (accepted : Result InitFlags HandshakeError)
         → HandshakeEnds (accepted_outcome accepted) (end_after_init accepted) (NothingLeft c.progress.source) (SourceFailed a.progress.source c.progress.source)
-    ends (Ok u) = refl
+    ends (Ok granted) = refl
     ends (Err e) = refl
 
 -- the next message is awaited
@@ -238,7 +239,7 @@ HandshakeOn-then {F} {may_init} {page} {fs} {fs1} {fs2} {p} {q} {r} first second
 -- how a handshake ends whose first messages were answered
 HandshakeEnds-after : (found : HandshakeOutcome) (end : HandshakeEnd) (none_left failed failed' : Type 0) → (failed → failed')
     → HandshakeEnds found end none_left failed → HandshakeEnds found end none_left failed'
-HandshakeEnds-after outcome.Accepted end none_left failed failed' longer e = e
+HandshakeEnds-after (outcome.Accepted granted) end none_left failed failed' longer e = e
 HandshakeEnds-after outcome.Gone end none_left failed failed' longer e = e
 HandshakeEnds-after (outcome.Refused d) end none_left failed failed' longer e = e
 HandshakeEnds-after outcome.Failed end none_left failed failed' longer e = (e.0, longer e.1)

@@ -65,7 +65,7 @@ Accounted-many owed threads defers never many end p q run = Run-accounted run (r
 pub Ran-ends : {F S K : Type 0} (promise : Promise F) (session seen : Opened F S K) (fs' : F) (outcome found : Outcome) (shaken counts found_counts : Transcript)
     (source : SourceState) (sink : SinkState) (source' source'' : SourceState) (sink' sink'' : SinkState)
     → session ≡ seen → seen.progress ≡ progress source sink shaken []
-    → ((unasked : List (List ℕ)) × LaterServed promise seen.filesystem seen.acl seen.owner seen.threads found (progress source sink shaken [])
+    → ((unasked : List (List ℕ)) × LaterServed promise seen.filesystem seen.terms seen.threads found (progress source sink shaken [])
     (progress source'' sink'' found_counts unasked))
     → (counts ≡ found_counts) × (outcome ≡ found) → (source' ≡ source'') × (sink' ≡ sink'') → promise.may_destroy seen.filesystem fs'
     → (NeverLater seen.threads promise.defers → found_counts.unrecorded ≡ 0) → Ran promise session fs' outcome source' sink' counts
@@ -73,10 +73,10 @@ Ran-ends promise session seen fs' outcome found shaken counts found_counts sourc
     recorded =
     subst (λ (s : _). Ran promise s fs' outcome source' sink' counts) (sym is) (record {
       unasked = ends.0;
-      ends = subst (λ (p : Progress). LaterServed promise seen.filesystem seen.acl seen.owner seen.threads outcome p (progress source' sink' counts ends.0))
+      ends = subst (λ (p : Progress). LaterServed promise seen.filesystem seen.terms seen.threads outcome p (progress source' sink' counts ends.0))
           (sym start)
-          (subst (λ (q : Progress). LaterServed promise seen.filesystem seen.acl seen.owner seen.threads outcome (progress source sink shaken []) q) after
-          (subst (λ (o : Outcome). LaterServed promise seen.filesystem seen.acl seen.owner seen.threads o (progress source sink shaken [])
+          (subst (λ (q : Progress). LaterServed promise seen.filesystem seen.terms seen.threads outcome (progress source sink shaken []) q) after
+          (subst (λ (o : Outcome). LaterServed promise seen.filesystem seen.terms seen.threads o (progress source sink shaken [])
           (progress source'' sink'' found_counts ends.0)) (sym told.1) ends.1));
       recorded = λ never. ap (λ (t : Transcript). t.unrecorded) told.0 ∙ recorded never;
       destroyed = destroyed;

@@ -29,7 +29,7 @@ use Rattle.fuse_session.proofs.Headlining.{Headline-from_exchange, LaterHeadline
 -- a handshake that was accepted and a run after it are a session
 pub Exchange-opened : {F S K : Type 0} (promise : Promise F) (page : ℕ) (fs : F) (source : SourceState) (sink : SinkState) (session : Opened F S K)
     (outcome : Outcome) (after : Progress) → IsOpened promise page fs source sink session
-    → LaterServed promise session.filesystem session.acl session.owner session.threads outcome session.progress after
+    → LaterServed promise session.filesystem session.terms session.threads outcome session.progress after
     → Exchange (setup_for promise page session) fs session.filesystem outcome (progress source sink nothing_yet []) after
 Exchange-opened {F} promise page fs source sink session outcome after opened (inl none) =
     subst (λ (p : Progress). Exchange (setup_for promise page session) fs session.filesystem outcome (progress source sink nothing_yet []) p)
@@ -38,7 +38,7 @@ Exchange-opened {F} promise page fs source sink session outcome after opened (in
     (sym none.1) (Exchange-unserved {setup = setup_for promise page session} none.0 opened))
 Exchange-opened {F} promise page fs source sink session outcome after opened (inr ran) =
     subst (λ (o : Outcome). Exchange (setup_for promise page session) fs session.filesystem o (progress source sink nothing_yet []) after)
-    (sym ran.1.1) (Exchange-ran {setup = setup_for promise page session} ran.0 opened ran.1.2)
+    (sym ran.1.1) (Exchange-ran {setup = setup_for promise page session} session.terms.granted ran.0 opened ran.1.2)
 
 pub Mounted-ran : {F S K : Type 0} (promise : Promise F) (page : ℕ) (fs fs' : F) (source source' : SourceState) (sink sink' : SinkState)
     (session : Opened F S K) (outcome : Outcome) (counts : Transcript) → IsOpened promise page fs source sink session
@@ -55,7 +55,7 @@ Mounted-ran promise page fs fs' source source' sink sink' session outcome counts
 pub Headline-ran : {F S K : Type 0} (promise : Promise F) (page : ℕ) (fs fs' : F) (source source' : SourceState) (sink sink' : SinkState)
     (session : Opened F S K) (outcome : Outcome) (counts : Transcript) → NeverLater session.threads promise.defers → IsOpened promise page fs source sink session
     → Ran promise session fs' outcome source' sink' counts → outcome ≡ Ok tt → Lossless sink sink' counts
-    → Headline promise page session.acl session.owner fs source source' sink sink'
+    → Headline promise page session.terms.rule.acl session.terms.rule.owner fs source source' sink sink'
 Headline-ran promise page fs fs' source source' sink sink' session outcome counts never opened ran ok lossless =
     let s = setup_for promise page session in
     let p = progress source sink nothing_yet [] in
@@ -68,7 +68,7 @@ Headline-ran promise page fs fs' source source' sink sink' session outcome count
 pub OrderedHeadline-ran : {F S K : Type 0} (promise : Promise F) (page : ℕ) (fs fs' : F) (source source' : SourceState) (sink sink' : SinkState)
     (session : Opened F S K) (outcome : Outcome) (counts : Transcript) → ¬ (ManyThreads session.threads) → IsOpened promise page fs source sink session
     → Ran promise session fs' outcome source' sink' counts → outcome ≡ Ok tt → Lossless sink sink' counts
-    → OrderedHeadline promise page session.acl session.owner fs source source' sink sink'
+    → OrderedHeadline promise page session.terms.rule.acl session.terms.rule.owner fs source source' sink sink'
 OrderedHeadline-ran promise page fs fs' source source' sink sink' session outcome counts one opened ran ok lossless =
     let s = setup_for promise page session in
     let p = progress source sink nothing_yet [] in
@@ -81,7 +81,7 @@ OrderedHeadline-ran promise page fs fs' source source' sink sink' session outcom
 pub LaterHeadline-ran : {F S K : Type 0} (promise : Promise F) (page : ℕ) (fs fs' : F) (source source' : SourceState) (sink sink' : SinkState)
     (session : Opened F S K) (outcome : Outcome) (counts : Transcript) → IsOpened promise page fs source sink session
     → Ran promise session fs' outcome source' sink' counts → outcome ≡ Ok tt → Lossless sink sink' counts
-    → LaterHeadline promise page session.acl session.owner fs source source' sink sink'
+    → LaterHeadline promise page session.terms.rule.acl session.terms.rule.owner fs source source' sink sink'
 LaterHeadline-ran promise page fs fs' source source' sink sink' session outcome counts opened ran ok lossless =
     let s = setup_for promise page session in
     let p = progress source sink nothing_yet [] in
@@ -112,11 +112,11 @@ pub Ok-from_run : {F S K : Type 0} (promise : Promise F) (session : Opened F S K
 Ok-from_run promise session fs' outcome source' sink' counts ran well =
     by_end ran.ends
   where
-    by_end : LaterServed promise session.filesystem session.acl session.owner session.threads outcome session.progress
+    by_end : LaterServed promise session.filesystem session.terms session.threads outcome session.progress
         (progress source' sink' counts ran.unasked) → outcome ≡ Ok tt
     by_end (inl none) = absurd (well.served none.0)
     by_end (inr some) =
-        some.1.1 ∙ Ok-from_end (Accounted session.threads promise.defers (OwedByPromise promise session.filesystem session.acl session.owner)) some.1.0
+        some.1.1 ∙ Ok-from_end (Accounted session.threads promise.defers (OwedByPromise promise session.filesystem session.terms)) some.1.0
         session.progress (progress source' sink' counts ran.unasked) well.turns some.1.2 well.told well.good
         well.unfailing
 
@@ -132,7 +132,7 @@ pub EndsRun-ran : {F S K : Type 0} {promise : Promise F} {session : Opened F S K
 EndsRun-ran {F} {S} {K} {promise} {session} {fs'} {outcome} {source'} {sink'} {counts} ran =
     by_end ran.ends
   where
-    by_end : LaterServed promise session.filesystem session.acl session.owner session.threads outcome session.progress
+    by_end : LaterServed promise session.filesystem session.terms session.threads outcome session.progress
         (progress source' sink' counts ran.unasked) → EndsRun outcome
     by_end (inl none) = subst (λ (o : Outcome). EndsRun o) (sym none.1) tt
     by_end (inr some) = subst (λ (o : Outcome). EndsRun o) (sym some.1.1) (ends_run-outcome some.1.0)
@@ -149,7 +149,7 @@ pub Threads-ran : {F S K : Type 0} {promise : Promise F} {session : Opened F S K
 Threads-ran {F} {S} {K} {promise} {session} {fs'} {outcome} {source'} {sink'} {counts} ran =
     by_end ran.ends
   where
-    by_end : LaterServed promise session.filesystem session.acl session.owner session.threads outcome session.progress
+    by_end : LaterServed promise session.filesystem session.terms session.threads outcome session.progress
         (progress source' sink' counts ran.unasked) → (outcome ≡ Err Threads) ↔ (session.threads ≡ Some 0)
     by_end (inl none) = (λ _. none.0, λ _. none.1)
     by_end (inr some) = (λ is. absurd (not_threads-outcome some.1.0 (sym some.1.1 ∙ is)), λ is. absurd (some.0 is))

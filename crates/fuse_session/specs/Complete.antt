@@ -18,7 +18,7 @@ use Rattle.fuse_session.specs.Ran.{Opened}
 pub record IsInit (m : List ℕ) (init : InitArguments) : Type 0 where
   pub head : Header
   pub good : header m ≡ Ok head
-  pub decodes : operation head.opcode (body m) ≡ Ok (Init init)
+  pub decodes : operation 0 head.opcode (body m) ≡ Ok (Init init)
 
 -- the headers are good up to the first DESTROY, after which may stand anything
 abbrev pub GoodHeaders : List (List ℕ) → Type 0

@@ -12,8 +12,10 @@ use Rattle.fuse_session.specs.SessionEnd.{Outcome}
 use Rattle.fuse_dispatch.specs.Promise.{Promise}
 use Rattle.fuse_loop.specs.Incoming.{AllGoOn, EndsWell, HeaderRefused}
 use Rattle.fuse_dispatch.specs.OwedMessage.{OwedByPromise}
-use Rattle.fuse_session.specs.Handshake.{HandshakeEnd, Handshake}
-use Rattle.fuse_session.specs.Handshake.HandshakeEnd.{Open, Accepted, Failed}
+use Rattle.fuse_dispatch.specs.Verdict.{terms}
+use Rattle.fuse_dispatch.specs.declared.access.Terms.{Terms}
+use Rattle.fuse_session.specs.Handshake.{HandshakeEnd, Handshake, IsAccepted, granted_by}
+use Rattle.fuse_session.specs.Handshake.HandshakeEnd.{Open, Failed}
 use Rattle.fuse_loop.specs.Progress.{Progress, Moves, Begins, LeavesOut, nothing_yet, progress}
 use Rattle.fuse_session.specs.declared.invalid_data.InvalidData.TheVariants.{Header}
 use Rattle.fuse_session.specs.declared.error.SessionError.TheVariants.{Conflict, AutoUnmount, CloneFd, Memory}
@@ -35,13 +37,17 @@ setup_of promise page threads acl owner = record { promise = promise; page = pag
 abbrev pub setup : {F : Type 0} → Promise F → (page : ℕ) → Config → (owner : ℕ) → Setup F
 setup promise page config owner = setup_of promise page config.n_threads config.acl owner
 
+-- the terms of a session whose handshake ended so
+abbrev pub terms_after : {F : Type 0} → Setup F → HandshakeEnd → Terms
+terms_after setup end = terms setup.acl setup.owner (granted_by end)
+
 -- the handshake ended so, and no message came after it
-abbrev pub HandshakeAlone : (end' end : HandshakeEnd) → (answered refused : List (List ℕ)) → Type 0
-HandshakeAlone end' end answered refused = (end ≡ end') × (answered ≡ []) × (refused ≡ [])
+abbrev pub HandshakeAlone : (ended : Type 0) → (answered refused : List (List ℕ)) → Type 0
+HandshakeAlone ended answered refused = ended × (answered ≡ []) × (refused ≡ [])
 
 -- the handshake was accepted, and some thread is to serve the run after it
 abbrev pub RunFollows : (threads : Option ℕ) → HandshakeEnd → Type 0
-RunFollows threads end = (end ≡ Accepted) × (threads ≢ Some 0)
+RunFollows threads end = IsAccepted end × (threads ≢ Some 0)
 
 -- Why a session had this outcome. Ok: all later messages were answered, up to the last one there is, or DESTROY. NotConnected: no
 -- message was left in the handshake. InvalidData: the handshake ended so, or the last header is refused. Unsupported and Init: the
@@ -53,17 +59,17 @@ EndedBy (Err (Conflict first second)) threads end answered refused none_left fai
 EndedBy (Err AutoUnmount) threads end answered refused none_left failed = ⊥
 EndedBy (Err CloneFd) threads end answered refused none_left failed = ⊥
 EndedBy (Err Memory) threads end answered refused none_left failed = ⊥
-EndedBy (Err NotConnected) threads end answered refused none_left failed = HandshakeAlone Open end answered refused × none_left
+EndedBy (Err NotConnected) threads end answered refused none_left failed = HandshakeAlone (end ≡ Open) answered refused × none_left
 EndedBy (Err (InvalidData d)) threads end answered refused none_left failed =
-    HandshakeAlone (Failed (refusal.InvalidData d)) end answered refused
+    HandshakeAlone (end ≡ Failed (refusal.InvalidData d)) answered refused
     ⊎ (RunFollows threads end × AllGoOn answered × ((e : RequestError) × (d ≡ Header e) × HeaderRefused e refused))
 EndedBy (Err (Unsupported v)) threads end answered refused none_left failed =
-    HandshakeAlone (Failed (refusal.Unsupported v)) end answered refused
+    HandshakeAlone (end ≡ Failed (refusal.Unsupported v)) answered refused
 EndedBy (Err (Init e)) threads end answered refused none_left failed =
-    HandshakeAlone (Failed (refusal.Init e)) end answered refused
-EndedBy (Err Threads) threads end answered refused none_left failed = HandshakeAlone Accepted end answered refused × (threads ≡ Some 0)
+    HandshakeAlone (end ≡ Failed (refusal.Init e)) answered refused
+EndedBy (Err Threads) threads end answered refused none_left failed = HandshakeAlone (IsAccepted end) answered refused × (threads ≡ Some 0)
 EndedBy (Err Receive) threads end answered refused none_left failed =
-    failed × (HandshakeAlone Open end answered refused ⊎ (RunFollows threads end × AllGoOn answered × (refused ≡ [])))
+    failed × (HandshakeAlone (end ≡ Open) answered refused ⊎ (RunFollows threads end × AllGoOn answered × (refused ≡ [])))
 
 -- What was heard and said, whatever carried it: these messages were taken, these replies and notes were sent, and these replies and
 -- notes were lost. `none_left` says that no message was left, and `failed` that the source failed.
@@ -84,7 +90,7 @@ pub record Dialogue {F : Type 0} (setup : Setup F) (fs fs1 : F) (outcome : Outco
   pub heard : messages ≡ hs ++ (answered ++ refused)
   pub handshake : Handshake setup.promise.may_init setup.page fs hs handshake_replies fs1 end
   pub left_out : LeavesOut lost_first handshake_replies handshake_sent
-  pub accounted : Accounted setup.threads setup.promise.defers (OwedByPromise setup.promise fs1 setup.acl setup.owner) answered later_sent notes lost_later
+  pub accounted : Accounted setup.threads setup.promise.defers (OwedByPromise setup.promise fs1 (terms_after setup end)) answered later_sent notes lost_later
   pub said : sent ≡ handshake_sent ++ later_sent
   pub missed : lost ≡ map Frame lost_first ++ lost_later
   pub ended : EndedBy outcome setup.threads end answered refused none_left failed
@@ -113,7 +119,7 @@ pub record Mounted {F : Type 0} (setup : Setup F) (fs fs' : F) (outcome : Outcom
 -- a session that was no more than its handshake, in which no INIT was accepted
 pub record Unopened {F : Type 0} (setup : Setup F) (fs fs1 : F) (outcome : Outcome) (before after : Progress) : Type 0 where
   pub exchange : Exchange setup fs fs1 outcome before after
-  pub unaccepted : exchange.dialogue.end ≢ Accepted
+  pub unaccepted : ¬ (IsAccepted exchange.dialogue.end)
 
 -- the same from its start, with its end, at which `destroy` was called once
 pub record Closed {F : Type 0} (setup : Setup F) (fs fs' : F) (outcome : Outcome)

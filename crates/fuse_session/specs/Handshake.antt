@@ -3,8 +3,9 @@ use Rattle.std.specs.Prelude.{◌≡◌, ◌≤◌, ◌&&◌, ◌||◌, ◌==◌
 use Rattle.std.specs.Prelude.{◌∷◌, Option, None, Some, Result, Ok, Err, nat_lt, pos, if◌then◌else◌}
 use Rattle.fuse_args.specs.declared.fixed.InitArguments.{InitArguments}
 use Rattle.fuse_wire.specs.ErrorNumbers.{EIO, EPROTO}
+use Rattle.fuse_wire.specs.declared.flags.init_flags.InitFlags.{InitFlags}
 use Rattle.fuse_config.specs.Values.{Configuration}
-use Rattle.fuse_config.specs.Configuration.{start, init_payload, version_payload}
+use Rattle.fuse_config.specs.Configuration.{granted_of, start, init_payload, version_payload}
 use Rattle.fuse_header.specs.declared.error.RequestError.{RequestError}
 use Rattle.fuse_header.specs.declared.header.Header.{Header}
 use Rattle.fuse_header.specs.declared.request.Request.{Request}
@@ -52,9 +53,10 @@ abbrev pub greeting_by_operation : Header → Result Op RequestError → Greetin
 greeting_by_operation h (Err e) = Silent (invalid.Operation e)
 greeting_by_operation h (Ok op) = greeting_by_init h (init_of op)
 
+-- nothing is granted yet
 abbrev pub greeting_by_header : Result Header RequestError → (rest : List ℕ) → Greeting
 greeting_by_header (Err e) rest = Silent (invalid.Header e)
-greeting_by_header (Ok h) rest = greeting_by_operation h (operation h.opcode rest)
+greeting_by_header (Ok h) rest = greeting_by_operation h (operation 0 h.opcode rest)
 
 -- What the library makes of a message in the handshake: it is no good message; it is no INIT; or it is an INIT whose version is too
 -- old, of a later major version, or one that the filesystem is asked about.
@@ -69,10 +71,10 @@ IsSpoken (Old id v) = Unit {0}
 IsSpoken (Newer id) = Unit {0}
 IsSpoken (Offered request offer) = 6 ≤ offer.version.1
 
--- how a handshake ends: no message is left, an INIT was accepted, or a message was refused
+-- how a handshake ends: no message is left; an INIT was accepted, and these capabilities were granted; or a message was refused
 pub data HandshakeEnd : Type 0 where
   Open : HandshakeEnd
-  Accepted : HandshakeEnd
+  Accepted : (granted : InitFlags) → HandshakeEnd
   Failed : (e : HandshakeError) → HandshakeEnd
 
 -- what `init` answered is the reply: an error with a number in range, or what was negotiated
@@ -80,7 +82,18 @@ abbrev pub NegotiationReply : (id : ℕ) → Offer → (page : ℕ) → Configur
 NegotiationReply id offer page config (Err e) frames end =
     (frames ≡ reply id (Error e) ∷ []) × (end ≡ Failed (refusal.Init e)) × IsAnswer (Error e)
 NegotiationReply id offer page config (Ok u) frames end =
-    (frames ≡ frame id (pos 0) (init_payload config offer.capabilities.0 offer.version.1 page) ∷ []) × (end ≡ Accepted)
+    (frames ≡ frame id (pos 0) (init_payload config offer.capabilities.0 offer.version.1 page) ∷ [])
+    × (end ≡ Accepted (record { 0 = granted_of config offer.capabilities.0 }))
+
+-- an INIT was accepted
+abbrev pub IsAccepted : HandshakeEnd → Type 0
+IsAccepted end = (granted : InitFlags) × (end ≡ Accepted granted)
+
+-- what was granted: nothing, where no INIT was accepted
+abbrev pub granted_by : HandshakeEnd → InitFlags
+granted_by Open = record { 0 = 0 }
+granted_by (Accepted granted) = granted
+granted_by (Failed e) = record { 0 = 0 }
 
 -- the filesystem's `init` may do so from the start values of this INIT
 pub record Negotiates {F : Type 0} (may_init : MayInit F) (page : ℕ) (fs : F) (request : Request) (offer : Offer)

@@ -1,6 +1,7 @@
 -- The handshake as it is run: what it takes, what its messages get, and how it ends.
 use Rattle.std.specs.Prelude.{◌≡◌, ◌≢◌, ◌++◌, ℕ, List, [], Option, None, Some, Result, Ok, Err, map, length}
 use Rattle.fuse_wire.specs.Source.{Takes, message, NothingLeft, SourceFailed}
+use Rattle.fuse_wire.specs.declared.flags.init_flags.InitFlags.{InitFlags}
 use Rattle.fuse_reply.specs.declared.out.Out.TheVariants.{Frame}
 use Rattle.fuse_dispatch.specs.Promise.{MayInit}
 use Rattle.fuse_session.specs.Handshake.{HandshakeEnd, Handshake}
@@ -10,14 +11,14 @@ use Rattle.fuse_session.specs.declared.greeting.HandshakeError.{HandshakeError}
 use Rattle.fuse_session.specs.declared.steps.HandshakeOutcome.{HandshakeOutcome}
 use Rattle.fuse_session.specs.declared.steps.HandshakeOutcome.TheVariants as outcome
 
--- the end of a handshake where `init` accepted, or why not
-abbrev pub end_after_init : Result (Unit {0}) HandshakeError → HandshakeEnd
-end_after_init (Ok u) = Accepted
+-- the end of a handshake where `init` accepted and this was granted, or why not
+abbrev pub end_after_init : Result InitFlags HandshakeError → HandshakeEnd
+end_after_init (Ok granted) = Accepted granted
 end_after_init (Err e) = IsFailed e
 
 -- how the outcome tells of the handshake's end
 abbrev pub HandshakeEnds : HandshakeOutcome → HandshakeEnd → (none_left failed : Type 0) → Type 0
-HandshakeEnds outcome.Accepted end none_left failed = end ≡ Accepted
+HandshakeEnds (outcome.Accepted granted) end none_left failed = end ≡ Accepted granted
 HandshakeEnds outcome.Gone end none_left failed = (end ≡ Open) × none_left
 HandshakeEnds (outcome.Refused e) end none_left failed = end ≡ IsFailed e
 HandshakeEnds outcome.Failed end none_left failed = (end ≡ Open) × failed

@@ -15,17 +15,17 @@ use Rattle.fuse_session.specs.declared.error.SessionError.TheVariants.{NotConnec
 use Rattle.fuse_session.specs.declared.steps.HandshakeOutcome.TheVariants.{Accepted}
 
 abbrev pub setup_for : {F S K : Type 0} → Promise F → (page : ℕ) → Opened F S K → Setup F
-setup_for promise page session = setup_of promise page session.threads session.acl session.owner
+setup_for promise page session = setup_of promise page session.threads session.terms.rule.acl session.terms.rule.owner
 
 -- a handshake of this filesystem between this source and this sink, which was accepted, opened it
 abbrev pub IsOpened : {F S K : Type 0} → Promise F → (page : ℕ) → (fs : F) → SourceState → SinkState → Opened F S K → Type 0
 IsOpened promise page fs source sink session =
-    HandshakeRun promise.may_init page Accepted fs session.filesystem (progress source sink nothing_yet []) session.progress
+    HandshakeRun promise.may_init page (Accepted session.terms.granted) fs session.filesystem (progress source sink nothing_yet []) session.progress
 
 -- those whom it serves, and by how many threads, are these
 pub record Serves {F S K : Type 0} (acl : SessionACL) (owner : ℕ) (threads : Option ℕ) (session : Opened F S K) : Type 0 where
-  pub acl_is : session.acl ≡ acl
-  pub owner_is : session.owner ≡ owner
+  pub acl_is : session.terms.rule.acl ≡ acl
+  pub owner_is : session.terms.rule.owner ≡ owner
   pub threads_is : session.threads ≡ threads
 
 -- an outcome of a handshake that opens no session

@@ -54,21 +54,21 @@ impl<FS: Filesystem + Drop, S: Source + Drop, K: Sink + Send + Drop> BackgroundS
             (page : ℕ) (fs : _) (source : SourceState) (sink : SinkState) →
             IsOpened FS.promise page fs source sink self.session →
             result.outcome ≡ Ok tt → Lossless sink (K.told result.sink) result.transcript →
-            Headline FS.promise page self.session.acl self.session.owner fs source (S.told result.source) sink (K.told result.sink) }
+            Headline FS.promise page self.session.terms.rule.acl self.session.terms.rule.owner fs source (S.told result.source) sink (K.told result.sink) }
 
         // These are in the order of the messages, where no more than one thread serves: see `OrderedHeadline`.
         ensures in_order { ¬ (ManyThreads self.session.threads) →
             (page : ℕ) (fs : _) (source : SourceState) (sink : SinkState) →
             IsOpened FS.promise page fs source sink self.session →
             result.outcome ≡ Ok tt → Lossless sink (K.told result.sink) result.transcript →
-            OrderedHeadline FS.promise page self.session.acl self.session.owner fs source (S.told result.source) sink
+            OrderedHeadline FS.promise page self.session.terms.rule.acl self.session.terms.rule.owner fs source (S.told result.source) sink
             (K.told result.sink) }
 
         // One reply for each message, at once or later: see `LaterHeadline`.
         ensures later { (page : ℕ) (fs : _) (source : SourceState) (sink : SinkState) →
             IsOpened FS.promise page fs source sink self.session →
             result.outcome ≡ Ok tt → Lossless sink (K.told result.sink) result.transcript →
-            LaterHeadline FS.promise page self.session.acl self.session.owner fs source (S.told result.source) sink
+            LaterHeadline FS.promise page self.session.terms.rule.acl self.session.terms.rule.owner fs source (S.told result.source) sink
             (K.told result.sink) }
 
         // Where no reply comes later, all could be recorded.

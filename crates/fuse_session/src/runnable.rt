@@ -25,7 +25,7 @@ use std::thread::Threads;
 /// What runs of a session: all of it but its notifier to spare, which stays with whoever starts it. It must be spent. A
 /// contract sees the session.
 pub(crate) struct Runnable<FS, S: Source, K: Sink> {
-    /// The filesystem after the handshake, with the rule by which it is asked.
+    /// The filesystem after the handshake, with the terms on which it is asked.
     pub shared: Shared<Asking<FS>>,
     /// How many threads are to serve. None is one.
     pub n_threads: Option<usize>,
@@ -51,8 +51,7 @@ impl<FS, S: Source, K: Sink> Model for Runnable<FS, S, K> {
       filesystem = s.shared.service.handler.filesystem;
       source = s.source;
       sink = s.sink;
-      acl = s.shared.service.rule.acl;
-      owner = s.shared.service.rule.owner;
+      terms = s.shared.service.terms;
       threads = s.n_threads;
       progress = progress (S.told s.source) (K.told s.sink) s.shaken [];
       line = s.buffers.frames.line;
@@ -81,7 +80,7 @@ fn answer_all<R: Threads + Wait + AllocGlobal + Sync, FS: Filesystem, S: Source,
 ) -> (RunEnd<S, K>, SystemStarter)
     requires unused { IsUnused buffers }
     ensures run { Run (Accounted n_threads FS.promise.defers (OwedByPromise FS.promise shared.now.service.handler.filesystem
-        shared.now.service.rule.acl shared.now.service.rule.owner)) result.0.end
+        shared.now.service.terms)) result.0.end
         (progress (S.told source) (K.told sink) nothing_yet [])
         (progress (S.told result.0.source) (K.told result.0.sink) result.0.transcript (unasked_of result.0.buffers)) }
     ensures recorded { NeverLater n_threads FS.promise.defers → result.0.transcript.unrecorded ≡ 0 }
@@ -134,7 +133,7 @@ fn serve<R: Threads + Wait + AllocGlobal + Sync, FS: Filesystem, S: Source, K: S
     requires unused { IsUnused buffers }
     requires shaken { shaken.unrecorded ≡ 0 }
     ensures ends { (unasked : List (List ℕ)) × LaterServed FS.promise shared.now.service.handler.filesystem
-        shared.now.service.rule.acl shared.now.service.rule.owner n_threads result.outcome
+        shared.now.service.terms n_threads result.outcome
         (progress (S.told source) (K.told sink) shaken [])
         (progress (S.told result.source) (K.told result.sink) result.transcript unasked) }
     ensures recorded { NeverLater n_threads FS.promise.defers → result.transcript.unrecorded ≡ 0 }
@@ -175,7 +174,7 @@ impl<FS: Filesystem, S: Source, K: Sink + Send> Runnable<FS, S, K> {
         let Shared { service } = shared;
         let Service {
             handler: Asking { filesystem },
-            rule: _,
+            terms: _,
         } = service;
         destroyed(filesystem, source, sink, transcript, outcome)
     }

@@ -23,10 +23,10 @@ use crate::runnable::Runnable;
 use crate::steps::{HandshakeOutcome, handshake};
 use crate::{BackgroundSession, Ended, Filesystem, SessionError, Spawner};
 use fuse_config::{Config, SessionACL};
-use fuse_dispatch::{AccessRule, Asking, Service, Shared};
+use fuse_dispatch::{AccessRule, Asking, Service, Shared, Terms};
 use fuse_loop::Channel;
 use fuse_notify::Notifier;
-use fuse_wire::{NoMemory, Sink, Source};
+use fuse_wire::{InitFlags, NoMemory, Sink, Source};
 use std::marker::Model;
 use std::sync::Wait;
 use std::thread::Threads;
@@ -51,23 +51,23 @@ impl<FS, S: Source, K: Sink> Model for Session<FS, S, K> {
     ghost invariant = { λ s. s.notifier ≡ fresh_door s.runnable.line };
 }
 
-/// The handshake, whose refusal is the outcome of a session.
+/// The handshake, whose refusal is the outcome of a session. Ok is what was granted.
 fn shake<R: Wait + AllocGlobal, FS: Filesystem, S: Source, K: Sink>(
     rt: &R,
     filesystem: &mut FS,
     page_size: u32,
     channel: &mut Channel<S, K>,
-) -> Result<(), SessionError>
+) -> Result<InitFlags, SessionError>
     requires { 0 < page_size }
     ensures { MatchResult result
-        (λ _. HandshakeRun FS.promise.may_init page_size Accepted filesystem.old filesystem.new
+        (λ granted. HandshakeRun FS.promise.may_init page_size (Accepted granted) filesystem.old filesystem.new
         channel.old.progress channel.new.progress)
         (λ e. OpensNone (Err e) × ((threads : _) (acl : ACL) (owner : ℕ) →
         Unopened (setup_of FS.promise page_size threads acl owner) filesystem.old filesystem.new (Err e)
         channel.old.progress channel.new.progress)) }
 {
     match handshake(rt, filesystem, page_size, channel) {
-        HandshakeOutcome::Accepted => Ok(()),
+        HandshakeOutcome::Accepted(granted) => Ok(granted),
         HandshakeOutcome::Gone => Err(SessionError::NotConnected),
         HandshakeOutcome::Refused(error) => Err(SessionError::of_handshake(error)),
         HandshakeOutcome::Failed => Err(SessionError::Receive),
@@ -97,9 +97,10 @@ fn open<R: Wait + AllocGlobal, FS: Filesystem, S: Source, K: Sink>(
     let SessionMemory { buffers, notifier } = memory;
     let (mut channel, lines) = Channel::open(source, sink, buffers);
     match shake(rt, &mut filesystem, page_size, &mut channel) {
-        Ok(()) => {
+        Ok(granted) => {
             let handler = Asking { filesystem };
-            let service = Service { handler, rule };
+            let terms = Terms { rule, granted };
+            let service = Service { handler, terms };
             let (source, sink, buffers, shaken) = channel.close(lines);
             let runnable = Runnable {
                 shared: Shared { service },
@@ -271,21 +272,21 @@ impl<FS: Filesystem, S: Source, K: Sink + Send> Session<FS, S, K> {
             (page : ℕ) (fs : _) (source : SourceState) (sink : SinkState) →
             IsOpened FS.promise page fs source sink self →
             result.outcome ≡ Ok tt → Lossless sink (K.told result.sink) result.transcript →
-            Headline FS.promise page self.acl self.owner fs source (S.told result.source) sink (K.told result.sink) }
+            Headline FS.promise page self.terms.rule.acl self.terms.rule.owner fs source (S.told result.source) sink (K.told result.sink) }
 
         // These are in the order of the messages, where no more than one thread serves: see `OrderedHeadline`.
         ensures in_order { ¬ (ManyThreads self.threads) →
             (page : ℕ) (fs : _) (source : SourceState) (sink : SinkState) →
             IsOpened FS.promise page fs source sink self →
             result.outcome ≡ Ok tt → Lossless sink (K.told result.sink) result.transcript →
-            OrderedHeadline FS.promise page self.acl self.owner fs source (S.told result.source) sink
+            OrderedHeadline FS.promise page self.terms.rule.acl self.terms.rule.owner fs source (S.told result.source) sink
             (K.told result.sink) }
 
         // One reply for each message, at once or later: see `LaterHeadline`.
         ensures later { (page : ℕ) (fs : _) (source : SourceState) (sink : SinkState) →
             IsOpened FS.promise page fs source sink self →
             result.outcome ≡ Ok tt → Lossless sink (K.told result.sink) result.transcript →
-            LaterHeadline FS.promise page self.acl self.owner fs source (S.told result.source) sink
+            LaterHeadline FS.promise page self.terms.rule.acl self.terms.rule.owner fs source (S.told result.source) sink
             (K.told result.sink) }
 
         // Where no reply comes later, all could be recorded.

@@ -11,15 +11,15 @@ use fuse_dispatch::{Filesystem, refusal};
 use fuse_loop::{Channel, Taken};
 use fuse_reply::{Out, ReplyData};
 use fuse_request::Request;
-use fuse_wire::{Errno, RequestId, Sink, Source};
+use fuse_wire::{Errno, InitFlags, RequestId, Sink, Source};
 use std::alloc::Global;
 use std::sync::Wait;
 
 /// How a handshake ended.
 #[derive(Clone, Copy)]
 pub(crate) enum HandshakeOutcome {
-    /// An INIT was accepted.
-    Accepted,
+    /// An INIT was accepted, and these capabilities were granted.
+    Accepted(InitFlags),
     /// No message is left.
     Gone,
     /// The last message was refused.
@@ -38,14 +38,14 @@ fn init_frame(alloc: Global, id: RequestId, payload: &[u8; 64], length: usize) -
         .into_out()
 }
 
-/// Asks the filesystem, and makes its answer the reply.
+/// Asks the filesystem, and makes its answer the reply. Ok is what was granted.
 fn negotiate<FS: Filesystem>(
     alloc: Global,
     filesystem: &mut FS,
     page_size: u32,
     request: &Request,
     offer: Offer,
-) -> (Out, Result<(), HandshakeError>)
+) -> (Out, Result<InitFlags, HandshakeError>)
     requires page { 0 < page_size }
     requires minor { 6 ≤ offer.version.1 }
     ensures { (f : List ℕ) × (result.0 ≡ Out.Frame f)
@@ -61,7 +61,7 @@ fn negotiate<FS: Filesystem>(
                 page_size,
             );
             let out = init_frame(alloc, request.unique(), &payload, length);
-            (out, Ok(()))
+            (out, Ok(config.granted(offer.capabilities)))
         }
         Err(error) => {
             let out = refusal(alloc, request.unique(), error);
@@ -108,7 +108,7 @@ fn take_step<R: Wait + AllocGlobal, FS: Filesystem, S: Source, K: Sink>(
             let (out, accepted) = negotiate(rt.alloc(), filesystem, page_size, &request, offer);
             channel.deliver(out);
             match accepted {
-                Ok(()) => Some(HandshakeOutcome::Accepted),
+                Ok(granted) => Some(HandshakeOutcome::Accepted(granted)),
                 Err(error) => Some(HandshakeOutcome::Refused(error)),
             }
         }

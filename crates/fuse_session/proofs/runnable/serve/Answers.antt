@@ -16,7 +16,7 @@ returns-clause-ends g c =
     let last = unasked_of run.buffers in
     let accounted : Accounting = Accounted c.args.n_threads g.FS.Filesystem.promise.defers (OwedByPromise g.FS.Filesystem.promise
     c.args.shared.now.service.handler.filesystem
-    c.args.shared.now.service.rule.acl c.args.shared.now.service.rule.owner) in
+    c.args.shared.now.service.terms) in
     let some : c.args.n_threads ≢ Some 0 = search rules in
     let run_added = Run-added {accounted = accounted} (g.S.Source.told c.args.source) (g.S.Source.told run.source) (g.K.Sink.told c.args.sink)
     (g.K.Sink.told run.sink) c.args.shaken run.transcript [] last c.answer_all-run.ensures.run in

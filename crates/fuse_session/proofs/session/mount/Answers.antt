@@ -17,7 +17,7 @@ returns-in-Ok-clause-headline g c never ok lossless =
     let sink' = g.K.Sink.told c.run.result.sink in
     let serves = c.in-Ok.ensures.opened.1 in
     subst (λ (acl : SessionACL). Headline promise c.args.page_size acl c.args.owner c.args.filesystem before after sink sink') serves.acl_is
-    (subst (λ (owner : ℕ). Headline promise c.args.page_size c.in-Ok.session.acl owner c.args.filesystem before after sink sink') serves.owner_is
+    (subst (λ (owner : ℕ). Headline promise c.args.page_size c.in-Ok.session.terms.rule.acl owner c.args.filesystem before after sink sink') serves.owner_is
     (c.run.ensures.headline (subst (λ (threads : Option ℕ). NeverLater threads promise.defers)
     (sym serves.threads_is) never) c.args.page_size c.args.filesystem before sink c.in-Ok.ensures.opened.0 ok lossless))
 
@@ -30,7 +30,7 @@ returns-in-Ok-clause-in_order g c one ok lossless =
     let sink' = g.K.Sink.told c.run.result.sink in
     let serves = c.in-Ok.ensures.opened.1 in
     subst (λ (acl : SessionACL). OrderedHeadline promise c.args.page_size acl c.args.owner c.args.filesystem before after sink sink') serves.acl_is
-    (subst (λ (owner : ℕ). OrderedHeadline promise c.args.page_size c.in-Ok.session.acl owner c.args.filesystem before after sink sink') serves.owner_is
+    (subst (λ (owner : ℕ). OrderedHeadline promise c.args.page_size c.in-Ok.session.terms.rule.acl owner c.args.filesystem before after sink sink') serves.owner_is
     (c.run.ensures.in_order (subst (λ (threads : Option ℕ). ¬ (ManyThreads threads)) (sym serves.threads_is) one)
     c.args.page_size c.args.filesystem before sink c.in-Ok.ensures.opened.0 ok lossless))
 
@@ -43,7 +43,7 @@ returns-in-Ok-clause-later g c ok lossless =
     let sink' = g.K.Sink.told c.run.result.sink in
     let serves = c.in-Ok.ensures.opened.1 in
     subst (λ (acl : SessionACL). LaterHeadline promise c.args.page_size acl c.args.owner c.args.filesystem before after sink sink') serves.acl_is
-    (subst (λ (owner : ℕ). LaterHeadline promise c.args.page_size c.in-Ok.session.acl owner c.args.filesystem before after sink sink') serves.owner_is
+    (subst (λ (owner : ℕ). LaterHeadline promise c.args.page_size c.in-Ok.session.terms.rule.acl owner c.args.filesystem before after sink sink') serves.owner_is
     (c.run.ensures.later c.args.page_size c.args.filesystem before sink c.in-Ok.ensures.opened.0 ok lossless))
 
 pub returns-in-Ok-clause-recorded : goal.returns-in-Ok-clause-recorded

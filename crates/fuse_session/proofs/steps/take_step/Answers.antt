@@ -11,6 +11,7 @@ use Rattle.fuse_session.specs.declared.greeting.HandshakeError.{HandshakeError}
 use Rattle.fuse_session.specs.declared.greeting.HandshakeError.TheVariants.{InvalidData, Unsupported}
 use Rattle.fuse_session.specs.declared.invalid_data.InvalidData.TheVariants as invalid
 use Rattle.fuse_wire.specs.ErrorNumbers.{EIO, EPROTO}
+use Rattle.fuse_wire.specs.declared.flags.init_flags.InitFlags.{InitFlags}
 use Rattle.fuse_session.proofs.HandshakeSteps.{accepted_outcome, HandshakeRun-gone, HandshakeRun-failed, HandshakeRun-silent}
 use Rattle.fuse_session.proofs.HandshakeSteps.{HandshakeRun-refused, HandshakeRun-offered, HandshakeOn-newer}
 use Rattle.fuse_session.proofs.steps.take_step.Goals as goal
@@ -54,7 +55,7 @@ returns-in-Newer g c =
 
 pub returns-in-Ok : goal.returns-in-Ok
 returns-in-Ok g c =
-    subst (λ (x : Result (Unit {0}) HandshakeError). HandshakeRun g.FS.Filesystem.promise.may_init c.args.page_size (accepted_outcome x)
+    subst (λ (x : Result InitFlags HandshakeError). HandshakeRun g.FS.Filesystem.promise.may_init c.args.page_size (accepted_outcome x)
     c.args.filesystem.now c.negotiate-out.new.filesystem c.args.channel.now.progress c.deliver-in-Offered.new.self.progress) c.in-Ok.is
     (HandshakeRun-offered g.FS.Filesystem.promise.may_init c.args.page_size c.args.filesystem.now c.negotiate-out.new.filesystem
     c.in-Offered.request c.in-Offered.offer c.negotiate-out.ensures.0 c.negotiate-out.result.1
@@ -64,7 +65,7 @@ returns-in-Ok g c =
 
 pub returns-in-Err : goal.returns-in-Err
 returns-in-Err g c =
-    subst (λ (x : Result (Unit {0}) HandshakeError). HandshakeRun g.FS.Filesystem.promise.may_init c.args.page_size (accepted_outcome x)
+    subst (λ (x : Result InitFlags HandshakeError). HandshakeRun g.FS.Filesystem.promise.may_init c.args.page_size (accepted_outcome x)
     c.args.filesystem.now c.negotiate-out.new.filesystem c.args.channel.now.progress c.deliver-in-Offered.new.self.progress) c.in-Err.is
     (HandshakeRun-offered g.FS.Filesystem.promise.may_init c.args.page_size c.args.filesystem.now c.negotiate-out.new.filesystem
     c.in-Offered.request c.in-Offered.offer c.negotiate-out.ensures.0 c.negotiate-out.result.1
