@@ -143,6 +143,7 @@ pub AnsweredBy-ended : (account : Account Hello) (form : ServeForm) (input input
 AnsweredBy-ended account form input input' output output' sink broken tree h stands is = record {
   tree = tree;
   tree1 = h.fs1;
+  granted = h.granted;
   hs = map message h.hs;
   ls = map message h.ls;
   handshake_replies = h.handshake_replies;

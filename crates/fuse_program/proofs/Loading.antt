@@ -146,6 +146,7 @@ Summarizes-ok form tree tree' left k v summary few h mounted is = (
     answers = record {
       tree = tree;
       tree1 = h.fs1;
+      granted = h.granted;
       hs = map message h.hs;
       ls = map message h.ls;
       handshake_replies = h.handshake_replies;

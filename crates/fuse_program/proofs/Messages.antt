@@ -166,7 +166,7 @@ good-until [] last each ends = inl ends
 good-until (m ∷ ms) last each ends = inr (each.0.0, good-until ms last each.1 ends)
 
 -- what INIT decodes to
-init_message-decodes : operation (header_fields init_message).opcode (body init_message)
+init_message-decodes : operation 0 (header_fields init_message).opcode (body init_message)
     ≡ Ok (Init (record { major = 7; minor = 40; max_readahead = 131072; flags = 0; flags2 = 0 }))
 unfolding generated_message init_body number decoding.init_to_bmap
 init_message-decodes = refl

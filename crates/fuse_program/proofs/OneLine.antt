@@ -12,21 +12,22 @@ use Rattle.fuse_wire.specs.ByteSink.{ByteSinkState}
 use Rattle.fuse_wire.specs.Sink.{Note as Noted}
 use Rattle.fuse_wire.specs.StreamSink.{WritesAll}
 use Rattle.fuse_header.specs.Header.{body}
-use Rattle.fuse_request.specs.InitOperation.{offered}
 use Rattle.fuse_header.specs.declared.header.Header.{Header}
 use Rattle.fuse_header.specs.declared.error.RequestError.{RequestError}
 use Rattle.fuse_reply.specs.Frame.{frame}
 use Rattle.fuse_reply.specs.declared.out.Out.{Out}
 use Rattle.fuse_reply.specs.declared.out.Out.TheVariants.{Frame, Note, Deferred}
-use Rattle.fuse_config.specs.Configuration.{init_payload, start}
+use Rattle.fuse_wire.specs.declared.flags.init_flags.InitFlags.{InitFlags}
+use Rattle.fuse_config.specs.Configuration.{granted_of, init_payload}
 use Rattle.fuse_config.specs.Values.{Configuration}
 use Rattle.fuse_config.specs.declared.session_acl.SessionACL.TheVariants.{All}
 use Rattle.fuse_loop.specs.Incoming.{IsBroken}
 use Rattle.fuse_core.specs.OnePerMessage.{OnePerMessage, Owing}
-use Rattle.fuse_session.specs.Handshake.{Greets, Handshake, HandshakeEnd, NegotiationReply}
+use Rattle.fuse_session.specs.Handshake.{Greets, Handshake, NegotiationReply}
 use Rattle.fuse_session.specs.Handshake.{greeting, greeting_by_header, greeting_by_operation, offer_of}
 use Rattle.fuse_session.specs.Handshake.HandshakeEnd.{Accepted}
 use Rattle.fuse_dispatch.specs.OwedMessage.{OwedByPromise}
+use Rattle.fuse_dispatch.specs.Verdict.{terms}
 use Rattle.fuse_hello.specs.Generated.{init_message, stream}
 use Rattle.fuse_hello.specs.Store.{is_error, line, summary_of}
 use Rattle.fuse_program.specs.Load.{AnsweredByTree, Loads, SameStream, Summarizes, WritesOneLine}
@@ -35,7 +36,7 @@ use Rattle.fuse_program.specs.declared.arguments.LoadForm.{LoadForm}
 use Rattle.fuse_hello.specs.declared.hello.Hello.{Hello}
 use Rattle.fuse_hello.specs.declared.summary.Summary.{Summary}
 use Rattle.fuse_program.proofs.Messages.{init_message-is}
-use Rattle.fuse_program.proofs.OneOut.{IsOwedOne, later, later-one, out_of}
+use Rattle.fuse_program.proofs.OneOut.{IsOwedOne, later, later-one, out_of, stream_config, stream_granted, stream_offered, stream_terms}
 
 -- a list is the item at some place and the others, up to order
 taken : {X : Type 0} (xs : List X) (i : ℕ) (x : X) → slice_get xs i ≡ Some x → IsPermutation xs (x ∷ remove xs i)
@@ -98,43 +99,50 @@ reply_of config = frame init_message-is.head.unique.0 (pos 0) (init_payload conf
 
 -- the tree leaves it as it is offered
 abbrev init_reply : List ℕ
-init_reply = reply_of (start (offered (record { major = 7; minor = 40; max_readahead = 131072; flags = 0; flags2 = 0 })) 131072 (record { 0 = 7; 1 = 40 }))
+init_reply = reply_of stream_config
 
-by_result : (config : Configuration) (result : Result (Unit {0}) ℕ) (frames : List (List ℕ)) (end : HandshakeEnd)
+-- the handshake's one reply, and what was granted
+abbrev Granted : (frames : List (List ℕ)) → InitFlags → Type 0
+Granted frames granted = (frames ≡ init_reply ∷ []) × (granted ≡ stream_granted)
+
+same-granted : (g h : InitFlags) → Accepted g ≡ Accepted h → g ≡ h
+same-granted g h is = cc
+
+by_result : (config : Configuration) (result : Result (Unit {0}) ℕ) (frames : List (List ℕ)) (granted : InitFlags)
     → result ≡ Ok tt
-    → NegotiationReply init_message-is.head.unique.0 (offer_of (record { major = 7; minor = 40; max_readahead = 131072; flags = 0; flags2 = 0 })) 4096
-    config result frames end
-    → config ≡ start (offered (record { major = 7; minor = 40; max_readahead = 131072; flags = 0; flags2 = 0 })) 131072 (record { 0 = 7; 1 = 40 })
-    → frames ≡ init_reply ∷ []
-by_result config (Err e) frames end ok reply is = absurd (let no : ⊥ = cc in no)
-by_result config (Ok u) frames end ok reply is =
-    reply.0 ∙ ap (λ (c : Configuration). frame init_message-is.head.unique.0 (pos 0) (init_payload c
-    (offered (record { major = 7; minor = 40; max_readahead = 131072; flags = 0; flags2 = 0 })) 40 4096) ∷ []) is
+    → NegotiationReply init_message-is.head.unique.0 (offer_of (record { major = 7; minor = 40; max_readahead = 131072; flags = 0; flags2 = 0 })) 4096 config result frames (Accepted granted)
+    → config ≡ stream_config → Granted frames granted
+by_result config (Err e) frames granted ok reply is = absurd (let no : ⊥ = cc in no)
+by_result config (Ok u) frames granted ok reply is = (
+  reply.0 ∙ ap (λ (c : Configuration). frame init_message-is.head.unique.0 (pos 0) (init_payload c stream_offered 40 4096) ∷ []) is,
+  same-granted granted (record { 0 = granted_of config stream_offered }) reply.1
+      ∙ ap (λ (c : Configuration). record { 0 = granted_of c stream_offered }) is,
+)
 
 -- what follows the stream's INIT does not belong to the handshake
-greets : (tree tree1 : Hello) (ms frames : List (List ℕ)) (more : List (List ℕ) → Type 0)
-    → Greets tree_may_init 4096 tree (greeting init_message) ms frames tree1 Accepted more → (frames ≡ init_reply ∷ []) × (ms ≡ [])
-greets tree tree1 ms frames more shake =
+greets : (tree tree1 : Hello) (ms frames : List (List ℕ)) (granted : InitFlags) (more : List (List ℕ) → Type 0)
+    → Greets tree_may_init 4096 tree (greeting init_message) ms frames tree1 (Accepted granted) more → Granted frames granted × (ms ≡ [])
+greets tree tree1 ms frames granted more shake =
     let offers =
-    subst (λ g. Greets tree_may_init 4096 tree g ms frames tree1 Accepted more)
+    subst (λ g. Greets tree_may_init 4096 tree g ms frames tree1 (Accepted granted) more)
     (ap (λ (h : Result Header RequestError). greeting_by_header h (body init_message)) init_message-is.good
     ∙ ap (greeting_by_operation init_message-is.head) init_message-is.decodes) shake in
-    (by_result offers.1.config offers.1.result frames Accepted offers.1.allowed.0 offers.1.replies offers.1.allowed.1, offers.0)
+    (by_result offers.1.config offers.1.result frames granted offers.1.allowed.0 offers.1.replies offers.1.allowed.1, offers.0)
 
-shaken : (tree tree1 : Hello) (others hs ls frames : List (List ℕ)) → init_message ∷ others ≡ hs ++ ls
-    → Handshake tree_may_init 4096 tree hs frames tree1 Accepted → (frames ≡ init_reply ∷ []) × (ls ≡ others)
-shaken tree tree1 others [] ls frames heard shake = absurd (let open_end = shake.2 in let no : ⊥ = cc in no)
-shaken tree tree1 others (h ∷ hs) ls frames heard shake = (done.0, sym (rest ∙ ap (λ (l : List (List ℕ)). l ++ ls) done.1)) where
+shaken : (tree tree1 : Hello) (others hs ls frames : List (List ℕ)) (granted : InitFlags) → init_message ∷ others ≡ hs ++ ls
+    → Handshake tree_may_init 4096 tree hs frames tree1 (Accepted granted) → Granted frames granted × (ls ≡ others)
+shaken tree tree1 others [] ls frames granted heard shake = absurd (let open_end = shake.2 in let no : ⊥ = cc in no)
+shaken tree tree1 others (h ∷ hs) ls frames granted heard shake = (done.0, sym (rest ∙ ap (λ (l : List (List ℕ)). l ++ ls) done.1)) where
   first : h ≡ init_message
   first = cc heard
 
   rest : others ≡ hs ++ ls
   rest = cc heard
 
-  done : (frames ≡ init_reply ∷ []) × (hs ≡ [])
+  done : Granted frames granted × (hs ≡ [])
   done =
-      greets tree tree1 hs frames (λ more. Handshake tree_may_init 4096 tree hs more tree1 Accepted)
-      (subst (λ (m : List ℕ). Handshake tree_may_init 4096 tree (m ∷ hs) frames tree1 Accepted) first shake)
+      greets tree tree1 hs frames granted (λ more. Handshake tree_may_init 4096 tree hs more tree1 (Accepted granted))
+      (subst (λ (m : List ℕ). Handshake tree_may_init 4096 tree (m ∷ hs) frames tree1 (Accepted granted)) first shake)
 
 -- the frames and notes of a stream are these, up to order
 abbrev Ordered : (seed count : ℕ) → (frames : List (List ℕ)) → List Noted → Type 0
@@ -147,21 +155,23 @@ All-at [] f each = tt
 All-at (m ∷ ms) f each = (f m each.0, All-at ms f each.1)
 
 later_order : (tree : Hello) (seed count : ℕ) (frames : List (List ℕ)) (notes : List Noted)
-    → OnePerMessage (OwedByPromise tree_promise tree All 0) IsBroken 0 (later seed count) frames notes [] 0
-    → InSomeOrder (OwedByPromise tree_promise tree All 0) IsBroken out_of (later seed count) frames notes
+    → OnePerMessage (OwedByPromise tree_promise tree stream_terms) IsBroken 0 (later seed count) frames notes [] 0
+    → InSomeOrder (OwedByPromise tree_promise tree stream_terms) IsBroken out_of (later seed count) frames notes
 later_order tree seed count frames notes one_per_message =
-    in_some_order (OwedByPromise tree_promise tree All 0) IsBroken out_of 0 (later seed count) frames notes
-    (All-at {P = IsOwedOne} {Q = OwesOne (OwedByPromise tree_promise tree All 0) IsBroken out_of} (later seed count) (λ m one. one tree) (later-one seed count))
+    in_some_order (OwedByPromise tree_promise tree stream_terms) IsBroken out_of 0 (later seed count) frames notes
+    (All-at {P = IsOwedOne} {Q = OwesOne (OwedByPromise tree_promise tree stream_terms) IsBroken out_of} (later seed count) (λ m one. one tree) (later-one seed count))
     one_per_message
 
 ordered : (seed count : ℕ) (frames : List (List ℕ)) (notes : List Noted) → AnsweredByTree (stream seed count) frames notes → Ordered seed count frames notes
 ordered seed count frames notes a =
-    let first = shaken a.tree a.tree1 (later seed count) a.hs a.ls a.handshake_replies a.heard a.handshake in
+    let first = shaken a.tree a.tree1 (later seed count) a.hs a.ls a.handshake_replies a.granted a.heard a.handshake in
     let order = later_order a.tree1 seed count a.later_replies notes
-    (subst (λ (ls : List (List ℕ)). OnePerMessage (OwedByPromise tree_promise a.tree1 All 0) IsBroken 0 ls a.later_replies notes [] 0)
-    first.1 a.one_per_message) in (
+    (subst (λ (granted : InitFlags). OnePerMessage (OwedByPromise tree_promise a.tree1 (terms All 0 granted)) IsBroken 0 (later seed count)
+    a.later_replies notes [] 0) first.0.1
+    (subst (λ (ls : List (List ℕ)). OnePerMessage (OwedByPromise tree_promise a.tree1 (terms All 0 a.granted)) IsBroken 0 ls
+    a.later_replies notes [] 0) first.1 a.one_per_message)) in (
       subst (λ (l : List (List ℕ)). IsPermutation l (init_reply ∷ flat_map (λ m. frames_in (out_of m)) (later seed count)))
-          (sym (a.said ∙ ap (λ (l : List (List ℕ)). l ++ a.later_replies) first.0))
+          (sym (a.said ∙ ap (λ (l : List (List ℕ)). l ++ a.later_replies) first.0.0))
           (IsPermutation-cons init_reply a.later_replies (flat_map (λ m. frames_in (out_of m)) (later seed count)) order.0),
       order.1,
     )

@@ -29,10 +29,15 @@ use Rattle.fuse_reply.specs.Sizes.{inline_size}
 use Rattle.fuse_reply.specs.declared.out.Out.{Out}
 use Rattle.fuse_reply.specs.declared.out.Out.TheVariants.{Frame, Note}
 use Rattle.fuse_config.specs.declared.session_acl.SessionACL.TheVariants.{All}
+use Rattle.fuse_config.specs.Configuration.{granted_of, start}
+use Rattle.fuse_config.specs.Values.{Configuration}
+use Rattle.fuse_wire.specs.declared.flags.init_flags.InitFlags.{InitFlags}
+use Rattle.fuse_request.specs.InitOperation.{offered}
+use Rattle.fuse_dispatch.specs.declared.access.Terms.{Terms}
 use Rattle.fuse_loop.specs.Incoming.{id_of}
 use Rattle.fuse_dispatch.specs.Found.{found_attributes, found_entry}
 use Rattle.fuse_dispatch.specs.OwedMessage.{IsPoll, OwedByPromise, OwedBy, OwedCall}
-use Rattle.fuse_dispatch.specs.Verdict.{Verdict, admitted, admitted_operation, asking, fixed_error, fixed_or, is_forget, serving, verdict, verdict_by}
+use Rattle.fuse_dispatch.specs.Verdict.{Verdict, admitted, admitted_operation, asking, fixed_error, fixed_or, is_forget, terms, serving, verdict, verdict_by}
 use Rattle.fuse_dispatch.specs.Verdict.Verdict.{Broken, Ends, Fixed, Forgets, Calls}
 use Rattle.fuse_hello.specs.Generated.{destroy_message, generated_message, name_body, read_body, request, request_at, requests, write_body, x_after}
 use Rattle.fuse_hello.specs.Tree.{tree_bytes, contents, members, tree_named, node_attr, tree_answer, tree_mark, tree_promise}
@@ -89,8 +94,22 @@ out_by id (Fixed errno) = Frame (reply id (Error errno))
 out_by id (Forgets c) = Note (record { 0 = id }) (mark_or_0 (tree_mark c))
 out_by id (Calls c) = Frame (reply id (tree_answer c))
 
+-- what the stream's INIT offers
+abbrev pub stream_offered : ℕ
+stream_offered = offered (record { major = 7; minor = 40; max_readahead = 131072; flags = 0; flags2 = 0 })
+
+-- the tree leaves the configuration as it is offered, and this is granted
+abbrev pub stream_config : Configuration
+stream_config = start stream_offered 131072 (record { 0 = 7; 1 = 40 })
+
+abbrev pub stream_granted : InitFlags
+stream_granted = record { 0 = granted_of stream_config stream_offered }
+
+abbrev pub stream_terms : Terms
+stream_terms = terms All 0 stream_granted
+
 abbrev pub out_of : List ℕ → Out
-out_of m = out_by (id_of m) (verdict All 0 m)
+out_of m = out_by (id_of m) (verdict stream_terms m)
 
 replied : (c : Call) (id : ℕ) (out : Out) (a : Answer) → Small c → tree_answer c ≡ a → RepliesWith id a out
     → out ≡ Frame (reply id (tree_answer c))
@@ -114,10 +133,10 @@ owed_by tree request (Calls c) seq id out short owed = called tree request c seq
 
 -- what the tree owes a message is one
 abbrev pub IsOwedOne : List ℕ → Type 0
-IsOwedOne m = (tree : Hello) (seq : ℕ) (out : Out) → OwedByPromise tree_promise tree All 0 seq m out → out ≡ out_of m
+IsOwedOne m = (tree : Hello) (seq : ℕ) (out : Out) → OwedByPromise tree_promise tree stream_terms seq m out → out ≡ out_of m
 
-pub one-out : (m : List ℕ) → Short (verdict All 0 m) → IsOwedOne m
-one-out m short tree seq out owed = owed_by tree (request_of (header_fields m)) (verdict All 0 m) seq (id_of m) out short owed
+pub one-out : (m : List ℕ) → Short (verdict stream_terms m) → IsOwedOne m
+one-out m short tree seq out owed = owed_by tree (request_of (header_fields m)) (verdict stream_terms m) seq (id_of m) out short owed
 
 -- an operation on a node makes no other call
 abbrev AsksSmall : Option Call → Type 0
@@ -139,20 +158,20 @@ admitted-short node op true small = asked (fixed_error op) (is_forget op) (call 
 admitted-short node op false small = tt
 
 decoded-short : (h : Header) (node : ℕ) (found : Result Op RequestError) → IsSmall node found
-    → Short (serving node (admitted_operation All 0 h found))
+    → Short (serving node (admitted_operation stream_terms.rule h found))
 decoded-short h node (Err e) small = tt
 decoded-short h node (Ok op) small = admitted-short node op (admitted All 0 h.uid h.opcode) small
 
-verdict-short : (m : List ℕ) → header m ≡ Ok (header_fields m) → IsSmall (number m 16 8) (operation (number m 4 4) (body m))
-    → Short (verdict All 0 m)
+verdict-short : (m : List ℕ) → header m ≡ Ok (header_fields m) → IsSmall (number m 16 8) (operation stream_granted.0 (number m 4 4) (body m))
+    → Short (verdict stream_terms m)
 verdict-short m good small =
-    subst (λ (h : Result Header RequestError). Short (verdict_by All 0 h (body m))) (sym good) (by_test (number m 4 4 == FUSE_DESTROY))
+    subst (λ (h : Result Header RequestError). Short (verdict_by stream_terms h (body m))) (sym good) (by_test (number m 4 4 == FUSE_DESTROY))
   where
     by_test : (destroys : Bool) → Short (
         if destroys then Ends
-        else serving (number m 16 8) (admitted_operation All 0 (header_fields m) (operation (number m 4 4) (body m))))
+        else serving (number m 16 8) (admitted_operation stream_terms.rule (header_fields m) (operation stream_granted.0 (number m 4 4) (body m))))
     by_test true = tt
-    by_test false = decoded-short (header_fields m) (number m 16 8) (operation (number m 4 4) (body m)) small
+    by_test false = decoded-short (header_fields m) (number m 16 8) (operation stream_granted.0 (number m 4 4) (body m)) small
 
 -- what stands after the header
 after_header : (opcode id node : ℕ) (rest : List ℕ) → drop 40 (generated_message opcode id node rest) ≡ rest
@@ -165,58 +184,58 @@ body-generated_message opcode id node rest short =
     ∙ (ap (λ (b : List ℕ). take (40 + length rest - 40) b) (after_header opcode id node rest)
     ∙ take_all (40 + length rest - 40) rest (omega arith))
 
-generated_message-short : (opcode id node : ℕ) (rest : List ℕ) → length rest ≤ 64 → opcode < 2 ^ 32 → ((n : ℕ) → IsSmall n (operation opcode rest))
-    → Short (verdict All 0 (generated_message opcode id node rest))
+generated_message-short : (opcode id node : ℕ) (rest : List ℕ) → length rest ≤ 64 → opcode < 2 ^ 32 → ((n : ℕ) → IsSmall n (operation stream_granted.0 opcode rest))
+    → Short (verdict stream_terms (generated_message opcode id node rest))
 generated_message-short opcode id node rest short fits small =
     verdict-short m (good_message opcode id node rest short)
-    (subst (λ (o : ℕ). IsSmall (number m 16 8) (operation o (body m))) (sym (opcode_field opcode id node rest fits))
-    (subst (λ (b : List ℕ). IsSmall (number m 16 8) (operation opcode b)) (sym (body-generated_message opcode id node rest short))
+    (subst (λ (o : ℕ). IsSmall (number m 16 8) (operation stream_granted.0 o (body m))) (sym (opcode_field opcode id node rest fits))
+    (subst (λ (b : List ℕ). IsSmall (number m 16 8) (operation stream_granted.0 opcode b)) (sym (body-generated_message opcode id node rest short))
     (small (number m 16 8))))
   where
     m : List ℕ
     m = generated_message opcode id node rest
 
 -- what each kind of request decodes to
-found-small : (n : ℕ) → IsSmall n (operation FUSE_LOOKUP (name_body (codes "hello.txt")))
+found-small : (n : ℕ) → IsSmall n (operation stream_granted.0 FUSE_LOOKUP (name_body (codes "hello.txt")))
 unfolding decoding.lookup_to_link
 found-small n = tt
 
-missed-small : (n : ℕ) → IsSmall n (operation FUSE_LOOKUP (name_body (codes "none")))
+missed-small : (n : ℕ) → IsSmall n (operation stream_granted.0 FUSE_LOOKUP (name_body (codes "none")))
 unfolding decoding.lookup_to_link
 missed-small n = tt
 
-getattr-small : (n : ℕ) → IsSmall n (operation FUSE_GETATTR (replicate 16 0))
+getattr-small : (n : ℕ) → IsSmall n (operation stream_granted.0 FUSE_GETATTR (replicate 16 0))
 unfolding decoding.lookup_to_link
 getattr-small n = tt
 
-read-small : (offset n : ℕ) → IsSmall n (operation FUSE_READ (read_body offset 100))
+read-small : (offset n : ℕ) → IsSmall n (operation stream_granted.0 FUSE_READ (read_body offset 100))
 unfolding decoding.open_to_flush read_body number
 read-small offset n = omega arith
 
-readdir-small : (n : ℕ) → IsSmall n (operation FUSE_READDIR (read_body 0 4096))
+readdir-small : (n : ℕ) → IsSmall n (operation stream_granted.0 FUSE_READDIR (read_body 0 4096))
 unfolding decoding.init_to_bmap read_body
 readdir-small n = tt
 
-forget-small : (n : ℕ) → IsSmall n (operation FUSE_FORGET (to_le_bytes w64 1))
+forget-small : (n : ℕ) → IsSmall n (operation stream_granted.0 FUSE_FORGET (to_le_bytes w64 1))
 unfolding decoding.lookup_to_link
 forget-small n = tt
 
-write-small : (n : ℕ) → IsSmall n (operation FUSE_WRITE (write_body (codes "hello")))
+write-small : (n : ℕ) → IsSmall n (operation stream_granted.0 FUSE_WRITE (write_body (codes "hello")))
 unfolding decoding.open_to_flush write_body number
 write-small n = tt
 
-unknown-small : (n : ℕ) → IsSmall n (operation 7 [])
+unknown-small : (n : ℕ) → IsSmall n (operation stream_granted.0 7 [])
 unfolding decoding.lookup_to_link
 unknown-small n = tt
 
-destroy_message-small : (n : ℕ) → IsSmall n (operation FUSE_DESTROY [])
+destroy_message-small : (n : ℕ) → IsSmall n (operation stream_granted.0 FUSE_DESTROY [])
 unfolding decoding.destroy_to_cuse_init
 destroy_message-small n = tt
 
 -- each request is owed one out
-request-short : (id v w : ℕ) → Short (verdict All 0 (request id v w))
+request-short : (id v w : ℕ) → Short (verdict stream_terms (request id v w))
 request-short id v w = by_tests (v % 8 == 0) (v % 8 == 1) (v % 8 == 2) (v % 8 == 3) (v % 8 == 4) (v % 8 == 5) (v % 8 == 6) where
-  by_tests : (a b c d e f g : Bool) → Short (verdict All 0 (
+  by_tests : (a b c d e f g : Bool) → Short (verdict stream_terms (
       if a then generated_message FUSE_LOOKUP id 1 (name_body (codes "hello.txt"))
       else if b then generated_message FUSE_LOOKUP id 1 (name_body (codes "none"))
       else if c then generated_message FUSE_GETATTR id (1 + w % 4) (replicate 16 0)
@@ -237,7 +256,7 @@ request-short id v w = by_tests (v % 8 == 0) (v % 8 == 1) (v % 8 == 2) (v % 8 ==
       generated_message-short FUSE_WRITE id 2 (write_body (codes "hello")) (omega (arith, write_length (codes "hello"))) (omega arith) write-small
   by_tests false false false false false false false = generated_message-short 7 id 1 [] (omega arith) (omega arith) unknown-small
 
-destroy_message-short : (id : ℕ) → Short (verdict All 0 (destroy_message id))
+destroy_message-short : (id : ℕ) → Short (verdict stream_terms (destroy_message id))
 destroy_message-short id = generated_message-short FUSE_DESTROY id 0 [] (omega arith) (omega arith) destroy_message-small
 
 -- all messages after INIT

@@ -2,6 +2,7 @@
 use Rattle.std.specs.Prelude.{◌≡◌, ◌⊎◌, ◌<◌, ◌++◌, ℕ, Bool, true, false, List, [], length}
 use Rattle.fuse_wire.specs.ByteSink.{ByteSinkState}
 use Rattle.fuse_wire.specs.Sink.{Note}
+use Rattle.fuse_wire.specs.declared.flags.init_flags.InitFlags.{InitFlags}
 use Rattle.fuse_wire.specs.StreamSink.{WritesAll}
 use Rattle.fuse_config.specs.declared.session_acl.SessionACL.TheVariants.{All}
 use Rattle.fuse_session.specs.Handshake.{Handshake}
@@ -9,6 +10,7 @@ use Rattle.fuse_session.specs.Handshake.HandshakeEnd.{Accepted}
 use Rattle.fuse_loop.specs.Incoming.{IsBroken}
 use Rattle.fuse_core.specs.OnePerMessage.{OnePerMessage}
 use Rattle.fuse_dispatch.specs.OwedMessage.{OwedByPromise}
+use Rattle.fuse_dispatch.specs.Verdict.{terms}
 use Rattle.fuse_session.specs.declared.error.SessionError.{SessionError}
 use Rattle.fuse_session.specs.declared.error.SessionError.TheVariants.{Memory, Threads}
 use Rattle.fuse_hello.specs.Generated.{stream}
@@ -22,6 +24,7 @@ use Rattle.fuse_program.specs.declared.arguments.LoadForm.{LoadForm}
 pub record AnsweredByTree (messages frames : List (List ℕ)) (notes : List Note) : Type 0 where
   pub tree : Hello
   pub tree1 : Hello
+  pub granted : InitFlags
   -- the messages of the handshake, and the later ones
   pub hs : List (List ℕ)
   pub ls : List (List ℕ)
@@ -30,8 +33,8 @@ pub record AnsweredByTree (messages frames : List (List ℕ)) (notes : List Note
   pub later_replies : List (List ℕ)
   pub heard : messages ≡ hs ++ ls
   pub said : frames ≡ handshake_replies ++ later_replies
-  pub handshake : Handshake tree_promise.may_init 4096 tree hs handshake_replies tree1 Accepted
-  pub one_per_message : OnePerMessage (OwedByPromise tree_promise tree1 All 0) IsBroken 0 ls later_replies notes [] 0
+  pub handshake : Handshake tree_promise.may_init 4096 tree hs handshake_replies tree1 (Accepted granted)
+  pub one_per_message : OnePerMessage (OwedByPromise tree_promise tree1 (terms All 0 granted)) IsBroken 0 ls later_replies notes [] 0
 
 -- the summary of the stream, whose every message has what it is owed
 abbrev pub Summarizes : LoadForm → Summary → Type 0

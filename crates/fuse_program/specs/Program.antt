@@ -3,6 +3,7 @@ use Rattle.std.specs.Prelude.{◌≡◌, ◌≢◌, ◌⊎◌, ◌<◌, ◌++◌
 use Rattle.std.specs.List.{concat, AllByRecursion}
 use Rattle.std.specs.Option.{MatchOption}
 use Rattle.fuse_wire.specs.Faults.{last_count, Rose}
+use Rattle.fuse_wire.specs.declared.flags.init_flags.InitFlags.{InitFlags}
 use Rattle.fuse_wire.specs.Cut.{cut}
 use Rattle.fuse_wire.specs.Frames.{frames}
 use Rattle.fuse_wire.specs.Sink.{Note as Noted, IsTornFrom}
@@ -13,6 +14,7 @@ use Rattle.fuse_reply.specs.declared.out.Out.{Out}
 use Rattle.fuse_reply.specs.declared.out.Out.TheVariants.{Frame, Note, Deferred}
 use Rattle.fuse_loop.specs.Incoming.{IsBroken, EndsWell}
 use Rattle.fuse_dispatch.specs.OwedMessage.{OwedByPromise}
+use Rattle.fuse_dispatch.specs.Verdict.{terms}
 use Rattle.fuse_core.specs.OnePerMessage.{InOrder, OnePerMessage}
 use Rattle.fuse_session.specs.Complete.{OpensWell}
 use Rattle.fuse_session.specs.Exchange.{Setup, Dialogue, setup_of}
@@ -52,10 +54,11 @@ TornFromFirst (Frame f ∷ refused) broken torn = (broken ≡ true) × IsTornFro
 TornFromFirst (Note id mark ∷ refused) broken torn = TornFromFirst refused broken torn
 TornFromFirst (Deferred seq id ∷ refused) broken torn = TornFromFirst refused broken torn
 
--- With status 0 the later messages read are accounted for in this way, by the tree after the handshake.
+-- With status 0 the later messages read are accounted for in this way, by the tree after the handshake and what this granted.
 pub record AnsweredBy (account : Account Hello) (form : ServeForm) (input input' : ByteSourceState) (output output' : ByteSinkState) : Type 0 where
   pub tree : Hello
   pub tree1 : Hello
+  pub granted : InitFlags
   -- the messages of the handshake, and the later ones
   pub hs : List (List ℕ)
   pub ls : List (List ℕ)
@@ -67,23 +70,25 @@ pub record AnsweredBy (account : Account Hello) (form : ServeForm) (input input'
   -- the messages are the first of the input, and the bytes read are these, joined
   pub front : Fronts (hs ++ ls) input
   pub read : TakesBytes (concat (hs ++ ls)) input input'
-  pub handshake : Handshake tree_promise.may_init form.page tree hs handshake_replies tree1 Accepted
+  pub handshake : Handshake tree_promise.may_init form.page tree hs handshake_replies tree1 (Accepted granted)
   -- the frames written are the handshake's replies and then the later ones, but for notices
   pub written : WritesFrames appended [] output output'
   pub replied : replies appended ≡ handshake_replies ++ later_replies
   pub set_aside : AllByRecursion NoticeOrReply appended
-  pub one_per_message : account tree1 ls later_replies notes
+  pub one_per_message : account tree1 granted ls later_replies notes
   pub ended : EndsWell ls (NoByteLeft input')
 
 -- each message read has its one reply
 abbrev pub EachAnswered : (form : ServeForm) → (input input' : ByteSourceState) → (output output' : ByteSinkState) → Type 0
 EachAnswered form =
-    AnsweredBy (λ tree messages replies notes. OnePerMessage (OwedByPromise tree_promise tree form.acl form.owner) IsBroken 0 messages replies notes [] 0) form
+    AnsweredBy (λ tree granted messages replies notes.
+    OnePerMessage (OwedByPromise tree_promise tree (terms form.acl form.owner granted)) IsBroken 0 messages replies notes [] 0) form
 
 -- the same in order: each has the first reply that is left
 abbrev pub AnsweredInOrder : (form : ServeForm) → (input input' : ByteSourceState) → (output output' : ByteSinkState) → Type 0
 AnsweredInOrder form =
-    AnsweredBy (λ tree messages replies notes. InOrder (OwedByPromise tree_promise tree form.acl form.owner) 0 messages replies notes []) form
+    AnsweredBy (λ tree granted messages replies notes.
+    InOrder (OwedByPromise tree_promise tree (terms form.acl form.owner granted)) 0 messages replies notes []) form
 
 -- A session over the program's bytes, whose outcome gives its status.
 pub record ByteExchange (form : ServeForm) (exit : ℕ) (input input' : ByteSourceState) (output output' : ByteSinkState) : Type 0 where
