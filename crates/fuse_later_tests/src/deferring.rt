@@ -2,6 +2,7 @@
 ghost use Rattle.std.specs.Prelude.{true};
 ghost use Rattle.fuse_later_tests.specs.Deferring.{ComesOfLookup};
 
+use fuse_config::KernelConfig;
 use fuse_reply::{Later, NoDoor, Replied, ReplyEntry};
 use fuse_request::Request;
 use fuse_testing::{Argument, Probe};
@@ -256,7 +257,7 @@ impl<R: Wait> Probe for Deferring<R> {
 
     ghost DEFERS = { true };
 
-    fn started(&mut self, _: &Request) -> Result<(), Errno> {
+    fn started(&mut self, _: &Request, _: &mut KernelConfig) -> Result<(), Errno> {
         Ok(())
     }
 

@@ -16,7 +16,8 @@ use fuse_request::{ForgetList, Request};
 use fuse_session::{Filesystem, defaults};
 use fuse_wire::{
     AccessFlags, BsdFileFlags, CopyFileRangeFlags, Errno, FileHandle, INodeNo, IoctlFlags,
-    LockOwner, OpenFlags, PollEvents, PollFlags, RenameFlags, SystemTime, TimeOrNow, WriteFlags,
+    LockOwner, OpenFlags, PollEvents, PollFlags, RenameFlags, SetxattrFlags, SystemTime, TimeOrNow,
+    WriteFlags,
 };
 use std::sync::Wait;
 
@@ -229,6 +230,7 @@ impl<R: Wait + Send + Sync> Filesystem for PuttingOff<R> {
         _: &[u8],
         _: i32,
         _: u32,
+        _: SetxattrFlags,
         reply: ReplyEmpty,
     ) -> Replied {
         self.put_off(reply)

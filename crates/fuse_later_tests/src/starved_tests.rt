@@ -2,14 +2,15 @@
 use crate::asserts::expect_same;
 use crate::deferring::{Deferring, SOON, close, shared_shelf};
 use crate::serving::taking;
+use bitflags::Flags;
 use fuse_config::SessionACL;
-use fuse_dispatch::{AccessRule, Asking, Service, Shared};
+use fuse_dispatch::{AccessRule, Asking, Service, Shared, Terms};
 use fuse_loop::{Buffers, Incoming, Work};
 use fuse_notify::Notifier;
 use fuse_reply::{NoDoor, OutEnd};
 use fuse_testing::Probing;
 use fuse_testing::test_messages::{EIO, Frame, Given, frames_of, message_of};
-use fuse_wire::MemorySink;
+use fuse_wire::{InitFlags, MemorySink};
 use std::process::Abort;
 use std::sync::Wait;
 
@@ -41,9 +42,12 @@ fn a_method_learns_that_there_was_no_memory_for_a_door(rt: HostRuntime) {
                     probe: Deferring { rt, shelf },
                 },
             },
-            rule: AccessRule {
-                acl: SessionACL::All,
-                owner: 0,
+            terms: Terms {
+                rule: AccessRule {
+                    acl: SessionACL::All,
+                    owner: 0,
+                },
+                granted: InitFlags::empty(),
             },
         },
     };
@@ -55,7 +59,7 @@ fn a_method_learns_that_there_was_no_memory_for_a_door(rt: HostRuntime) {
     expect_same(&rt, &end, &Some(OutEnd::Written));
     expect_same(&rt, &sink.frames(), &frames.as_slice());
     let Shared { service } = work;
-    let Service { handler, rule: _ } = service;
+    let Service { handler, terms: _ } = service;
     let Deferring { rt: _, shelf } = handler.filesystem.probe;
     let tally = close(&rt, shelf);
     expect_same(&rt, &tally.map(|tally| tally.shut), &Some(0));

@@ -2,6 +2,7 @@
 ghost use Rattle.std.specs.Prelude.{false};
 
 use bitflags::Flags;
+use fuse_config::KernelConfig;
 use fuse_notify::{Notifier, NotifyError, PollNotifier};
 use fuse_reply::{Replied, ReplyAttr, ReplyEntry, ReplyPoll};
 use fuse_request::Request;
@@ -135,7 +136,7 @@ impl<R: Wait + AllocGlobal> Probe for Telling<R> {
 
     ghost DEFERS = { false };
 
-    fn started(&mut self, _: &Request) -> Result<(), Errno> {
+    fn started(&mut self, _: &Request, _: &mut KernelConfig) -> Result<(), Errno> {
         Ok(())
     }
 

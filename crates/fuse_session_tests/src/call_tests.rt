@@ -4,10 +4,11 @@ use crate::calls::{Call, Row, argument_of, asker, id_at, message_of, sent_for, s
 use crate::file_calls::{files, others};
 use crate::node_calls::{inodes, names};
 use crate::recording::{Recorded, Recording};
+use bitflags::Flags;
 use fuse_config::{Config, SessionACL};
 use fuse_session::{Ended, mount};
 use fuse_testing::Probing;
-use fuse_wire::{MemorySink, MemorySource};
+use fuse_wire::{InitFlags, MemorySink, MemorySource};
 use std::process::Abort;
 use std::sync::Wait;
 use std::thread::Threads;
@@ -69,7 +70,7 @@ fn serve_rows<R: Threads + Wait + AllocGlobal + Abort + Send + Sync + Copy>(
     let alloc = rt.alloc();
     let source = source_of_rows(rt, rows);
     let sink = MemorySink::new(alloc, Vec::new(alloc));
-    let probe = Recording::new(*rt, alloc);
+    let probe = Recording::new(*rt, alloc, InitFlags::empty());
     let mut config = Config::new(alloc);
     config.acl = SessionACL::All;
     mount(rt, Probing { probe }, source, sink, 0, 4096, &config)

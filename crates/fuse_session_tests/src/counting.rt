@@ -2,7 +2,7 @@
 ghost use Rattle.std.specs.Prelude.{◌<◌, false};
 
 use crate::asserts::expect_same;
-use fuse_config::Config;
+use fuse_config::{Config, KernelConfig};
 use fuse_reply::{Replied, ReplyAttr, ReplyData, ReplyEntry};
 use fuse_request::Request;
 use fuse_session::{Ended, SessionError, Transcript, mount};
@@ -196,7 +196,7 @@ impl Probe for Counting {
 
     ghost DEFERS = { false };
 
-    fn started(&mut self, _: &Request) -> Result<(), Errno> {
+    fn started(&mut self, _: &Request, _: &mut KernelConfig) -> Result<(), Errno> {
         match self.refusal {
             Some(error) => Err(error),
             None => Ok(()),

@@ -31,6 +31,8 @@ mod rows;
 #[cfg(test)]
 mod session_tests;
 #[cfg(test)]
+mod setxattr_tests;
+#[cfg(test)]
 mod spawn_tests;
 #[cfg(test)]
 mod verdict_tests;

@@ -293,7 +293,11 @@ static NAMES: [Row; 14] = [
             &[(0, 5), (1, 0), (2, 0), (3, 0)],
             b"user.a\0value",
         ),
-        calls: &[("setxattr", &[Node, Word(4), Number(0)], b"user.a\0value\0")],
+        calls: &[(
+            "setxattr",
+            &[Node, Word(4), Number(0), Number(0)],
+            b"user.a\0value\0",
+        )],
         reply: Error(ENOSYS),
     },
     Row {

@@ -2,9 +2,10 @@
 ghost use Rattle.std.specs.Prelude.{◌≡◌, false, refl};
 ghost use Rattle.fuse_dispatch.specs.Defaults.{default_answer};
 
+use fuse_config::KernelConfig;
 use fuse_request::Request;
 use fuse_testing::{Argument, Probe};
-use fuse_wire::Errno;
+use fuse_wire::{Errno, InitFlags};
 use std::alloc::{AllocError, Global};
 use std::sync::{Mutex, Wait};
 
@@ -19,11 +20,13 @@ pub(crate) struct Recorded {
     pub(crate) texts: Vec<u8>,
 }
 
-/// A filesystem that records what reaches it, as long as there is memory, and answers everything by default.
+/// A filesystem that asks for some capabilities, records what reaches it, as long as there is memory, and answers
+/// everything by default.
 #[derive(Drop)]
 pub(crate) struct Recording<R> {
     rt: R,
     alloc: Global,
+    wants: InitFlags,
     calls: Mutex<Vec<Recorded>>,
 }
 
@@ -48,11 +51,12 @@ fn joined(alloc: Global, texts: &[&[u8]]) -> Result<Vec<u8>, AllocError> {
 }
 
 impl<R: Wait> Recording<R> {
-    /// Nothing reached it yet.
-    pub(crate) fn new(rt: R, alloc: Global) -> Recording<R> {
+    /// It asks for these capabilities, and nothing reached it yet.
+    pub(crate) fn new(rt: R, alloc: Global, wants: InitFlags) -> Recording<R> {
         Recording {
             rt,
             alloc,
+            wants,
             calls: Mutex::new(Vec::new(alloc)),
         }
     }
@@ -89,8 +93,9 @@ impl<R: Wait> Probe for Recording<R> {
 
     ghost DEFERS = { false };
 
-    fn started(&mut self, request: &Request) -> Result<(), Errno> {
+    fn started(&mut self, request: &Request, config: &mut KernelConfig) -> Result<(), Errno> {
         let _ = self.record(request, "init", &[], &[]);
+        let _ = config.add_capabilities(self.wants);
         Ok(())
     }
 

@@ -5,6 +5,7 @@ use crate::counting::{Counting, Course, counts, went};
 use crate::file_calls::{files, others};
 use crate::node_calls::{inodes, names};
 use crate::rows::serve;
+use bitflags::Flags;
 use fuse_config::SessionACL;
 use fuse_request::opcode::{
     FUSE_BATCH_FORGET, FUSE_COPY_FILE_RANGE, FUSE_DESTROY, FUSE_FALLOCATE, FUSE_FORGET, FUSE_FSYNC,
@@ -16,6 +17,7 @@ use fuse_testing::test_messages;
 use fuse_testing::test_messages::{
     EACCES, EINVAL, EIO, ENOSYS, Frame, Given, LOOKUP, NO_OPCODE, first_other,
 };
+use fuse_wire::InitFlags;
 use std::process::Abort;
 use std::sync::Wait;
 use std::thread::Threads;
@@ -115,7 +117,7 @@ type Ruling = (&'static str, u8);
 
 /// What the verdict on a message is, in a session of this owner that serves these users.
 fn ruling_on(acl: SessionACL, owner: u32, message: &[u8]) -> Ruling {
-    match verdict(acl, owner, message) {
+    match verdict(acl, owner, InitFlags::empty(), message) {
         Verdict::Broken(_) => ("error", 0),
         Verdict::Ends => ("ends", 0),
         Verdict::Fixed(error) => ("error", error.code().to_le_bytes()[0]),

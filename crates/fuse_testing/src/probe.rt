@@ -5,6 +5,7 @@ ghost use Rattle.fuse_dispatch.specs.Defaults.{default_answer};
 ghost use Rattle.fuse_testing.specs.Probing.{Allows, IsAnswered};
 
 use crate::argument::Argument;
+use fuse_config::KernelConfig;
 use fuse_dispatch::defaults;
 use fuse_notify::PollNotifier;
 use fuse_reply::{Replied, ReplyAttr, ReplyData, ReplyEntry, ReplyPoll};
@@ -22,8 +23,8 @@ pub trait Probe {
     /// That constant, as a contract names it.
     ghost DEFERS: { Bool };
 
-    /// A kernel opens the connection: what `init` of the filesystem answers.
-    fn started(&mut self, request: &Request) -> Result<(), Errno>;
+    /// A kernel opens the connection: what `init` of the filesystem sets and answers.
+    fn started(&mut self, request: &Request, config: &mut KernelConfig) -> Result<(), Errno>;
 
     /// A method was called, with these arguments: names and data last, the others as they stand in its signature.
     fn called(

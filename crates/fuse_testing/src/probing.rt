@@ -17,7 +17,8 @@ use fuse_reply::{
 use fuse_request::{ForgetList, Request};
 use fuse_wire::{
     AccessFlags, BsdFileFlags, CopyFileRangeFlags, Errno, FileHandle, INodeNo, IoctlFlags,
-    LockOwner, OpenFlags, PollEvents, PollFlags, RenameFlags, SystemTime, TimeOrNow, WriteFlags,
+    LockOwner, OpenFlags, PollEvents, PollFlags, RenameFlags, SetxattrFlags, SystemTime, TimeOrNow,
+    WriteFlags,
 };
 
 /// A filesystem that does this of its own. All else it answers by default.
@@ -40,8 +41,8 @@ impl<P: Probe + Send + Sync> Filesystem for Probing<P> {
 
     ghost DEFERS = { P.DEFERS };
 
-    fn init(&mut self, request: &Request, _config: &mut KernelConfig) -> Result<(), Errno> {
-        self.probe.started(request)
+    fn init(&mut self, request: &Request, config: &mut KernelConfig) -> Result<(), Errno> {
+        self.probe.started(request, config)
     }
 
     fn lookup(
@@ -355,12 +356,18 @@ impl<P: Probe + Send + Sync> Filesystem for Probing<P> {
         value: &[u8],
         flags: i32,
         position: u32,
+        setxattr_flags: SetxattrFlags,
         reply: ReplyEmpty,
     ) -> Replied {
         self.probe.called(
             request,
             "setxattr",
-            &[number(ino.0), signed(flags), number(position as u64)],
+            &[
+                number(ino.0),
+                signed(flags),
+                number(position as u64),
+                number(setxattr_flags.bits() as u64),
+            ],
             &[name, value],
         );
         defaults::setxattr(reply)

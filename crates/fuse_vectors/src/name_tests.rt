@@ -8,7 +8,7 @@ use fuse_wire::consts::{
 use fuse_wire::{
     AccessFlags, BsdFileFlags, CopyFileRangeFlags, CuseInitFlags, Errno, FattrFlags, FopenFlags,
     FsyncFlags, GetattrFlags, INodeNo, InitFlags, IoctlFlags, PollEvents, PollFlags, ReadFlags,
-    ReleaseFlags, RenameFlags, WriteFlags,
+    ReleaseFlags, RenameFlags, SetxattrFlags, WriteFlags,
 };
 use std::alloc::Global;
 use std::process::Abort;
@@ -105,6 +105,7 @@ fn flags_have_their_names_and_bits(rt: HostRuntime) {
     expect_names::<IoctlFlags>(&rt, 1, IOCTL_FLAGS);
     expect_names::<PollFlags>(&rt, 1, "FUSE_POLL_SCHEDULE_NOTIFY");
     expect_names::<WriteFlags>(&rt, 1, WRITE_FLAGS);
+    expect_names::<SetxattrFlags>(&rt, 1, "FUSE_SETXATTR_ACL_KILL_SGID");
     expect_names::<ReadFlags>(&rt, 2, "FUSE_READ_LOCKOWNER");
     expect_names::<GetattrFlags>(&rt, 1, "FUSE_GETATTR_FH");
     expect_names::<CuseInitFlags>(&rt, 1, "CUSE_UNRESTRICTED_IOCTL");

@@ -4,7 +4,7 @@ use crate::asserts::{expect_same, expect_same_in};
 use crate::vectors::INIT;
 use bitflags::Flags;
 use fuse_request::{AnyRequest, GetXAttrSize, GetXAttrSizeEnum, Operation, RequestError, SetAttr};
-use fuse_wire::{FileHandle, SystemTime, TimeOrNow};
+use fuse_wire::{FileHandle, InitFlags, SystemTime, TimeOrNow};
 use std::alloc::{AllocError, Global};
 use std::process::Abort;
 use std::test::Fail;
@@ -229,6 +229,40 @@ fn refuses_a_value_of_another_size(rt: HostRuntime) {
     let value = refusal(&message(21, 8, b"a\0vw", 12));
     let expected = [Some(RequestError::InsufficientData); 2];
     expect_same(&rt, &[written, value], &expected);
+}
+
+/// What SETXATTR sets under these capabilities: the flags of `setxattr(2)`, `setxattr_flags`, and whether `a` gets the
+/// value `v`.
+fn set_under(granted: InitFlags, message: &[u8]) -> Option<(i32, u32, bool)> {
+    let request = AnyRequest::try_from(message).ok()?;
+    match request.operation_with(granted).ok()? {
+        Operation::SetXAttr(set) => {
+            let is_set = set.name() == b"a".as_slice() && set.value() == b"v".as_slice();
+            Some((set.flags(), set.setxattr_flags().bits(), is_set))
+        }
+        _ => None,
+    }
+}
+
+/// What is set under these capabilities by a fixed part of 8 bytes, and by one of 16.
+fn set_by_either(granted: InitFlags) -> [Option<(i32, u32, bool)>; 2] {
+    [
+        set_under(granted, &message(21, 8, b"a\0v", 11)),
+        set_under(granted, &message(21, 16, b"a\0v", 19)),
+    ]
+}
+
+#[test]
+fn the_fixed_part_of_setxattr_is_longer_where_that_was_granted(rt: HostRuntime) {
+    let granted = InitFlags::FUSE_SETXATTR_EXT;
+    expect_same(&rt, &set_by_either(granted), &[None, Some((2, 3, true))]);
+    for others in [InitFlags::empty(), granted.complement()] {
+        expect_same(&rt, &set_by_either(others), &[Some((2, 0, true)), None]);
+    }
+    for length in 0..19 {
+        let cut = message(21, 16, b"a\0v", length);
+        expect_same_in(&rt, &length, &set_under(granted, &cut), &None);
+    }
 }
 
 /// What GETXATTR asks for, with this lowest byte of its size.

@@ -8,8 +8,8 @@ use fuse_wire::{
     Errno, FattrFlags, FileAttr, FileHandle, FileType, FopenFlags, FsyncFlags, Generation,
     GetattrFlags, INodeNo, InitFlags, IoctlFlags, Items, LockOwner, MemoryBytes, MemoryOut,
     MemorySink, MemorySource, NoMemory, Noting, OpenAccMode, OpenFlags, PollEvents, PollFlags,
-    PollHandle, ReadFlags, Received, ReleaseFlags, RenameFlags, RequestId, Sending, StdSink,
-    StdSource, StreamSink, StreamSource, SystemTime, TimeOrNow, Turn, Version, WriteFlags,
+    PollHandle, ReadFlags, Received, ReleaseFlags, RenameFlags, RequestId, Sending, SetxattrFlags,
+    StdSink, StdSource, StreamSink, StreamSource, SystemTime, TimeOrNow, Turn, Version, WriteFlags,
 };
 use std::fmt::Debug;
 use std::hash::Hash;
@@ -33,7 +33,7 @@ fn types_are_what_they_derive() {
     is_hashed::<(BsdFileFlags, PollEvents, RenameFlags, CopyFileRangeFlags)>();
     is_hashed::<(FopenFlags, FsyncFlags, InitFlags, IoctlFlags, PollFlags)>();
     is_hashed::<(WriteFlags, CuseInitFlags, FattrFlags, GetattrFlags)>();
-    is_hashed::<(ReadFlags, ReleaseFlags)>();
+    is_hashed::<(ReadFlags, ReleaseFlags, SetxattrFlags)>();
     is_compared::<(Errno, FileAttr, NoMemory, Received)>();
     is_compared::<(Sending, Noting, ByteRead, ByteWrite)>();
     is_compared::<(Request, RequestError, FilenameInDir<'_>, Lock)>();

@@ -7,6 +7,7 @@ use crate::rows::{
     Row,
 };
 use crate::serving::{ended_well, expect_noted, expect_served, serve};
+use fuse_config::KernelConfig;
 use fuse_read_only::ReadOnly;
 use fuse_request::Request;
 use fuse_testing::{Argument, Probe, Probing};
@@ -63,7 +64,7 @@ impl Probe for Calls {
 
     ghost DEFERS = { false };
 
-    fn started(&mut self, _request: &Request) -> Result<(), Errno> {
+    fn started(&mut self, _request: &Request, _config: &mut KernelConfig) -> Result<(), Errno> {
         Ok(())
     }
 
