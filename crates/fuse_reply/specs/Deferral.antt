@@ -15,6 +15,11 @@ pub record ReplySeen : Type 0 where
 abbrev pub prompt_reply : (id : ℕ) → ReplySeen
 prompt_reply id = record { id = id; door = Err Shut }
 
+-- a reply to INTERRUPT: its request's id, and the id of the request that is to be cut short
+pub record InterruptSeen : Type 0 where
+  pub id : ℕ
+  pub target : ℕ
+
 abbrev pub has_door : Result DoorSeen NoDoor → Bool
 has_door (Ok door) = true
 has_door (Err none) = false

@@ -1,5 +1,6 @@
-//! Replies: each is made for one request, is spent once into what goes out, and goes out as one frame.
-//! The layers above rely on this: what goes out is the frame of that request's id and of the answer given.
+//! Replies: each is made for one request, is spent once into what goes out, and goes out as one frame, or for an interrupt
+//! that is honoured as one note.
+//! The layers above rely on this: what goes out is the frame of that request's id and of the answer given, or that note.
 #![tactic(auto)]
 
 mod attributes;
@@ -26,6 +27,7 @@ mod reply_directory_plus;
 mod reply_empty;
 mod reply_entry;
 mod reply_frame;
+mod reply_interrupt;
 mod reply_ioctl;
 mod reply_listing;
 mod reply_lock;
@@ -59,6 +61,7 @@ pub use reply_directory_plus::{PlusEntries, ReplyDirectoryPlus};
 pub use reply_empty::{Nothing, ReplyEmpty};
 pub use reply_entry::{Entries, ReplyEntry};
 pub use reply_frame::ReplyFrame;
+pub use reply_interrupt::{Interrupts, ReplyInterrupt};
 pub use reply_ioctl::{IoctlResults, ReplyIoctl};
 pub use reply_listing::{EntryKind, ReplyListing};
 pub use reply_lock::{Locks, ReplyLock};

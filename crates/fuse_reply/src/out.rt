@@ -11,7 +11,8 @@ use std::alloc::AllocError;
 pub enum Out {
     /// The reply to a request.
     Frame(ReplyFrame),
-    /// A note in place of a frame: a forget's request, and the mark that its filesystem gave.
+    /// A note in place of a frame: a forget's request and the mark that its filesystem gave, or an INTERRUPT that is
+    /// honoured and the id of the request that it cuts short.
     Note(RequestId, u64),
     /// Nothing yet: the reply of the message with this number and request comes later.
     Deferred(u64, RequestId),

@@ -54,6 +54,16 @@ impl Replied {
         }
     }
 
+    /// The INTERRUPT of this id is honoured, which asks that the request of the other id be cut short.
+    #[inline(always)]
+    pub(crate) fn noted(id: RequestId, target: u64) -> Replied
+        ensures { result ≡ Out.Note id target }
+    {
+        Replied {
+            out: Out::Note(id, target),
+        }
+    }
+
     /// What goes out.
     #[inline(always)]
     pub fn into_out(self) -> Out

@@ -6,11 +6,19 @@ ghost use Rattle.fuse_reply.specs.Refusing.{GivesBack};
 
 use crate::later::{Held, LateRefusal, Later};
 use crate::{EndNote, Out, Queued, Replied};
+use fuse_wire::RequestId;
 use std::snapshot::Snapshot;
 use std::sync::Wait;
 use std::thread;
 
 impl<R: Held> Later<R> {
+    /// The id of the request that its reply is for.
+    pub fn id(&self) -> RequestId
+        ensures { result ≡ self.now.id }
+    {
+        self.id
+    }
+
     /// The reply, which can't be put off once more, and the token to send it by.
     pub fn reply(self) -> (R, Later<()>)
         ensures reply { result.0 ≡ self.reply }
