@@ -44,6 +44,7 @@ pub data Call : Type 0 where
   SetLk : (ino fh lock_owner start end : ℕ) (typ : ℤ) (pid : ℕ) (sleep : Bool) → Call
   Access : (ino : ℕ) (mask : ℤ) → Call
   Create : (parent : ℕ) (name : List ℕ) (mode umask : ℕ) (flags : ℤ) → Call
+  Interrupt : (target : ℕ) → Call
   BMap : (ino blocksize block : ℕ) → Call
   IoCtl : (ino fh flags cmd : ℕ) (in_bytes : List ℕ) (out_size : ℕ) → Call
   Poll : (ino fh kh events flags : ℕ) → Call
@@ -65,8 +66,8 @@ owner_number = option_map (λ owner. owner.0)
 abbrev pub unsigned : ℤ → ℕ
 unsigned = cast_unsigned w64
 
--- the call that an operation on a node makes, where it makes one: INIT and DESTROY are the session's own, and INTERRUPT,
--- NOTIFY_REPLY and CUSE_INIT are refused
+-- the call that an operation on a node makes, where it makes one: INIT and DESTROY are the session's own, and NOTIFY_REPLY and
+-- CUSE_INIT are refused
 abbrev pub call : ℕ → Op → Option Call
 call node (Op.Lookup name) = Some (Lookup node name)
 call node (Op.Forget nlookup) = Some (Forget node nlookup)
@@ -102,7 +103,7 @@ call node (Op.GetLk a) = Some (GetLk node a.fh a.owner a.start a.end a.typ a.pid
 call node (Op.SetLk a sleep) = Some (SetLk node a.fh a.owner a.start a.end a.typ a.pid sleep)
 call node (Op.Access a) = Some (Access node a.mask)
 call node (Op.Create a name) = Some (Create node name a.mode a.umask a.flags)
-call node (Op.Interrupt unique) = None
+call node (Op.Interrupt unique) = Some (Interrupt unique)
 call node (Op.BMap a) = Some (BMap node a.blocksize a.block)
 call node Op.Destroy = None
 call node (Op.IoCtl a in_bytes) = Some (IoCtl node a.fh a.flags a.cmd in_bytes a.out_size)
