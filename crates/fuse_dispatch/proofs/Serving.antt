@@ -13,10 +13,12 @@ use Rattle.fuse_reply.specs.declared.out.Out.TheVariants.{Deferred}
 use Rattle.fuse_header.specs.declared.request.Request.{Request}
 use Rattle.fuse_wire.specs.declared.newtypes.RequestId.{RequestId}
 use Rattle.fuse_loop.specs.Incoming.{IsBroken, id_of}
-use Rattle.fuse_dispatch.specs.Promise.{Promise}
+use Rattle.fuse_request.specs.Call.{Call}
+use Rattle.fuse_request.specs.Call.Call.{Interrupt}
+use Rattle.fuse_dispatch.specs.Promise.{MayHonour, Promise}
 use Rattle.fuse_dispatch.specs.Verdict.{Verdict, verdict, verdict_by}
 use Rattle.fuse_dispatch.specs.Verdict.Verdict.{Broken, Ends, Fixed, Forgets, Calls}
-use Rattle.fuse_dispatch.specs.OwedMessage.{OwedByPromise, OwedBy}
+use Rattle.fuse_dispatch.specs.OwedMessage.{HonoursCall, OwedByPromise, OwedBy}
 
 ok-header : (a b c : Bool) (x y z : RequestError) (f h : Header)
     → (if a then Err x else if b then Err y else if c then Err z else Ok f) ≡ Ok h → h ≡ f
@@ -31,6 +33,12 @@ header-fields m h is =
     ok-header (nat_lt (length m) 40) (nat_lt (length m) (number m 0 4)) (nat_lt (number m 0 4) 40)
     (ShortReadHeader (length m)) (ShortRead (length m) (number m 0 4)) InsufficientData (header_fields m) h is
 
+-- an interrupt that is honoured is no such mark
+no-mark-honoured : {F : Type 0} (may_honour : MayHonour F) (fs : F) (request : Request) (c : Call) (id number : ℕ) (of : RequestId)
+    → HonoursCall may_honour fs request c id (Deferred number of) → ⊥
+no-mark-honoured may_honour fs request (Interrupt target) id number of honoured = let is = honoured.1 in let bad : ⊥ = cc in bad
+no-mark-honoured may_honour fs request c id number of honoured = honoured
+
 -- a filesystem that never defers owes no mark of a reply that comes later
 no-mark : {F : Type 0} (promise : Promise F) (fs : F) (request : Request) (v : Verdict) (seq id number : ℕ) (of : RequestId) → promise.defers ≡ false
     → OwedBy promise fs request v seq id (Deferred number of) → ⊥
@@ -43,7 +51,8 @@ no-mark promise fs request (Calls c) seq id number of never (inl answered) = by_
   by_reply (inl is) = let bad : ⊥ = cc in bad
   by_reply (inr is) = let at = is.1 in let bad : ⊥ = cc in bad
 no-mark promise fs request (Calls c) seq id number of never (inr (inl poll)) = let is = poll.1 in let bad : ⊥ = cc in bad
-no-mark promise fs request (Calls c) seq id number of never (inr (inr later)) = let is = later.0 in let bad : ⊥ = cc in bad
+no-mark promise fs request (Calls c) seq id number of never (inr (inr (inl later))) = let is = later.0 in let bad : ⊥ = cc in bad
+no-mark promise fs request (Calls c) seq id number of never (inr (inr (inr honoured))) = no-mark-honoured promise.may_honour fs request c id number of honoured
 
 pub OwedByPromise-at_once : {F : Type 0} (promise : Promise F) (fs : F) (agreed : Terms) → promise.defers ≡ false
     → (seq : ℕ) (m : List ℕ) (number : ℕ) (of : RequestId) → OwedByPromise promise fs agreed seq m (Deferred number of) → ⊥

@@ -3,7 +3,7 @@ use Rattle.std.specs.Prelude.{ℕ, ◌≤◌, length}
 use Rattle.fuse_request.specs.Call.{Call}
 use Rattle.fuse_request.specs.Call.Call.{Lookup, Forget, GetAttr, SetAttr, ReadLink, SymLink, MkNod, MkDir, Unlink, RmDir, Rename, Link, Open, Read}
 use Rattle.fuse_request.specs.Call.Call.{Write, StatFs, Release, FSync, SetXAttr, GetXAttr, ListXAttr, RemoveXAttr, Flush, OpenDir, ReadDir}
-use Rattle.fuse_request.specs.Call.Call.{ReleaseDir, FSyncDir, GetLk, SetLk, Access, Create, BMap, IoCtl, Poll, BatchForget, FAllocate}
+use Rattle.fuse_request.specs.Call.Call.{ReleaseDir, FSyncDir, GetLk, SetLk, Access, Create, Interrupt, BMap, IoCtl, Poll, BatchForget, FAllocate}
 use Rattle.fuse_request.specs.Call.Call.{ReadDirPlus, Lseek, CopyFileRange}
 use Rattle.fuse_reply.specs.Answer.{Answer}
 use Rattle.fuse_reply.specs.Listing.{listing, plus_listing}
@@ -76,7 +76,7 @@ abbrev pub CarriesDirectoryPlus : (size : ℕ) → Answer → Type 0
 CarriesDirectoryPlus size (Answer.DirectoryPlus entries) = length (plus_listing entries) ≤ size
 CarriesDirectoryPlus size a = ⊥
 
--- what a reply of the call carries, where it is no error; a forget has no reply
+-- what a reply of the call carries, where it is no error; a forget has no reply, and an interrupt that is honoured has none
 abbrev pub Carries : Call → Answer → Type 0
 Carries (Lookup parent name) = CarriesEntry
 Carries (Forget ino nlookup) = λ a. ⊥
@@ -109,6 +109,7 @@ Carries (GetLk ino fh lock_owner start end typ pid) = CarriesLock
 Carries (SetLk ino fh lock_owner start end typ pid sleep) = CarriesNothing
 Carries (Access ino mask) = CarriesNothing
 Carries (Create parent name mode umask flags) = CarriesCreate
+Carries (Interrupt target) = λ a. ⊥
 Carries (BMap ino blocksize block) = CarriesBmap
 Carries (IoCtl ino fh flags cmd in_bytes out_size) = CarriesIoctl
 Carries (Poll ino fh kh events flags) = CarriesPoll

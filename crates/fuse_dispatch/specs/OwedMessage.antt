@@ -3,7 +3,7 @@ use Rattle.std.specs.Prelude.{◌≡◌, ◌⊎◌, ◌==◌, ℕ, List, IsTrue,
 use Rattle.std.proofs.Common.{sym, subst}
 use Rattle.fuse_wire.specs.ErrorNumbers.{ENOMEM}
 use Rattle.fuse_request.specs.Call.{Call}
-use Rattle.fuse_request.specs.Call.Call.{Poll}
+use Rattle.fuse_request.specs.Call.Call.{Interrupt, Poll}
 use Rattle.fuse_header.specs.Header.{header, header_fields, body, request_of}
 use Rattle.fuse_header.specs.Opcode.{FUSE_DESTROY}
 use Rattle.fuse_request.specs.Decoding.{operation}
@@ -20,7 +20,7 @@ use Rattle.fuse_reply.specs.declared.out.Out.{Out}
 use Rattle.fuse_reply.specs.declared.out.Out.TheVariants.{Frame, Note, Deferred}
 use Rattle.fuse_dispatch.specs.declared.access.Terms.{Terms}
 use Rattle.fuse_dispatch.specs.Kind.{IsOfKind}
-use Rattle.fuse_dispatch.specs.Promise.{Promise, MayAnswer}
+use Rattle.fuse_dispatch.specs.Promise.{Promise, MayAnswer, MayHonour}
 use Rattle.fuse_loop.specs.Incoming.{incoming, incoming_by, id_of}
 use Rattle.fuse_loop.specs.Incoming.Incoming.{Destroy, Request as IsRequest}
 use Rattle.fuse_dispatch.specs.Verdict.{Verdict, verdict, verdict_by, serving, admitted_operation}
@@ -48,18 +48,33 @@ pub record IsPutOff (door : Result DoorSeen NoDoor) (id : ℕ) (out : Out) : Typ
 abbrev pub Answers : {F : Type 0} → MayAnswer F → F → Request → Call → (id : ℕ) → Result DoorSeen NoDoor → Out → Type 0
 Answers may_answer fs request c id door out = Answered may_answer fs request c id out ⊎ IsPutOff door id out
 
+-- this is an interrupt that is honoured: the promise allows it, and what goes out is a note of the target
+abbrev pub Honours : {F : Type 0} → MayHonour F → F → Request → (target id : ℕ) → Out → Type 0
+Honours may_honour fs request target id out = may_honour fs request target × (out ≡ Note (record { 0 = id }) target)
+
+-- what `interrupt` gives back: the reply of an error that is allowed, or the note of an interrupt that it may honour
+abbrev pub AnswersInterrupt : {F : Type 0} → MayAnswer F → MayHonour F → F → Request → (target id : ℕ) → Out → Type 0
+AnswersInterrupt may_answer may_honour fs request target id out =
+    Answered may_answer fs request (Interrupt target) id out ⊎ Honours may_honour fs request target id out
+
+-- the same of any call, of which an interrupt alone may be honoured
+abbrev pub HonoursCall : {F : Type 0} → MayHonour F → F → Request → Call → (id : ℕ) → Out → Type 0
+HonoursCall may_honour fs request (Interrupt target) id out = Honours may_honour fs request target id out
+HonoursCall may_honour fs request c id out = ⊥
+
 -- a POLL, whether or not the kernel asks to be told of news
 abbrev pub IsPoll : Call → Type 0
 IsPoll (Poll ino fh kh events flags) = Unit {0}
 IsPoll c = ⊥
 
 -- an answer that is allowed; or ENOMEM where no memory was to be had for a poll's notifier; or, where replies may come later,
--- the mark of one, with the message's number
+-- the mark of one, with the message's number; or the note of an interrupt that may be honoured
 abbrev pub OwedCall : {F : Type 0} → Promise F → F → Request → Call → (seq id : ℕ) → Out → Type 0
 OwedCall promise fs request c seq id out =
     Answered promise.may_answer fs request c id out
     ⊎ (IsPoll c × (out ≡ Frame (reply id (Error ENOMEM))))
     ⊎ (IsTrue promise.defers × (out ≡ Deferred seq (record { 0 = id })))
+    ⊎ HonoursCall promise.may_honour fs request c id out
 
 -- what a request may be owed, by its verdict, its message's number and its id
 abbrev pub Owes : Type 1

@@ -15,7 +15,7 @@ use Rattle.fuse_header.specs.Opcode.{FUSE_FORGET, FUSE_READ, FUSE_WRITE, FUSE_RE
 use Rattle.fuse_header.specs.Opcode.{FUSE_READDIR, FUSE_RELEASEDIR, FUSE_FSYNCDIR, FUSE_DESTROY, FUSE_BATCH_FORGET, FUSE_READDIRPLUS}
 use Rattle.fuse_request.specs.Operation.{Op}
 use Rattle.fuse_request.specs.Decoding.{operation}
-use Rattle.fuse_request.specs.Operation.Op.{Forget, Init, Read, Write, Interrupt, NotifyReply, CuseInit, IoCtl, BatchForget, FAllocate}
+use Rattle.fuse_request.specs.Operation.Op.{Forget, Init, Read, Write, NotifyReply, CuseInit, IoCtl, BatchForget, FAllocate}
 use Rattle.fuse_request.specs.Operation.Op.{CopyFileRange}
 
 -- these pass whoever sends them: INIT, DESTROY, forgets, and of what goes by an open file reads, writes, fsyncs and releases
@@ -68,11 +68,10 @@ abbrev pub first_error : Result ℕ ℕ → Result ℕ ℕ → Option ℕ
 first_error (Ok number) other = error_in other
 first_error (Err errno) other = Some errno
 
--- the error of an operation that no filesystem is asked: EIO for another INIT; ENOSYS for INTERRUPT, NOTIFY_REPLY and CUSE_INIT, and
--- for an IOCTL that is not restricted; EINVAL for an offset or a length that is in no file
+-- the error of an operation that no filesystem is asked: EIO for another INIT; ENOSYS for NOTIFY_REPLY and CUSE_INIT, and for an IOCTL
+-- that is not restricted; EINVAL for an offset or a length that is in no file
 abbrev pub fixed_error : Op → Option ℕ
 fixed_error (Init init) = Some EIO
-fixed_error (Interrupt unique) = Some ENOSYS
 fixed_error NotifyReply = Some ENOSYS
 fixed_error CuseInit = Some ENOSYS
 fixed_error (IoCtl ioctl in_bytes) = if is_unrestricted ioctl then Some ENOSYS else None

@@ -1,5 +1,5 @@
 // How a filesystem is asked.
-ghost use Rattle.std.proofs.Common.{◌∙◌, inr, refl};
+ghost use Rattle.std.proofs.Common.{◌∙◌, inl, inr, refl};
 ghost use Rattle.fuse_dispatch.specs.OwedMessage.{OwedBy};
 
 use crate::Filesystem;
@@ -8,12 +8,12 @@ use crate::giving::Giving;
 use crate::handler::Handler;
 use bitflags::Flags;
 use fuse_notify::Notifier;
-use fuse_reply::Out;
+use fuse_reply::{Out, ReplyInterrupt};
 use fuse_request::{
     Access, BMap, BatchForget, CopyFileRange, Create, FAllocate, FSync, FSyncDir, Flush, Forget,
-    GetAttr, GetLk, GetXAttr, IoCtl, Link, ListXAttr, Lookup, Lseek, MkDir, MkNod, Open, OpenDir,
-    Poll, Read, ReadDir, ReadDirPlus, ReadLink, Release, ReleaseDir, RemoveXAttr, Rename, Rename2,
-    RmDir, SetAttr, SetLk, SetXAttr, StatFs, SymLink, Unlink, Write,
+    GetAttr, GetLk, GetXAttr, Interrupt, IoCtl, Link, ListXAttr, Lookup, Lseek, MkDir, MkNod, Open,
+    OpenDir, Poll, Read, ReadDir, ReadDirPlus, ReadLink, Release, ReleaseDir, RemoveXAttr, Rename,
+    Rename2, RmDir, SetAttr, SetLk, SetXAttr, StatFs, SymLink, Unlink, Write,
 };
 use fuse_wire::{Errno, RenameFlags};
 
@@ -461,6 +461,16 @@ impl<FS: Filesystem> Handler for Asking<FS> {
     }
 
     #[inline(always)]
+    fn interrupt<G: Giving>(&self, asked: &Asked, giving: G, operation: &Interrupt) -> Out {
+        giving.unused();
+        let target = operation.unique();
+        let reply = ReplyInterrupt::new(asked.alloc, asked.id, target);
+        self.filesystem
+            .interrupt(&asked.request, target, reply)
+            .into_out()
+    }
+
+    #[inline(always)]
     fn bmap<G: Giving>(&self, asked: &Asked, giving: G, operation: &BMap) -> Out {
         let reply = giving.reply(asked);
         self.filesystem
@@ -635,5 +645,5 @@ impl<FS: Filesystem> Handler for Asking<FS> {
 
     ghost owes_end_alone = { λ handler request seq id out is. is };
 
-    ghost owes_later = { λ handler request call seq id later. inr (inr (FS.deferral ∙ later, refl)) };
+    ghost owes_later = { λ handler request call seq id later. inr (inr (inl (FS.deferral ∙ later, refl))) };
 }

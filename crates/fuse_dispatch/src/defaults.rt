@@ -11,8 +11,8 @@ ghost use Rattle.fuse_dispatch.specs.Defaults.{IsMarkAfter, default_mark};
 use bitflags::Flags;
 use fuse_reply::{
     Replied, ReplyAttr, ReplyBmap, ReplyCreate, ReplyData, ReplyDirectory, ReplyDirectoryPlus,
-    ReplyEmpty, ReplyEntry, ReplyIoctl, ReplyLock, ReplyLseek, ReplyOpen, ReplyPoll, ReplyStatfs,
-    ReplyWrite, ReplyXattr,
+    ReplyEmpty, ReplyEntry, ReplyInterrupt, ReplyIoctl, ReplyLock, ReplyLseek, ReplyOpen,
+    ReplyPoll, ReplyStatfs, ReplyWrite, ReplyXattr,
 };
 use fuse_request::ForgetList;
 use fuse_wire::{Errno, FileHandle, FopenFlags, INodeNo};
@@ -266,6 +266,14 @@ pub fn access(reply: ReplyEmpty) -> Replied
 
 /// ENOSYS: the kernel sends MKNOD and then OPEN, and no more CREATE.
 pub fn create(reply: ReplyCreate) -> Replied
+    ensures reply { result ≡ Out.Frame (reply_of reply.id (Error ENOSYS)) }
+    ensures answer { IsAnswer (Error ENOSYS) }
+{
+    reply.error(Errno::ENOSYS)
+}
+
+/// ENOSYS: the request goes on, and the kernel sends no INTERRUPT any more.
+pub fn interrupt(reply: ReplyInterrupt) -> Replied
     ensures reply { result ≡ Out.Frame (reply_of reply.id (Error ENOSYS)) }
     ensures answer { IsAnswer (Error ENOSYS) }
 {

@@ -83,7 +83,7 @@ impl<H: Handler> Service<H> {
             Operation::SetLk(operation) => self.handler.setlk(asked, giving, operation),
             Operation::Access(operation) => self.handler.access(asked, giving, operation),
             Operation::Create(operation) => self.handler.create(asked, giving, operation),
-            Operation::Interrupt(_) => giving.refusal(asked, Errno::ENOSYS),
+            Operation::Interrupt(operation) => self.handler.interrupt(asked, giving, operation),
             Operation::BMap(operation) => self.handler.bmap(asked, giving, operation),
             Operation::Destroy(_) => {
                 giving.unused();

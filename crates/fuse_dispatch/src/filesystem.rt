@@ -2,21 +2,21 @@
 ghost use Rattle.std.specs.Prelude.{◌≡◌, [], Bool, option_map};
 ghost use Rattle.fuse_request.specs.Call.{Call, handle_number, owner_number};
 ghost use Rattle.fuse_request.specs.Forgets.{rows_of};
-ghost use Rattle.fuse_dispatch.specs.OwedMessage.{Answers};
+ghost use Rattle.fuse_dispatch.specs.OwedMessage.{Answers, AnswersInterrupt};
 ghost use Rattle.fuse_dispatch.specs.Promise.{Promise};
 
 use fuse_config::KernelConfig;
 use fuse_notify::PollNotifier;
 use fuse_reply::{
     Replied, ReplyAttr, ReplyBmap, ReplyCreate, ReplyData, ReplyDirectory, ReplyDirectoryPlus,
-    ReplyEmpty, ReplyEntry, ReplyIoctl, ReplyLock, ReplyLseek, ReplyOpen, ReplyPoll, ReplyStatfs,
-    ReplyWrite, ReplyXattr,
+    ReplyEmpty, ReplyEntry, ReplyInterrupt, ReplyIoctl, ReplyLock, ReplyLseek, ReplyOpen,
+    ReplyPoll, ReplyStatfs, ReplyWrite, ReplyXattr,
 };
 use fuse_request::{ForgetList, Request};
 use fuse_wire::{
     AccessFlags, BsdFileFlags, CopyFileRangeFlags, Errno, FileHandle, INodeNo, IoctlFlags,
-    LockOwner, OpenFlags, PollEvents, PollFlags, RenameFlags, SetxattrFlags, SystemTime, TimeOrNow,
-    WriteFlags,
+    LockOwner, OpenFlags, PollEvents, PollFlags, RenameFlags, RequestId, SetxattrFlags, SystemTime,
+    TimeOrNow, WriteFlags,
 };
 
 /// A filesystem, as a session serves it. The session calls `init` at most once and before any request, then a method
@@ -517,6 +517,18 @@ pub trait Filesystem: Send + Sync {
     ) -> Replied
         ensures { Answers promise.may_answer self.now request.now
             (Call.Create parent.0 name.now mode umask flags) reply.id reply.door result };
+
+    /// INTERRUPT: whoever made the request `target` was interrupted by a signal, and wants it cut short. That request is
+    /// still owed its one reply. The kernel sends INTERRUPT once `target` was sent, and before all else that waits, so
+    /// on several threads it may be here before the other method is called, and after it has answered. To honour it a
+    /// filesystem answers `target`, whose reply it has put off, by EINTR through its token, and spends `reply` by
+    /// `honoured`: INTERRUPT itself gets a note in place of a frame. For a request that it does not know it answers
+    /// `again`: the kernel asks once more, unless the request was answered meanwhile. Every other error but ENOSYS lets the
+    /// request go on. ENOSYS does too and is remembered: no INTERRUPT is sent again. `defaults::interrupt` answers ENOSYS.
+    fn interrupt(&self, request: &Request, target: RequestId, reply: ReplyInterrupt) -> Replied
+        requires { reply.target ≡ target.0 }
+        ensures { AnswersInterrupt promise.may_answer promise.may_honour self.now request.now
+            target.0 reply.id result };
 
     /// BMAP: in which block of the device the block `idx` of this file lies. Both are counted in blocks of `blocksize`
     /// bytes. It is sent for `FIBMAP` of `ioctl(2)` and the like, and only where the filesystem is mounted from a block

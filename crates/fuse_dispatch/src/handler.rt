@@ -17,9 +17,9 @@ use fuse_notify::Notifier;
 use fuse_reply::Out;
 use fuse_request::{
     Access, BMap, BatchForget, CopyFileRange, Create, FAllocate, FSync, FSyncDir, Flush, Forget,
-    GetAttr, GetLk, GetXAttr, IoCtl, Link, ListXAttr, Lookup, Lseek, MkDir, MkNod, Open, OpenDir,
-    Poll, Read, ReadDir, ReadDirPlus, ReadLink, Release, ReleaseDir, RemoveXAttr, Rename, Rename2,
-    RmDir, SetAttr, SetLk, SetXAttr, StatFs, SymLink, Unlink, Write,
+    GetAttr, GetLk, GetXAttr, Interrupt, IoCtl, Link, ListXAttr, Lookup, Lseek, MkDir, MkNod, Open,
+    OpenDir, Poll, Read, ReadDir, ReadDirPlus, ReadLink, Release, ReleaseDir, RemoveXAttr, Rename,
+    Rename2, RmDir, SetAttr, SetLk, SetXAttr, StatFs, SymLink, Unlink, Write,
 };
 
 /// What answers the operations of users who are served: one method for each that may reach a filesystem. It stands
@@ -127,6 +127,9 @@ pub(crate) trait Handler {
 
     fn create<G: Giving>(&self, asked: &Asked, giving: G, operation: &Create<'_>) -> Out
         ensures { IsOwed (owes self.now) (G.door giving) asked.now (Operation.Create operation.now) result };
+
+    fn interrupt<G: Giving>(&self, asked: &Asked, giving: G, operation: &Interrupt) -> Out
+        ensures { IsOwed (owes self.now) (G.door giving) asked.now (Operation.Interrupt operation.now) result };
 
     fn bmap<G: Giving>(&self, asked: &Asked, giving: G, operation: &BMap) -> Out
         ensures { IsOwed (owes self.now) (G.door giving) asked.now (Operation.BMap operation.now) result };

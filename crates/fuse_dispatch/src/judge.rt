@@ -18,9 +18,7 @@ fn fixed_error(operation: &Operation<'_>) -> Option<Errno>
 {
     match operation {
         Operation::Init(_) => Some(Errno::EIO),
-        Operation::Interrupt(_) | Operation::NotifyReply(_) | Operation::CuseInit(_) => {
-            Some(Errno::ENOSYS)
-        }
+        Operation::NotifyReply(_) | Operation::CuseInit(_) => Some(Errno::ENOSYS),
         Operation::IoCtl(ioctl) => ioctl.unrestricted().then_some(Errno::ENOSYS),
         Operation::Read(read) => read.offset().err(),
         Operation::Write(write) => write.offset().err(),
@@ -63,7 +61,7 @@ fn judge(operation: Operation<'_>) -> Verdict<'_>
 /// - a user who is not served: EACCES. INIT, DESTROY, READ, WRITE, READDIR, READDIRPLUS, FSYNC, FSYNCDIR, RELEASE,
 ///   RELEASEDIR, FORGET and BATCH_FORGET pass, whoever sends them;
 /// - another INIT: EIO;
-/// - INTERRUPT, NOTIFY_REPLY, CUSE_INIT, and an IOCTL that is not restricted: ENOSYS;
+/// - NOTIFY_REPLY, CUSE_INIT, and an IOCTL that is not restricted: ENOSYS;
 /// - an offset or a length that is in no file, of READ, WRITE, FALLOCATE or COPY_FILE_RANGE: EINVAL;
 /// - FORGET and BATCH_FORGET: `Forget`;
 /// - all else: `Call`.

@@ -111,6 +111,7 @@ abbrev pub tree_promise : Promise Hello
 tree_promise = record {
   may_init = tree_may_init;
   may_answer = tree_may_answer;
+  may_honour = λ tree request target. ⊥;
   may_note = tree_may_note;
   may_destroy = tree_may_destroy;
   defers = false;

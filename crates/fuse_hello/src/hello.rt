@@ -9,14 +9,14 @@ use fuse_dispatch::{Filesystem, defaults};
 use fuse_notify::PollNotifier;
 use fuse_reply::{
     Replied, ReplyAttr, ReplyBmap, ReplyCreate, ReplyData, ReplyDirectory, ReplyDirectoryPlus,
-    ReplyEmpty, ReplyEntry, ReplyIoctl, ReplyLock, ReplyLseek, ReplyOpen, ReplyPoll, ReplyStatfs,
-    ReplyWrite, ReplyXattr,
+    ReplyEmpty, ReplyEntry, ReplyInterrupt, ReplyIoctl, ReplyLock, ReplyLseek, ReplyOpen,
+    ReplyPoll, ReplyStatfs, ReplyWrite, ReplyXattr,
 };
 use fuse_request::{ForgetList, Request};
 use fuse_wire::{
     AccessFlags, BsdFileFlags, CopyFileRangeFlags, Duration, Errno, FileAttr, FileHandle, FileType,
     Generation, INodeNo, IoctlFlags, LockOwner, OpenFlags, PollEvents, PollFlags, RenameFlags,
-    SetxattrFlags, SystemTime, TimeOrNow, WriteFlags,
+    RequestId, SetxattrFlags, SystemTime, TimeOrNow, WriteFlags,
 };
 
 /// What `hello.txt` holds.
@@ -525,6 +525,10 @@ impl Filesystem for Hello {
         reply: ReplyCreate,
     ) -> Replied {
         defaults::create(reply)
+    }
+
+    fn interrupt(&self, _request: &Request, _target: RequestId, reply: ReplyInterrupt) -> Replied {
+        defaults::interrupt(reply)
     }
 
     fn bmap(

@@ -98,6 +98,7 @@ abbrev pub promise : {F : Type 0} → (F → Tree) → Promise F
 promise tree = record {
   may_init = λ old request before result new after. (result ≡ Ok tt) × (after ≡ before) × (new ≡ old);
   may_answer = λ fs request call a. MayHave (tree fs) call a;
+  may_honour = λ fs request target. ⊥;
   may_note = λ fs request call m. forget_mark call ≡ Some m;
   may_destroy = λ old new. new ≡ old;
   defers = false;

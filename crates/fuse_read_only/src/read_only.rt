@@ -11,14 +11,14 @@ use fuse_dispatch::{Filesystem, defaults};
 use fuse_notify::PollNotifier;
 use fuse_reply::{
     MAX_PAYLOAD, Replied, ReplyAttr, ReplyBmap, ReplyCreate, ReplyData, ReplyDirectory,
-    ReplyDirectoryPlus, ReplyEmpty, ReplyEntry, ReplyIoctl, ReplyLock, ReplyLseek, ReplyOpen,
-    ReplyPoll, ReplyStatfs, ReplyWrite, ReplyXattr,
+    ReplyDirectoryPlus, ReplyEmpty, ReplyEntry, ReplyInterrupt, ReplyIoctl, ReplyLock, ReplyLseek,
+    ReplyOpen, ReplyPoll, ReplyStatfs, ReplyWrite, ReplyXattr,
 };
 use fuse_request::{ForgetList, Request};
 use fuse_wire::{
     AccessFlags, BsdFileFlags, CopyFileRangeFlags, Errno, FileHandle, FileType, Generation,
     INodeNo, IoctlFlags, LockOwner, NoMemory, OpenAccMode, OpenFlags, PollEvents, PollFlags,
-    RenameFlags, SetxattrFlags, SystemTime, TimeOrNow, WriteFlags,
+    RenameFlags, RequestId, SetxattrFlags, SystemTime, TimeOrNow, WriteFlags,
 };
 use std::marker::Model;
 
@@ -462,6 +462,10 @@ impl<T: Files + Send + Sync> Filesystem for ReadOnly<T> {
         reply: ReplyCreate,
     ) -> Replied {
         reply.error(Errno::EROFS)
+    }
+
+    fn interrupt(&self, _request: &Request, _target: RequestId, reply: ReplyInterrupt) -> Replied {
+        defaults::interrupt(reply)
     }
 
     fn bmap(

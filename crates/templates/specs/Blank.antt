@@ -9,6 +9,7 @@ abbrev pub promise : {F : Type 0} → Promise F
 promise = record {
   may_init = λ old request before result new after. (result ≡ Ok tt) × (after ≡ before) × (new ≡ old);
   may_answer = λ fs request call a. default_answer call ≡ a;
+  may_honour = λ fs request target. ⊥;
   may_note = λ fs request call mark. mark ≡ default_mark;
   may_destroy = λ old new. new ≡ old;
   defers = false;

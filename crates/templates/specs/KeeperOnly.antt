@@ -31,6 +31,7 @@ promise keeper below inner = record {
   may_init = λ old request before result new after.
       (keeper new ≡ keeper old) × inner.may_init (below old) request before result (below new) after;
   may_answer = λ fs request call a. IsDeniedOr (is_denied (keeper fs) request call) (inner.may_answer (below fs) request call a) a;
+  may_honour = λ fs request target. inner.may_honour (below fs) request target;
   may_note = λ fs request call mark. inner.may_note (below fs) request call mark;
   may_destroy = λ old new. (keeper new ≡ keeper old) × inner.may_destroy (below old) (below new);
   defers = inner.defers;

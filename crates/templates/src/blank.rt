@@ -7,14 +7,14 @@ use fuse_dispatch::{Filesystem, defaults};
 use fuse_notify::PollNotifier;
 use fuse_reply::{
     Replied, ReplyAttr, ReplyBmap, ReplyCreate, ReplyData, ReplyDirectory, ReplyDirectoryPlus,
-    ReplyEmpty, ReplyEntry, ReplyIoctl, ReplyLock, ReplyLseek, ReplyOpen, ReplyPoll, ReplyStatfs,
-    ReplyWrite, ReplyXattr,
+    ReplyEmpty, ReplyEntry, ReplyInterrupt, ReplyIoctl, ReplyLock, ReplyLseek, ReplyOpen,
+    ReplyPoll, ReplyStatfs, ReplyWrite, ReplyXattr,
 };
 use fuse_request::{ForgetList, Request};
 use fuse_wire::{
     AccessFlags, BsdFileFlags, CopyFileRangeFlags, Errno, FileHandle, INodeNo, IoctlFlags,
-    LockOwner, OpenFlags, PollEvents, PollFlags, RenameFlags, SetxattrFlags, SystemTime, TimeOrNow,
-    WriteFlags,
+    LockOwner, OpenFlags, PollEvents, PollFlags, RenameFlags, RequestId, SetxattrFlags, SystemTime,
+    TimeOrNow, WriteFlags,
 };
 
 /// Nothing of its own: each call is answered by default. A filesystem of one's own begins as a copy of this file and of
@@ -380,6 +380,10 @@ impl Filesystem for Blank {
         reply: ReplyCreate,
     ) -> Replied {
         defaults::create(reply)
+    }
+
+    fn interrupt(&self, _request: &Request, _target: RequestId, reply: ReplyInterrupt) -> Replied {
+        defaults::interrupt(reply)
     }
 
     fn bmap(

@@ -8,14 +8,14 @@ use fuse_dispatch::Filesystem;
 use fuse_notify::PollNotifier;
 use fuse_reply::{
     Replied, ReplyAttr, ReplyBmap, ReplyCreate, ReplyData, ReplyDirectory, ReplyDirectoryPlus,
-    ReplyEmpty, ReplyEntry, ReplyIoctl, ReplyLock, ReplyLseek, ReplyOpen, ReplyPoll, ReplyStatfs,
-    ReplyWrite, ReplyXattr,
+    ReplyEmpty, ReplyEntry, ReplyInterrupt, ReplyIoctl, ReplyLock, ReplyLseek, ReplyOpen,
+    ReplyPoll, ReplyStatfs, ReplyWrite, ReplyXattr,
 };
 use fuse_request::{ForgetList, Request};
 use fuse_wire::{
     AccessFlags, BsdFileFlags, CopyFileRangeFlags, Errno, FileHandle, INodeNo, IoctlFlags,
-    LockOwner, OpenFlags, PollEvents, PollFlags, RenameFlags, SetxattrFlags, SystemTime, TimeOrNow,
-    WriteFlags,
+    LockOwner, OpenFlags, PollEvents, PollFlags, RenameFlags, RequestId, SetxattrFlags, SystemTime,
+    TimeOrNow, WriteFlags,
 };
 
 /// A filesystem over another, in which one user alone, its keeper, takes names away or changes them: UNLINK, RMDIR and
@@ -423,6 +423,10 @@ impl<FS: Filesystem> Filesystem for KeeperOnly<FS> {
     ) -> Replied {
         self.below
             .create(request, parent, name, mode, umask, flags, reply)
+    }
+
+    fn interrupt(&self, request: &Request, target: RequestId, reply: ReplyInterrupt) -> Replied {
+        self.below.interrupt(request, target, reply)
     }
 
     fn bmap(

@@ -10,15 +10,15 @@ use fuse_notify::PollNotifier;
 use fuse_read_only::ReadOnly;
 use fuse_reply::{
     Replied, ReplyAttr, ReplyBmap, ReplyCreate, ReplyData, ReplyDirectory, ReplyDirectoryPlus,
-    ReplyEmpty, ReplyEntry, ReplyIoctl, ReplyLock, ReplyLseek, ReplyOpen, ReplyPoll, ReplyStatfs,
-    ReplyWrite, ReplyXattr,
+    ReplyEmpty, ReplyEntry, ReplyInterrupt, ReplyIoctl, ReplyLock, ReplyLseek, ReplyOpen,
+    ReplyPoll, ReplyStatfs, ReplyWrite, ReplyXattr,
 };
 use fuse_request::{ForgetList, Request};
 use fuse_session::{Filesystem, defaults};
 use fuse_wire::{
     AccessFlags, BsdFileFlags, CopyFileRangeFlags, Errno, FileAttr, FileHandle, Generation,
     INodeNo, IoctlFlags, LockOwner, NoMemory, OpenFlags, PollEvents, PollFlags, RenameFlags,
-    SetxattrFlags, SystemTime, TimeOrNow, WriteFlags,
+    RequestId, SetxattrFlags, SystemTime, TimeOrNow, WriteFlags,
 };
 use std::alloc::Global;
 use std::sync::{Mutex, Wait};
@@ -481,6 +481,10 @@ impl<R: Wait + Send + Sync> Filesystem for Notepad<R> {
         reply: ReplyCreate,
     ) -> Replied {
         defaults::create(reply)
+    }
+
+    fn interrupt(&self, _request: &Request, _target: RequestId, reply: ReplyInterrupt) -> Replied {
+        defaults::interrupt(reply)
     }
 
     fn bmap(
