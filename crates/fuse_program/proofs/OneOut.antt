@@ -11,7 +11,7 @@ use Rattle.fuse_wire.specs.Numbers.{number}
 use Rattle.fuse_wire.specs.Times.{nanos_per_second}
 use Rattle.fuse_wire.specs.declared.file_attr.FileAttr.{FileAttr}
 use Rattle.fuse_request.specs.Call.{Call, call}
-use Rattle.fuse_request.specs.Call.Call.{Lookup, GetAttr, Read, ReadDir, Poll}
+use Rattle.fuse_request.specs.Call.Call.{Lookup, GetAttr, Read, Interrupt, ReadDir, Poll}
 use Rattle.fuse_header.specs.Header.{header, header_fields, body, request_of}
 use Rattle.fuse_header.specs.Opcode.{FUSE_LOOKUP, FUSE_FORGET, FUSE_GETATTR, FUSE_READ, FUSE_WRITE, FUSE_READDIR, FUSE_DESTROY}
 use Rattle.fuse_request.specs.Decoding as decoding
@@ -36,7 +36,7 @@ use Rattle.fuse_request.specs.InitOperation.{offered}
 use Rattle.fuse_dispatch.specs.declared.access.Terms.{Terms}
 use Rattle.fuse_loop.specs.Incoming.{id_of}
 use Rattle.fuse_dispatch.specs.Found.{found_attributes, found_entry}
-use Rattle.fuse_dispatch.specs.OwedMessage.{IsPoll, OwedByPromise, OwedBy, OwedCall}
+use Rattle.fuse_dispatch.specs.OwedMessage.{HonoursCall, IsPoll, OwedByPromise, OwedBy, OwedCall}
 use Rattle.fuse_dispatch.specs.Verdict.{Verdict, admitted, admitted_operation, asking, fixed_error, fixed_or, is_forget, terms, serving, verdict, verdict_by}
 use Rattle.fuse_dispatch.specs.Verdict.Verdict.{Broken, Ends, Fixed, Forgets, Calls}
 use Rattle.fuse_hello.specs.Generated.{destroy_message, generated_message, name_body, read_body, request, request_at, requests, write_body, x_after}
@@ -116,11 +116,17 @@ replied : (c : Call) (id : ℕ) (out : Out) (a : Answer) → Small c → tree_an
 replied c id out a small is (inl framed) = framed ∙ ap (λ (x : Answer). Frame (reply id x)) (sym is)
 replied c id out a small is (inr starved) = absurd (not-long c small (subst IsLong (sym is) starved.0))
 
+-- the tree honours no interrupt
+never-honoured : (tree : Hello) (request : Request) (c : Call) (id : ℕ) (out : Out) → HonoursCall tree_promise.may_honour tree request c id out → ⊥
+never-honoured tree request (Interrupt target) id out honoured = honoured.0
+never-honoured tree request c id out honoured = honoured
+
 called : (tree : Hello) (request : Request) (c : Call) (seq id : ℕ) (out : Out) → Small c
     → OwedCall tree_promise tree request c seq id out → out ≡ Frame (reply id (tree_answer c))
 called tree request c seq id out small (inl answered) = replied c id out answered.answer small answered.allowed.allowed answered.replies
 called tree request c seq id out small (inr (inl poll)) = absurd (not-poll c small poll.0)
-called tree request c seq id out small (inr (inr later)) = absurd (let deferred = later.0 in let no : ⊥ = cc in no)
+called tree request c seq id out small (inr (inr (inl later))) = absurd (let deferred = later.0 in let no : ⊥ = cc in no)
+called tree request c seq id out small (inr (inr (inr honoured))) = absurd (never-honoured tree request c id out honoured)
 
 owed_by : (tree : Hello) (request : Request) (v : Verdict) (seq id : ℕ) (out : Out) → Short v
     → OwedBy tree_promise tree request v seq id out → out ≡ out_by id v
