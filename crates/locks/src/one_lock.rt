@@ -1,6 +1,7 @@
 // A filesystem with one lock, whose callers wait for it without a thread.
-ghost use Rattle.std.specs.Prelude.{◌≡◌, ◌≢◌, ◌↔◌, ◌++◌, ◌∷◌, [], true, refl, Some, IsTrue, IsSome, IsNone, IfErr};
+ghost use Rattle.std.specs.Prelude.{◌≡◌, ◌≢◌, ◌↔◌, ◌++◌, ◌∷◌, ◌==◌, [], true, refl, Some, IsTrue, IsSome, IsNone, IfErr};
 ghost use Rattle.std.specs.Prelude.{if◌then◌else◌, is_ok, length, slice_get, option_map, option_to_list, unwrap_or};
+ghost use Rattle.std.specs.Prelude.{◌<◌, IfSome, IsSomeAnd, MatchOption, position, remove, slice_index_or};
 ghost use Rattle.fuse_reply.specs.Answer.Answer.{Empty, Error};
 ghost use Rattle.fuse_reply.specs.Frame.{reply};
 ghost use Rattle.fuse_reply.specs.Late.{IsFrameFor};
@@ -13,13 +14,13 @@ use fuse_dispatch::{Filesystem, defaults};
 use fuse_notify::PollNotifier;
 use fuse_reply::{
     Later, NoDoor, Replied, ReplyAttr, ReplyBmap, ReplyCreate, ReplyData, ReplyDirectory,
-    ReplyDirectoryPlus, ReplyEmpty, ReplyEntry, ReplyIoctl, ReplyLock, ReplyLseek, ReplyOpen,
-    ReplyPoll, ReplyStatfs, ReplyWrite, ReplyXattr,
+    ReplyDirectoryPlus, ReplyEmpty, ReplyEntry, ReplyInterrupt, ReplyIoctl, ReplyLock, ReplyLseek,
+    ReplyOpen, ReplyPoll, ReplyStatfs, ReplyWrite, ReplyXattr,
 };
 use fuse_request::{ForgetList, Request};
 use fuse_wire::{
     AccessFlags, BsdFileFlags, CopyFileRangeFlags, Errno, FileHandle, INodeNo, InitFlags,
-    IoctlFlags, LockOwner, OpenFlags, PollEvents, PollFlags, RenameFlags, SetxattrFlags,
+    IoctlFlags, LockOwner, OpenFlags, PollEvents, PollFlags, RenameFlags, RequestId, SetxattrFlags,
     SystemTime, TimeOrNow, WriteFlags,
 };
 use std::alloc::{AllocFailed, Global};
@@ -42,6 +43,9 @@ const UNLOCKED: i32 = 2;
 ///   frame comes later. The `Later` is a token, which is kept. A reply without a door comes back, with the reason, and
 ///   is answered now: `Shut` on one thread, where nobody else could give the lock up meanwhile, and `Starved` where no
 ///   memory was to be had.
+/// - Whoever waits is interrupted by INTERRUPT, which names its request: that gets EINTR by its token, and INTERRUPT is
+///   honoured, without a frame of its own. One that names another request gets EAGAIN, since the request may not wait
+///   here yet: the kernel asks once more, until the request has its reply.
 /// - A token may not be dropped, so that no reply is forgotten. It waits on a shelf, behind a lock, where each thread
 ///   finds it. No closure of a thread can own one.
 /// - Whoever takes it off parts it into the reply and the token to send by (`reply`), spends the reply into its answer,
@@ -90,7 +94,7 @@ impl Desk {
     {
         match self.waiting.push_back(waiter) {
             Ok(()) => Ok(()),
-            Err(AllocFailed { value: waiter }) => Err(refuse(waiter)),
+            Err(AllocFailed { value: waiter }) => Err(refuse(waiter, Errno::ENOLCK)),
         }
     }
 
@@ -109,6 +113,30 @@ impl Desk {
         self.holder = next.as_ref().map(|waiter| waiter.owner);
         next
     }
+
+    /// Takes the first that waits by this request out of those that wait.
+    fn withdraw(&mut self, target: RequestId) -> Option<Waiter>
+        ensures first { MatchOption (position (λ w. w.later.id.0 == target.0) self.old.waiting.items)
+            (IsNone result × (self.new.waiting.items ≡ self.old.waiting.items))
+            (λ place. IsSomeAnd result (λ w. w ≡ slice_index_or self.old.waiting.items place w)
+            × (self.new.waiting.items ≡ remove self.old.waiting.items place)) }
+        ensures holder { self.new.holder ≡ self.old.holder }
+    {
+        match place_of(&self.waiting, target) {
+            Some(place) => self.waiting.remove(place),
+            None => None,
+        }
+    }
+}
+
+/// The place of the first that waits by this request.
+fn place_of(waiting: &VecDeque<Waiter>, target: RequestId) -> Option<usize>
+    ensures place { result ≡ position (λ w. w.later.id.0 == target.0) waiting.now.items }
+    ensures bound { IfSome result (λ place. place < length waiting.now.items) }
+{
+    waiting
+        .iter()
+        .position(|waiter| waiter.later.id() == target)
 }
 
 /// The answer that the lock is held from now on, and the token to send it by.
@@ -122,15 +150,15 @@ fn grant(waiter: Waiter) -> (Replied, Later<()>)
     (reply.ok(), token)
 }
 
-/// The answer that no more can wait for the lock, and the token to send it by.
-fn refuse(waiter: Waiter) -> (Replied, Later<()>)
-    ensures answer { result.0 ≡ Frame (reply waiter.later.id.0 (Error ENOLCK)) }
+/// The answer of this error, for whoever no longer waits for the lock, and the token to send it by.
+fn refuse(waiter: Waiter, error: Errno) -> (Replied, Later<()>)
+    ensures answer { result.0 ≡ Frame (reply waiter.later.id.0 (Error error)) }
     ensures frame { IsFrameFor result.1.id.0 result.0 }
     ensures token { (result.1.id ≡ waiter.later.id) × (result.1.door ≡ waiter.later.door) }
 {
     let Waiter { owner: _, later } = waiter;
     let (reply, token) = later.reply();
-    (reply.error(Errno::ENOLCK), token)
+    (reply.error(error), token)
 }
 
 impl<R: Wait> OneLock<R> {
@@ -184,6 +212,17 @@ impl<R: Wait> OneLock<R> {
         }
     }
 
+    /// Ends the wait of this request by EINTR, where it waits here. Whether it did.
+    fn cut_short(&self, target: RequestId) -> bool {
+        let withdrawn = self.desk.lock(&self.rt).withdraw(target);
+        let Some(waiter) = withdrawn else {
+            return false;
+        };
+        let (interrupted, token) = refuse(waiter, Errno::EINTR);
+        token.send_or_retire(&self.rt, interrupted);
+        true
+    }
+
     /// Lets go of the replies that wait still, once the session is over.
     pub fn close(self)
     where
@@ -195,7 +234,7 @@ impl<R: Wait> OneLock<R> {
             mut waiting,
         } = desk.into_inner();
         while let Some(waiter) = waiting.pop_front() {
-            let (refused, token) = refuse(waiter);
+            let (refused, token) = refuse(waiter, Errno::ENOLCK);
             token.send_or_retire(&rt, refused);
         }
         waiting.destroy_empty();
@@ -572,6 +611,14 @@ impl<R: Wait + Send + Sync> Filesystem for OneLock<R> {
         reply: ReplyCreate,
     ) -> Replied {
         defaults::create(reply)
+    }
+
+    fn interrupt(&self, _request: &Request, target: RequestId, reply: ReplyInterrupt) -> Replied {
+        if self.cut_short(target) {
+            reply.honoured()
+        } else {
+            reply.again()
+        }
     }
 
     fn bmap(

@@ -1,6 +1,5 @@
 -- What the reply was spent into is the frame of its token.
 use Rattle.std.proofs.Common.{◌∙◌, ap, ℕ}
-use Rattle.fuse_wire.specs.ErrorNumbers.{ENOLCK}
 use Rattle.fuse_reply.specs.Answer.Answer.{Error}
 use Rattle.fuse_reply.specs.Frame.{reply}
 use Rattle.fuse_reply.specs.declared.out.Out.TheVariants.{Frame}
@@ -9,5 +8,5 @@ use Rattle.locks.proofs.one_lock.refuse.Goals as goal
 
 pub returns-clause-frame : goal.returns-clause-frame
 returns-clause-frame c =
-    frame_for c.reply-reply.result.1.id.0 (Error ENOLCK) c.error.result
-    (c.error.ensures.reply ∙ ap (λ (n : ℕ). Frame (reply n (Error ENOLCK))) c.reply-reply.ensures.id) c.error.ensures.answer
+    frame_for c.reply-reply.result.1.id.0 (Error c.args.error) c.error.result
+    (c.error.ensures.reply ∙ ap (λ (n : ℕ). Frame (reply n (Error c.args.error))) c.reply-reply.ensures.id) c.error.ensures.answer

@@ -14,7 +14,7 @@ pub returns-then-sleep : goal.returns-then-sleep
 returns-then-sleep g c =
     Answers-waiting tt (inl refl)
     (inr (subst (λ (sleep : Bool). MayFail sleep (Error EDEADLK)) (sym c.if-sleep.true) (inl refl)))
-    (inr (subst (λ (sleep : Bool). MayFail sleep (Error ENOLCK)) (sym c.if-sleep.true) (inr refl)))
+    (inr (subst (λ (sleep : Bool). MayFail sleep (Error ENOLCK)) (sym c.if-sleep.true) (inr (inl refl))))
     c.wait_for.ensures
 
 pub returns-then-takes : goal.returns-then-takes
