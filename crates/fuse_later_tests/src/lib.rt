@@ -12,6 +12,10 @@ mod deferring_tests;
 #[cfg(test)]
 mod flooding_tests;
 #[cfg(test)]
+mod interrupt_tests;
+#[cfg(test)]
+mod interrupting;
+#[cfg(test)]
 mod notice_tests;
 #[cfg(test)]
 mod put_off_tests;

@@ -9,15 +9,15 @@ use fuse_config::KernelConfig;
 use fuse_notify::PollNotifier;
 use fuse_reply::{
     EntryKind, Replied, Reply, ReplyAttr, ReplyBmap, ReplyCreate, ReplyData, ReplyDirectory,
-    ReplyDirectoryPlus, ReplyEmpty, ReplyEntry, ReplyIoctl, ReplyListing, ReplyLock, ReplyLseek,
-    ReplyOpen, ReplyPoll, ReplyStatfs, ReplyWrite, ReplyXattr,
+    ReplyDirectoryPlus, ReplyEmpty, ReplyEntry, ReplyInterrupt, ReplyIoctl, ReplyListing,
+    ReplyLock, ReplyLseek, ReplyOpen, ReplyPoll, ReplyStatfs, ReplyWrite, ReplyXattr,
 };
 use fuse_request::{ForgetList, Request};
 use fuse_session::{Filesystem, defaults};
 use fuse_wire::{
     AccessFlags, BsdFileFlags, CopyFileRangeFlags, Errno, FileHandle, INodeNo, IoctlFlags,
-    LockOwner, OpenFlags, PollEvents, PollFlags, RenameFlags, SetxattrFlags, SystemTime, TimeOrNow,
-    WriteFlags,
+    LockOwner, OpenFlags, PollEvents, PollFlags, RenameFlags, RequestId, SetxattrFlags, SystemTime,
+    TimeOrNow, WriteFlags,
 };
 use std::sync::Wait;
 
@@ -64,6 +64,7 @@ impl<R: Wait + Send + Sync> Filesystem for PuttingOff<R> {
     ghost promise = { record {
       may_init = λ before request config result after config'. Unit {0};
       may_answer = any_answer;
+      may_honour = λ fs request target. ⊥;
       may_note = λ fs request call mark. Unit {0};
       may_destroy = λ before after. Unit {0};
       defers = true;
@@ -342,6 +343,10 @@ impl<R: Wait + Send + Sync> Filesystem for PuttingOff<R> {
         reply: ReplyCreate,
     ) -> Replied {
         self.put_off(reply)
+    }
+
+    fn interrupt(&self, _: &Request, _: RequestId, reply: ReplyInterrupt) -> Replied {
+        defaults::interrupt(reply)
     }
 
     fn bmap(&self, _: &Request, _: INodeNo, _: u32, _: u64, reply: ReplyBmap) -> Replied {

@@ -2,6 +2,7 @@
 ghost use Rattle.std.specs.Prelude.{◌≡◌, bit_and};
 ghost use Rattle.fuse_wire.specs.Flags.{FOPEN_PASSTHROUGH};
 
+use crate::asserts::expect_same;
 use crate::frames::{
     ATTRIBUTES, BLOCK_SIZE, ENTRY_FRONT, Entry, ID, ID_BYTES, Parts, WIDE_ATTRIBUTES,
     WIDE_ENTRY_FRONT, attributes, carries, entry, expect_sent, sends, sends_part, sent, told,
@@ -9,11 +10,12 @@ use crate::frames::{
 };
 use bitflags::Flags;
 use fuse_reply::{
-    Replied, ReplyAttr, ReplyBmap, ReplyCreate, ReplyData, ReplyDirectory, ReplyEmpty, ReplyEntry,
-    ReplyIoctl, ReplyLock, ReplyLseek, ReplyOpen, ReplyPoll, ReplyStatfs, ReplyWrite, ReplyXattr,
+    OutEnd, Replied, ReplyAttr, ReplyBmap, ReplyCreate, ReplyData, ReplyDirectory, ReplyEmpty,
+    ReplyEntry, ReplyInterrupt, ReplyIoctl, ReplyLock, ReplyLseek, ReplyOpen, ReplyPoll,
+    ReplyStatfs, ReplyWrite, ReplyXattr,
 };
 use fuse_wire::{
-    Duration, Errno, FileAttr, FileHandle, FileType, FopenFlags, PollEvents, SystemTime,
+    Duration, Errno, FileAttr, FileHandle, FileType, FopenFlags, PollEvents, RequestId, SystemTime,
 };
 use std::alloc::Global;
 use std::process::Abort;
@@ -43,8 +45,28 @@ fn each_status_is_sent_alone(rt: HostRuntime) {
     sends_status(&rt, alloc, ReplyEmpty::new(alloc, ID).ok(), &[0; 4]);
     let unanswered = ReplyEntry::new(alloc, ID).unanswered();
     sends_status(&rt, alloc, unanswered, &[0xfb, 0xff, 0xff, 0xff]);
+    let interrupt = || ReplyInterrupt::new(alloc, ID, RequestId(9));
+    sends_status(&rt, alloc, interrupt().again(), &[0xf5, 0xff, 0xff, 0xff]);
+    sends_status(
+        &rt,
+        alloc,
+        interrupt().unanswered(),
+        &[0xfb, 0xff, 0xff, 0xff],
+    );
+    let refused = interrupt().error(Errno::ENOSYS);
+    sends_status(&rt, alloc, refused, &[0xda, 0xff, 0xff, 0xff]);
     let no_listing = ReplyDirectory::new(alloc, ID, 9).error(Errno::ENOENT);
     sends_status(&rt, alloc, no_listing, &[0xfe, 0xff, 0xff, 0xff]);
+}
+
+#[test]
+fn an_interrupt_that_is_honoured_is_a_note_of_its_target(rt: HostRuntime) {
+    let alloc = rt.alloc();
+    let replied = ReplyInterrupt::new(alloc, ID, RequestId(9)).honoured();
+    let (sink, end) = sent(alloc, replied.into_out());
+    let found = (end, sink.frames().len(), sink.notes());
+    expect_same(&rt, &found, &(OutEnd::Noted, 0, [(ID, 9)].as_slice()));
+    drop(sink);
 }
 
 /// Bytes, and how long their frame is.

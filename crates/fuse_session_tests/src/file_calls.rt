@@ -295,7 +295,7 @@ static OTHERS: [Row; 18] = [
     },
     Row {
         asks: Asks(FUSE_INTERRUPT, 8, &[], b""),
-        calls: &[],
+        calls: &[("interrupt", &[Long(0)], b"")],
         reply: Error(ENOSYS),
     },
     Row {

@@ -7,7 +7,7 @@ use crate::ends::End;
 use crate::rows::{BASE, Devices, ONE, Row, TWO, serve, serve_all};
 use fuse_config::SessionACL;
 use fuse_request::RequestError;
-use fuse_request::opcode::{FUSE_DESTROY, FUSE_LOOKUP};
+use fuse_request::opcode::{FUSE_DESTROY, FUSE_INTERRUPT, FUSE_LOOKUP};
 use fuse_session::SessionError;
 use fuse_testing::test_messages::{
     Asks, BATCH_FORGET, EACCES, EINVAL, EIO, EMPTY_BATCH_FORGET, ENDLESS_LOOKUP, ENOENT, ENOSYS,
@@ -163,6 +163,22 @@ const AFTER_INIT: &[Row] = &[
         ],
         frames: &[Frame::Accepted, Frame::Error(2, ENOSYS)],
         received: 2,
+        ..BASE
+    },
+    Row {
+        what: "an INTERRUPT of whoever is not served, and of the owner",
+        given: &[
+            Given::Opening,
+            Given::Asked(2, 5, Asks(FUSE_INTERRUPT, 8, &[], b"")),
+            Given::Asked(3, 0, Asks(FUSE_INTERRUPT, 8, &[], b"")),
+        ],
+        frames: &[
+            Frame::Accepted,
+            Frame::Error(2, EACCES),
+            Frame::Error(3, ENOSYS),
+        ],
+        received: 3,
+        calls: 1,
         ..BASE
     },
     Row {

@@ -34,8 +34,7 @@ const REFUSED: &[Refusal] = &[
     (FUSE_FALLOCATE, 63, 0x80, EINVAL),
     (FUSE_COPY_FILE_RANGE, 55, 0x80, EINVAL),
     (FUSE_COPY_FILE_RANGE, 79, 0x80, EINVAL),
-    // INTERRUPT, NOTIFY_REPLY, and an IOCTL that is not restricted
-    (FUSE_INTERRUPT, 40, 0, ENOSYS),
+    // NOTIFY_REPLY, and an IOCTL that is not restricted
     (FUSE_NOTIFY_REPLY, 40, 0, ENOSYS),
     (FUSE_IOCTL, 48, 2, ENOSYS),
     // another INIT
@@ -49,6 +48,8 @@ const ASKED: &[Refusal] = &[
     (FUSE_FALLOCATE, 63, 0x7f, ENOSYS),
     (FUSE_COPY_FILE_RANGE, 55, 0x7f, ENOSYS),
     (FUSE_COPY_FILE_RANGE, 79, 0x7f, ENOSYS),
+    // INTERRUPT
+    (FUSE_INTERRUPT, 40, 0, ENOSYS),
     // offsets that are not looked at, and how much a COPY_FILE_RANGE copies
     (FUSE_READDIR, 55, 0x80, ENOSYS),
     (FUSE_READDIRPLUS, 55, 0x80, ENOSYS),
@@ -108,7 +109,7 @@ fn refuses<R: Threads + Wait + AllocGlobal + Abort + Sync>(
 #[test]
 fn the_filesystem_is_not_asked_of_what_is_refused(rt: HostRuntime) {
     refuses(&rt, SessionACL::All, REFUSED, 0);
-    refuses(&rt, SessionACL::All, ASKED, 9);
+    refuses(&rt, SessionACL::All, ASKED, 10);
     refuses(&rt, SessionACL::Owner, UNSERVED, 0);
 }
 

@@ -1,16 +1,20 @@
 // What a filesystem of a test does of its own.
-ghost use Rattle.std.specs.Prelude.{Bool};
+ghost use Rattle.std.specs.Prelude.{◌≡◌, Bool};
 ghost use Rattle.fuse_request.specs.Call.{Call, handle_number, owner_number};
 ghost use Rattle.fuse_dispatch.specs.Defaults.{default_answer};
-ghost use Rattle.fuse_testing.specs.Probing.{Allows, IsAnswered};
+ghost use Rattle.fuse_testing.specs.Probing.{Allows, IsAnswered, IsInterrupted};
 
 use crate::argument::Argument;
 use fuse_config::KernelConfig;
 use fuse_dispatch::defaults;
 use fuse_notify::PollNotifier;
-use fuse_reply::{Replied, ReplyAttr, ReplyData, ReplyEntry, ReplyPoll};
+use fuse_reply::{
+    Replied, ReplyAttr, ReplyData, ReplyEmpty, ReplyEntry, ReplyInterrupt, ReplyPoll,
+};
 use fuse_request::Request;
-use fuse_wire::{Errno, FileHandle, INodeNo, LockOwner, OpenFlags, PollEvents, PollFlags};
+use fuse_wire::{
+    Errno, FileHandle, INodeNo, LockOwner, OpenFlags, PollEvents, PollFlags, RequestId,
+};
 
 /// What a filesystem of a test does of its own. It is told of each call before it answers any.
 pub trait Probe {
@@ -78,6 +82,26 @@ pub trait Probe {
         defaults::read(reply)
     }
 
+    /// What `setlk` of the filesystem answers.
+    fn setlk(
+        &self,
+        request: &Request,
+        ino: INodeNo,
+        fh: FileHandle,
+        lock_owner: LockOwner,
+        start: u64,
+        end: u64,
+        typ: i32,
+        pid: u32,
+        sleep: bool,
+        reply: ReplyEmpty,
+    ) -> Replied
+        ensures { IsAnswered own request.now
+            (Call.SetLk ino.0 fh.0 lock_owner.0 start end typ pid sleep) reply.id reply.door result }
+    {
+        defaults::setlk(reply)
+    }
+
     /// What `poll` of the filesystem answers.
     fn poll(
         &self,
@@ -93,6 +117,14 @@ pub trait Probe {
             (Call.Poll ino.0 fh.0 ph.handle events.0 flags.0) reply.id reply.door result }
     {
         defaults::poll(reply)
+    }
+
+    /// What `interrupt` of the filesystem answers, which may honour any.
+    fn interrupt(&self, request: &Request, target: RequestId, reply: ReplyInterrupt) -> Replied
+        requires { reply.target ≡ target.0 }
+        ensures { IsInterrupted own request.now target.0 reply.id result }
+    {
+        defaults::interrupt(reply)
     }
 
     /// The session is over.

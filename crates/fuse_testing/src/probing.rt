@@ -11,14 +11,14 @@ use fuse_dispatch::{Filesystem, defaults};
 use fuse_notify::PollNotifier;
 use fuse_reply::{
     Replied, ReplyAttr, ReplyBmap, ReplyCreate, ReplyData, ReplyDirectory, ReplyDirectoryPlus,
-    ReplyEmpty, ReplyEntry, ReplyIoctl, ReplyLock, ReplyLseek, ReplyOpen, ReplyPoll, ReplyStatfs,
-    ReplyWrite, ReplyXattr,
+    ReplyEmpty, ReplyEntry, ReplyInterrupt, ReplyIoctl, ReplyLock, ReplyLseek, ReplyOpen,
+    ReplyPoll, ReplyStatfs, ReplyWrite, ReplyXattr,
 };
 use fuse_request::{ForgetList, Request};
 use fuse_wire::{
     AccessFlags, BsdFileFlags, CopyFileRangeFlags, Errno, FileHandle, INodeNo, IoctlFlags,
-    LockOwner, OpenFlags, PollEvents, PollFlags, RenameFlags, SetxattrFlags, SystemTime, TimeOrNow,
-    WriteFlags,
+    LockOwner, OpenFlags, PollEvents, PollFlags, RenameFlags, RequestId, SetxattrFlags, SystemTime,
+    TimeOrNow, WriteFlags,
 };
 
 /// A filesystem that does this of its own. All else it answers by default.
@@ -32,6 +32,7 @@ impl<P: Probe + Send + Sync> Filesystem for Probing<P> {
     ghost promise = { record {
       may_init = λ before request config result after config'. Unit {0};
       may_answer = λ fs request call a. own_or_default P.own call a;
+      may_honour = λ fs request target. Unit {0};
       may_note = λ fs request call mark. Unit {0};
       may_destroy = λ before after. Unit {0};
       defers = P.DEFERS;
@@ -554,7 +555,9 @@ impl<P: Probe + Send + Sync> Filesystem for Probing<P> {
             ],
             &[],
         );
-        defaults::setlk(reply)
+        self.probe.setlk(
+            request, ino, fh, lock_owner, start, end, typ, pid, sleep, reply,
+        )
     }
 
     fn access(
@@ -595,6 +598,12 @@ impl<P: Probe + Send + Sync> Filesystem for Probing<P> {
             &[name],
         );
         defaults::create(reply)
+    }
+
+    fn interrupt(&self, request: &Request, target: RequestId, reply: ReplyInterrupt) -> Replied {
+        self.probe
+            .called(request, "interrupt", &[number(target.0)], &[]);
+        self.probe.interrupt(request, target, reply)
     }
 
     fn bmap(

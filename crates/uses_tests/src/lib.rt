@@ -7,6 +7,8 @@ mod asserts;
 #[cfg(test)]
 mod blank_tests;
 #[cfg(test)]
+mod interrupt_tests;
+#[cfg(test)]
 mod layer_tests;
 #[cfg(test)]
 mod lock_tests;

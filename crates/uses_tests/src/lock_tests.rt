@@ -11,9 +11,11 @@ use std::thread::Threads;
 // Linux's numbers: `include/uapi/linux/fuse.h`, `fcntl.h`, `errno-base.h` and `errno.h`.
 const FLUSH: u8 = 25;
 
-const SETLK: u8 = 32;
+pub(crate) const SETLK: u8 = 32;
 
 const SETLKW: u8 = 33;
+
+pub(crate) const INTERRUPT: u8 = 36;
 
 const READS: u64 = 0;
 
@@ -21,7 +23,7 @@ const WRITES: u64 = 1;
 
 const UNLOCKS: u64 = 2;
 
-const EAGAIN: u8 = 11;
+pub(crate) const EAGAIN: u8 = 11;
 
 const EDEADLK: u8 = 35;
 
@@ -39,11 +41,11 @@ const ONE_READS: Bytes = (&[0, ONE, 0, 0, READS, 0], b"");
 
 const ONE_UNLOCKS: Bytes = (&[0, ONE, 0, 0, UNLOCKS, 0], b"");
 
-const OTHER_WRITES: Bytes = (&[0, OTHER, 0, 0, WRITES, 0], b"");
+pub(crate) const OTHER_WRITES: Bytes = (&[0, OTHER, 0, 0, WRITES, 0], b"");
 
 const OTHER_UNLOCKS: Bytes = (&[0, OTHER, 0, 0, UNLOCKS, 0], b"");
 
-const THIRD_WRITES: Bytes = (&[0, THIRD, 0, 0, WRITES, 0], b"");
+pub(crate) const THIRD_WRITES: Bytes = (&[0, THIRD, 0, 0, WRITES, 0], b"");
 
 const THIRD_READS: Bytes = (&[0, THIRD, 0, 0, READS, 0], b"");
 
@@ -70,12 +72,13 @@ const OFFERS_LOCKS: Row = (
     ),
 );
 
-/// Its holder need not wait for it. F_UNLCK gives the lock up by SETLKW too, and a lock to read is the one lock.
+/// Its holder need not wait for it, and nobody is there to be interrupted. F_UNLCK gives the lock up by SETLKW too, and a lock to read is the one lock.
 const NOBODY_WAITS: &[Row] = &[
     OFFERS_LOCKS,
     (SETLK, 1, ONE_WRITES, 0, NOTHING),
     (SETLK, 1, OTHER_WRITES, EAGAIN, NOTHING),
     (SETLKW, 1, OTHER_WRITES, EDEADLK, NOTHING),
+    (INTERRUPT, 0, (&[5], b""), EAGAIN, NOTHING),
     (SETLK, 1, ONE_UNLOCKS, 0, NOTHING),
     (SETLKW, 1, OTHER_WRITES, 0, NOTHING),
     (SETLKW, 1, OTHER_WRITES, 0, NOTHING),
@@ -111,7 +114,7 @@ const ELSEWHERE: &[Row] = &[
 ];
 
 /// On one thread the lock gives the frames of these rows for their messages, in this order.
-fn serves_alone<R: Threads + Wait + AllocGlobal + Abort + Sync + Send>(
+pub(crate) fn serves_alone<R: Threads + Wait + AllocGlobal + Abort + Sync + Send>(
     rt: &R,
     lock: OneLock<R>,
     rows: &[Row],
@@ -122,7 +125,7 @@ fn serves_alone<R: Threads + Wait + AllocGlobal + Abort + Sync + Send>(
 }
 
 /// A free lock gives the frames of these rows so.
-fn serves_from_free<R: Threads + Wait + AllocGlobal + Abort + Copy + Sync + Send>(
+pub(crate) fn serves_from_free<R: Threads + Wait + AllocGlobal + Abort + Copy + Sync + Send>(
     rt: R,
     rows: &[Row],
 ) -> OneLock<R> {
@@ -168,14 +171,14 @@ fn an_owner_is_all_eight_bytes(rt: HostRuntime) {
 }
 
 /// The one takes the lock. Then the other and the third wait for it, with the ids 2 and 3.
-const TAKEN: &[Row] = &[OPENING, (SETLK, 1, ONE_WRITES, 0, NOTHING)];
+pub(crate) const TAKEN: &[Row] = &[OPENING, (SETLK, 1, ONE_WRITES, 0, NOTHING)];
 
-const OTHER_WAITS: Row = (SETLKW, 1, OTHER_WRITES, 0, NOTHING);
+pub(crate) const OTHER_WAITS: Row = (SETLKW, 1, OTHER_WRITES, 0, NOTHING);
 
 const THIRD_WAITS: Row = (SETLKW, 1, THIRD_WRITES, 0, NOTHING);
 
 /// The one gives it up, or closes the file, with the id 4.
-const GIVEN_UP: Row = (SETLK, 1, ONE_UNLOCKS, 0, NOTHING);
+pub(crate) const GIVEN_UP: Row = (SETLK, 1, ONE_UNLOCKS, 0, NOTHING);
 
 const CLOSED: Row = (FLUSH, 1, ONE_CLOSES, 0, NOTHING);
 
@@ -195,7 +198,12 @@ const THIRD_HAS_IT: &[Row] = &[
 ];
 
 /// How often the frame of the row was sent, whose message had this id.
-fn times_sent<R: AllocGlobal + Abort>(rt: &R, sent: &[Items<u8>], id: u64, row: &Row) -> usize {
+pub(crate) fn times_sent<R: AllocGlobal + Abort>(
+    rt: &R,
+    sent: &[Items<u8>],
+    id: u64,
+    row: &Row,
+) -> usize {
     let frame = frame(rt, rt.alloc(), id, row);
     let mut times = 0usize;
     for one in sent {

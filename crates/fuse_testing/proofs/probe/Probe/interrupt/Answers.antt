@@ -1,0 +1,11 @@
+use Rattle.std.proofs.Common.{inl}
+use Rattle.fuse_reply.specs.Answer.Answer.{Error}
+use Rattle.fuse_wire.specs.ErrorNumbers.{ENOSYS}
+use Rattle.fuse_testing.proofs.probe.Probe.interrupt.Goals as goal
+
+pub returns : goal.returns
+returns g c = inl (record {
+  answer = Error ENOSYS;
+  allowed = record { kind = tt; whole = c.interrupt.ensures.answer; allowed = g.met.Self.Probe.allows_default _ };
+  replies = inl c.interrupt.ensures.reply;
+})
