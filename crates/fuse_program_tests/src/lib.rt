@@ -12,6 +12,8 @@ mod asserts;
 #[cfg(test)]
 mod bad_input_tests;
 #[cfg(test)]
+mod device_tests;
+#[cfg(test)]
 mod fault_tests;
 #[cfg(test)]
 mod load_tests;

@@ -57,6 +57,22 @@ const ANSWERS: &[(&[u8], u8, u8)] = &[
     (b"\x10\0\0\0\0\0\0\0\x07\0\0\0\0\0\0\0", 0, 0),
 ];
 
+/// Where each message ends in the stream, and where its reply ends.
+const ENDS: &[(usize, usize)] = &[
+    (104, 80),
+    (189, 96),
+    (274, 112),
+    (319, 128),
+    (399, 203),
+    (479, 319),
+    (519, 335),
+];
+
+/// The same, written once: a constant stands anew in each function that names it.
+pub(crate) fn ends() -> &'static [(usize, usize)] {
+    ENDS
+}
+
 /// The bytes that `gen 1 5` writes.
 pub(crate) fn five_requests<R: AllocGlobal + Abort>(rt: &R) -> Vec<u8> {
     joined(rt, STREAM)

@@ -1,26 +1,10 @@
 // A generated stream of five requests: each read of it, each write of its replies, and each write of the stream itself fails.
 use crate::asserts::expect_same;
 use crate::runs::{ends_so, run_over, words_for};
-use crate::stream::{answers, five_requests};
+use crate::stream::{answers, ends, five_requests};
 use std::process::Abort;
 use std::sync::Wait;
 use std::thread::Threads;
-
-/// Where each message ends in the stream, and where its reply ends.
-const ENDS: &[(usize, usize)] = &[
-    (104, 80),
-    (189, 96),
-    (274, 112),
-    (319, 128),
-    (399, 203),
-    (479, 319),
-    (519, 335),
-];
-
-/// The same, written once: a constant stands anew in each function that names it.
-fn ends() -> &'static [(usize, usize)] {
-    ENDS
-}
 
 /// How many bytes are read at a time: each header, and each body.
 const READ: &[usize] = &[40, 64, 40, 45, 40, 45, 40, 5, 40, 40, 40, 40, 40];
@@ -81,7 +65,7 @@ fn times(frames: &[&[u8]], frame: &[u8]) -> usize {
 }
 
 /// These frames are so many of those, and none is there twice.
-fn are_some(rt: &impl Abort, count: usize, found: &[&[u8]], all: &[&[u8]]) {
+pub(crate) fn are_some(rt: &impl Abort, count: usize, found: &[&[u8]], all: &[&[u8]]) {
     expect_same(rt, &found.len(), &count);
     for frame in found {
         let counts = (times(found, frame), times(all, frame));
