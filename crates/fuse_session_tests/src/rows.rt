@@ -1,6 +1,5 @@
 // Whole sessions as plain data, and what serves them.
-ghost use Rattle.std.specs.Prelude.{◌≡◌, ◌<◌, ◌⊎◌};
-ghost use Rattle.fuse_wire.specs.declared.sink.Sending.TheVariants.{Failed, Absent};
+ghost use Rattle.std.specs.Prelude.{◌<◌};
 
 use crate::asserts::{expect_same, frames_of, source_of};
 use crate::counting::{Counting, Course, counts, run, run_with, went};
@@ -19,8 +18,6 @@ pub(crate) enum Devices {
     Plain,
     /// The same, where the second frame fails.
     Failing,
-    /// The same, where the second frame has no receiver.
-    Absent,
     /// What the sink takes, and that the source still holds this message then, and no other.
     Holding(&'static [u8]),
 }
@@ -61,12 +58,6 @@ pub(crate) const BASE: Row = Row {
     end: End::Fine,
 };
 
-/// On one thread as by default.
-pub(crate) const ONE: &[Option<usize>] = &[None];
-
-/// On two threads.
-pub(crate) const TWO: &[Option<usize>] = &[Some(2)];
-
 /// How a session of this row goes.
 fn course_of(row: &Row) -> Course {
     let mut transcript = counts(row.received, row.frames.len() as u64);
@@ -103,12 +94,10 @@ fn took<R: AllocGlobal + Abort>(rt: &R, row: &Row, sink: &MemorySink, is_alone: 
     expect_same(rt, &(row.what, found), &(row.what, (None, None)));
 }
 
-/// A sink that answers its second frame so.
-fn refusing<R: AllocGlobal + Abort>(rt: &R, fault: Sending) -> MemorySink
-    requires { fault ≡ Failed ⊎ fault ≡ Absent }
-{
+/// A sink whose second frame fails.
+fn failing<R: AllocGlobal + Abort>(rt: &R) -> MemorySink {
     let alloc = rt.alloc();
-    let faults = vec![in alloc; (2, fault)].expect(rt, "there is memory");
+    let faults = vec![in alloc; (2, Sending::Failed)].expect(rt, "there is memory");
     MemorySink::new(alloc, faults)
 }
 
@@ -116,8 +105,7 @@ fn refusing<R: AllocGlobal + Abort>(rt: &R, fault: Sending) -> MemorySink
 fn sink_of<R: AllocGlobal + Abort>(rt: &R, devices: Devices) -> MemorySink {
     let alloc = rt.alloc();
     match devices {
-        Devices::Failing => refusing(rt, Sending::Failed),
-        Devices::Absent => refusing(rt, Sending::Absent),
+        Devices::Failing => failing(rt),
         _ => MemorySink::new(alloc, Vec::new(alloc)),
     }
 }

@@ -4,7 +4,7 @@ ghost use Rattle.std.specs.Prelude.{◌<◌};
 use crate::asserts::expect_same;
 use crate::counting::{CONTENTS, Counting, Course, counts, went};
 use crate::ends::End;
-use crate::rows::{BASE, Devices, ONE, Row, TWO, serve, serve_all};
+use crate::rows::{BASE, Devices, Row, serve, serve_all};
 use fuse_config::SessionACL;
 use fuse_request::RequestError;
 use fuse_request::opcode::{FUSE_DESTROY, FUSE_INTERRUPT, FUSE_LOOKUP};
@@ -319,67 +319,6 @@ const FAULTS: &[Row] = &[
         devices: Devices::Holding(&INIT_7_8),
         given: &[Given::Fault, Given::Opening],
         end: End::Receive,
-        ..BASE
-    },
-    Row {
-        what: "a frame that fails is lost",
-        threads: ONE,
-        devices: Devices::Failing,
-        given: &[
-            Given::Opening,
-            Given::Asked(2, 0, LOOKUP),
-            Given::Asked(3, 0, LOOKUP),
-        ],
-        frames: &[Frame::Accepted, Frame::Error(3, ENOENT)],
-        received: 3,
-        lost: 1,
-        calls: 2,
-        ..BASE
-    },
-    Row {
-        what: "a frame without a receiver is lost",
-        threads: ONE,
-        devices: Devices::Absent,
-        given: &[
-            Given::Opening,
-            Given::Asked(2, 0, LOOKUP),
-            Given::Asked(3, 0, LOOKUP),
-        ],
-        frames: &[Frame::Accepted, Frame::Error(3, ENOENT)],
-        received: 3,
-        lost: 1,
-        calls: 2,
-        ..BASE
-    },
-    // on two threads either of two may be lost, so that both have one id
-    Row {
-        what: "one of two frames that fails is lost",
-        threads: TWO,
-        devices: Devices::Failing,
-        given: &[
-            Given::Opening,
-            Given::Asked(2, 0, LOOKUP),
-            Given::Asked(2, 0, LOOKUP),
-        ],
-        frames: &[Frame::Accepted, Frame::Error(2, ENOENT)],
-        received: 3,
-        lost: 1,
-        calls: 2,
-        ..BASE
-    },
-    Row {
-        what: "one of two frames without a receiver is lost",
-        threads: TWO,
-        devices: Devices::Absent,
-        given: &[
-            Given::Opening,
-            Given::Asked(2, 0, LOOKUP),
-            Given::Asked(2, 0, LOOKUP),
-        ],
-        frames: &[Frame::Accepted, Frame::Error(2, ENOENT)],
-        received: 3,
-        lost: 1,
-        calls: 2,
         ..BASE
     },
 ];
