@@ -108,7 +108,11 @@ fn replies<'a, R: AllocGlobal + Abort>(
 }
 
 /// The bytes of these frames, each after the other's.
-fn bytes_of<'a>(rt: &impl Abort, alloc: Global, frames: &'a [Items<u8>]) -> Vec<&'a [u8]> {
+pub(crate) fn bytes_of<'a>(
+    rt: &impl Abort,
+    alloc: Global,
+    frames: &'a [Items<u8>],
+) -> Vec<&'a [u8]> {
     let mut all = Vec::new(alloc);
     for frame in frames {
         all.push(frame.as_slice()).expect(rt, "there is memory");

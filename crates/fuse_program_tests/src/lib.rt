@@ -10,6 +10,8 @@ mod arguments_tests;
 #[cfg(test)]
 mod asserts;
 #[cfg(test)]
+mod background_tests;
+#[cfg(test)]
 mod bad_input_tests;
 #[cfg(test)]
 mod device_tests;

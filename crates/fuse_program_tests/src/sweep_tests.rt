@@ -39,7 +39,10 @@ fn answered(byte: usize) -> usize {
 }
 
 /// The whole frames that these bytes begin with, each of which is shorter than 256 bytes, and the bytes behind them.
-fn frames_in<'a, R: AllocGlobal + Abort>(rt: &R, bytes: &'a [u8]) -> (Vec<&'a [u8]>, &'a [u8]) {
+pub(crate) fn frames_in<'a, R: AllocGlobal + Abort>(
+    rt: &R,
+    bytes: &'a [u8],
+) -> (Vec<&'a [u8]>, &'a [u8]) {
     let mut frames = Vec::new(rt.alloc());
     let mut rest = bytes;
     for _ in ends() {
